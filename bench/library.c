@@ -1,6 +1,6 @@
 // Does through the library what bench_draw and bench_retry do inside:
 //   draw DRAWS            draws of one budget
-//   retry PLAN ROUNDS     a round is a retry whose run fails each time and is granted again, a thousand times: two polls each
+//   retry PLAN ROUNDS     a round is a retry whose run fails each time and is granted again, a thousand times: a call each
 //   step PLAN ROUNDS      a round is a course of the plan, of a thousand events
 //   wait PLAN ROUNDS      a round is a thousand polls of a retry that waits
 //   call ON CALLS         a function called with no retry
@@ -49,8 +49,8 @@ static uint64_t retry(hikebox_policy *policy) {
     check(hikebox_budget_fixed(ROUND, &pass));
     check(hikebox_retry_new(policy, &pass, HIKEBOX_NO_DEADLINE, &machine));
     for (uint64_t now = 0; now < ROUND; now++) {
-        check(hikebox_retry_poll(&machine, now, words, HIKEBOX_NO_REPORT, 0, &next));
-        check(hikebox_retry_poll(&machine, now, words, HIKEBOX_LOST, CODE, &next));
+        const hikebox_run run = {now, now, CODE, HIKEBOX_LOST, {0, 0, 0, 0}};
+        check(hikebox_retry_ran(&machine, &run, &next));
     }
     check(hikebox_retry_end(&machine, &pass));
     check(hikebox_pass_close(&pass, &tickets));
@@ -104,10 +104,10 @@ __attribute__((noinline)) static uint64_t retried(struct on *on, uint64_t *state
     hikebox_retry machine = HIKEBOX_INIT;
     hikebox_next next = HIKEBOX_NEXT;
     check(hikebox_retry_new(&on->policy, &on->pass, HIKEBOX_NO_DEADLINE, &machine));
-    check(hikebox_retry_poll(&machine, 0, words, HIKEBOX_NO_REPORT, 0, &next));
-    do
+    const hikebox_run first = {0, 0, CODE, HIKEBOX_LOST, {0, 0, 0, 0}};
+    check(hikebox_retry_ran(&machine, &first, &next));
+    while (next.what == HIKEBOX_RUN && !attempt(state, left--))
         check(hikebox_retry_poll(&machine, 0, words, HIKEBOX_LOST, CODE, &next));
-    while (next.what == HIKEBOX_RUN && !attempt(state, left--));
     check(hikebox_retry_end(&machine, &on->pass));
     return next.granted;
 }

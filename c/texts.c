@@ -41,6 +41,13 @@ const char *hikebox_status_text(unsigned status) {
     case 50: return "a lease is wanted";
     case 51: return "the ticket is not out";
     case 52: return "the range was granted already";
+    case 60: return "the bucket's level is too low";
+    case 61: return "too many requests are in flight";
+    case 62: return "too many retries are in flight";
+    case 63: return "the breaker is open";
+    case 64: return "the breaker's probes are out";
+    case 65: return "the throttle refuses";
+    case 66: return "the call is out of turn";
     default: return "no such status";
     }
 }

@@ -30,7 +30,11 @@ int courses(void);
 // Those of leases.c.
 int leased(void);
 
+// Those of limits.c.
+int limits(void);
+
 // Those of structs.c.
 int sizes(void);
 int reads(void);
+int runs(void);
 #endif

@@ -91,6 +91,7 @@ for input in $(cd "$top" && ls plans/*.json jobs/*.json); do
 done
 
 "$top/tests/links.py" >"$work/links" || failed=1
+"$top/tests/figures.py" >"$work/figures" || failed=1
 
 if [ "$failed" = 0 ]; then
   echo "tests/documents.sh: the documents print $printed plans and pools of jobs as the program does"

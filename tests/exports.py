@@ -21,10 +21,13 @@ RATTLE = {
     "&[EventGiven]": ["const hikebox_event *", "size_t"],
     "&mut [LineTold]": ["hikebox_line *", "size_t"],
     "&mut SizedReply": ["hikebox_next *"],
+    "&Run": ["const hikebox_run *"],
     "&mut SizedUsage": ["hikebox_usage *"],
     "&SizedStorm": ["const hikebox_storm *"],
     "&mut [WindowTold]": ["hikebox_window *", "size_t"],
     "&mut SizedTotals": ["hikebox_totals *"],
+    "&BucketGiven": ["const hikebox_bucket *"],
+    "&BreakerGiven": ["const hikebox_breaker *"],
     "&Asking": ["const hikebox_asking *"],
     "&mut Stored": ["hikebox_stored *"],
     "&mut Range": ["hikebox_range *"],
@@ -43,10 +46,13 @@ STRUCTS = {
     "EventGiven": "hikebox_event",
     "LineTold": "hikebox_line",
     "SizedReply": "hikebox_next",
+    "Run": "hikebox_run",
     "SizedUsage": "hikebox_usage",
     "SizedStorm": "hikebox_storm",
     "WindowTold": "hikebox_window",
     "SizedTotals": "hikebox_totals",
+    "BucketGiven": "hikebox_bucket",
+    "BreakerGiven": "hikebox_breaker",
     "Asking": "hikebox_asking",
     "Stored": "hikebox_stored",
     "Range": "hikebox_range",
@@ -74,7 +80,7 @@ def declared():
         for parameter in parameters.split(","):
             kind, _, array = re.fullmatch(r"\s*(.*?[\s*])(\w+)(\[\d+\])?\s*", parameter, re.S).groups()
             kind = " ".join((kind + ("*" if array else "")).replace("*", " * ").split())
-            types.append(re.sub(r"hikebox_(policy|pass|retry|leased) \*", "handle *", kind))
+            types.append(re.sub(r"hikebox_(policy|pass|retry|leased|limit) \*", "handle *", kind))
         calls[name] = types
     return calls
 

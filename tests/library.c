@@ -20,7 +20,9 @@
 //   lasting                           a retry past 65,536 failures, and handles of one policy
 //   shares                            threads retry by one policy, each with a share of it, and free it; others draw of one
 //                                     quota, in windows that are apart
+//   limits                            limits worked out by hand, each refusal, two at once, and eight threads that count
 //   storms                            storms worked out by hand, and each refusal
+//   runs                              whole runs in one call, worked out by hand, and each refusal
 //   draw THREADS TICKETS              threads draw all tickets of a budget, and each is drawn once
 //   calls                             each call that takes memory at least once; one that is refused for want of memory is made again
 #include "checks.h"
@@ -1537,10 +1539,10 @@ static const struct {
     const char *name;
     int (*run)(void);
 } groups[] = {
-    {"version", version}, {"handles", handles},   {"budgets", budgets}, {"deadlines", deadlines},
-    {"quotas", quotas},   {"leases", leases},     {"leased", leased},   {"faults", faults},
-    {"nodes", nodes},     {"policies", policies}, {"courses", courses}, {"storms", storms},
-    {"lasting", lasting}, {"shares", shares},     {"sizes", sizes},     {"reads", reads},
+    {"version", version}, {"handles", handles}, {"budgets", budgets}, {"deadlines", deadlines}, {"quotas", quotas},
+    {"leases", leases},   {"leased", leased},   {"faults", faults},   {"nodes", nodes},         {"policies", policies},
+    {"courses", courses}, {"storms", storms},   {"lasting", lasting}, {"shares", shares},       {"sizes", sizes},
+    {"reads", reads},     {"runs", runs},       {"limits", limits},
 };
 
 int main(int count, char **words) {

@@ -24,9 +24,9 @@ zsched=$dist/zsched
 python3 "$top/tests/exports.py" || failed=1
 "$top/bin/bindings" --check || failed=1
 flags=(-std=gnu11 -Wall -Wextra -Werror -O1 "-I$dist" -pthread)
-cc "${flags[@]}" -o "$work/linked" "$top/tests/library.c" "$top/tests/policies.c" "$top/tests/leases.c" "$top/tests/structs.c" "$dist/libhikebox.a"
+cc "${flags[@]}" -o "$work/linked" "$top/tests/library.c" "$top/tests/policies.c" "$top/tests/leases.c" "$top/tests/structs.c" "$top/tests/limits.c" "$dist/libhikebox.a"
 "$top/bin/install" --prefix "$work/home/.local" >"$work/out"
-cc "${flags[@]}" -o "$work/loaded" "$top/tests/library.c" "$top/tests/policies.c" "$top/tests/leases.c" "$top/tests/structs.c" "-L$dist" "-Wl,-rpath,$work/home/.local/lib" -lhikebox
+cc "${flags[@]}" -o "$work/loaded" "$top/tests/library.c" "$top/tests/policies.c" "$top/tests/leases.c" "$top/tests/structs.c" "$top/tests/limits.c" "-L$dist" "-Wl,-rpath,$work/home/.local/lib" -lhikebox
 cc "${flags[@]}" -o "$work/retry" "$top/examples/c/retry.c" "$dist/libhikebox.a"
 exported=$(nm -D --defined-only "$dist/libhikebox.so" | awk '$2 == "T" { print $NF }' | LC_ALL=C sort)
 shown=$(nm --defined-only "$dist/libhikebox.a" 2>/dev/null | awk '$2 ~ /^[A-Z]$/ { print $3 }' | LC_ALL=C sort)
@@ -69,19 +69,24 @@ for late in 1 840000 999999; do
     wrong "examples/c/retry.c, $late ns late, waits $(xargs <"$work/waits") and not $(xargs <"$work/whole")"
 done
 
-# The second to fifth block of docs/C.md, in functions that have what they name. The first stands in examples/c/poll.c.
+# The second to sixth block of docs/C.md, in functions that have what they name. The first stands in examples/c/poll.c.
 {
   printf '#include <hikebox.h>\n#include <stdio.h>\nuint64_t now(void);\n'
-  printf 'int by_deadline(hikebox_policy policy, hikebox_pass pass);\nint by_deadline(hikebox_policy policy, hikebox_pass pass) {\n'
+  printf 'void wait_until(uint64_t moment);\nbool fetch(void);\n'
+  printf 'int by_runs(hikebox_policy policy, hikebox_pass pass, uint64_t began);\n'
+  printf 'int by_runs(hikebox_policy policy, hikebox_pass pass, uint64_t began) {\n'
   block 2
-  printf 'return 0;\n}\nint by_nodes(void);\nint by_nodes(void) {\n'
+  printf 'return 0;\n}\nint by_deadline(hikebox_policy policy, hikebox_pass pass);\n'
+  printf 'int by_deadline(hikebox_policy policy, hikebox_pass pass) {\n'
   block 3
-  printf 'return 0;\n}\nint program(hikebox_policy policy);\nint program(hikebox_policy policy) {\n'
+  printf 'return 0;\n}\nint by_nodes(void);\nint by_nodes(void) {\n'
   block 4
+  printf 'return 0;\n}\nint program(hikebox_policy policy);\nint program(hikebox_policy policy) {\n'
+  block 5
   printf 'return 0;\n}\nhikebox_stored load(int file);\nvoid store(int file, const hikebox_stored *stored);\n'
   printf 'uint64_t clock_of(int file);\nint lease(int file, hikebox_leased leased);\n'
   printf 'int lease(int file, hikebox_leased leased) {\n'
-  block 5
+  block 6
   printf 'return 0;\n}\n'
 } >"$work/page.c"
 cc "${flags[@]}" -c -o "$work/page.o" "$work/page.c" || wrong "docs/C.md: its blocks are not compiled"
@@ -91,7 +96,7 @@ import sys
 sys.exit(not sys.argv[2].strip() or sys.argv[2] not in open(sys.argv[1]).read())
 EOF
 
-python3 - "$top/examples/c/storm.c" "$(block 6)" <<'EOF' || wrong "docs/C.md: its block is not that of examples/c/storm.c"
+python3 - "$top/examples/c/storm.c" "$(block 7)" <<'EOF' || wrong "docs/C.md: its block is not that of examples/c/storm.c"
 import sys
 sys.exit(not sys.argv[2].strip() or sys.argv[2] not in open(sys.argv[1]).read())
 EOF

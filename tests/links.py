@@ -1,6 +1,6 @@
 #!/usr/bin/env python3
-"""Each link of the pages, to a file of the repository or to a heading, leads somewhere; and README.md has at most 90
-lines."""
+"""Each link of the pages, to a file of the repository or to a heading, leads somewhere; README.md has at most 90 lines,
+and docs/DECISIONS.md fewer than 5,000 words."""
 
 import pathlib
 import re
@@ -34,7 +34,10 @@ def main():
                 wrong.append(f"{page.relative_to(TOP)}: {link} leads nowhere")
     lines = (TOP / "README.md").read_text().count("\n")
     if lines > 90:
-        wrong.append(f"README.md has {lines} lines")
+        wrong.append(f"README.md: expected at most 90 lines, got {lines}")
+    words = len((TOP / "docs/DECISIONS.md").read_text().split())
+    if words >= 5000:
+        wrong.append(f"docs/DECISIONS.md: expected fewer than 5,000 words, got {words}")
     if wrong:
         sys.exit("\n".join(f"tests/links.py: {one}" for one in wrong))
     print(f"tests/links.py: {count} links of {len(PAGES)} pages lead somewhere")

@@ -1,4 +1,4 @@
-// The structs that begin with their size, and what a policy reads of an event.
+// The structs that begin with their size, what a policy reads of an event, and whole runs in one call.
 #include "checks.h"
 
 #define WORDS ((const uint32_t[4]){0, 0, 0, 0})
@@ -134,6 +134,7 @@ static void steps(void) {
 int sizes(void) {
     holds(sizeof(hikebox_course) == 32 && sizeof(hikebox_usage) == 48 && sizeof(hikebox_next) == 48);
     holds(sizeof(hikebox_storm) == 168 && sizeof(hikebox_totals) == 128);
+    holds(sizeof(hikebox_bucket) == 48 && sizeof(hikebox_breaker) == 32);
     polls();
     looks();
     plays();
@@ -197,5 +198,105 @@ int reads(void) {
     wants(hikebox_policy_reads((hikebox_policy *)&pass, &got), HIKEBOX_WRONG_KIND);
     holds(got == 77);
     wants(hikebox_pass_free(&pass), HIKEBOX_OK);
+    return wrong;
+}
+
+// A run that fails.
+static hikebox_run lost(uint64_t began, uint64_t ended) {
+    return (hikebox_run){began, ended, 7, HIKEBOX_LOST, {0, 0, 0, 0}};
+}
+
+// What a retry is at after a call: what, when, how many were granted, and of how many runs.
+static bool is_at(const hikebox_next *next, uint32_t what, uint64_t until, uint64_t granted, uint64_t runs) {
+    return next->what == what && next->until == until && next->granted == granted && next->runs == runs;
+}
+
+// The retry of a call whose first run was this.
+static hikebox_status after(hikebox_policy *policy, hikebox_pass *pass, uint64_t deadline, hikebox_retry *retry,
+                            const hikebox_run *run, hikebox_next *next) {
+    hikebox_status status = hikebox_retry_new(policy, pass, deadline, retry);
+    return status ? status : hikebox_retry_ran(retry, run, next);
+}
+
+// Two retries, each 100 ms after a failure: the third failure is the last. A run before its planned start is refused.
+static void three_runs(hikebox_policy *policy, hikebox_pass *pass) {
+    hikebox_retry retry = HIKEBOX_INIT;
+    hikebox_next next = HIKEBOX_NEXT;
+    hikebox_run first = lost(10, 15), early = lost(219, 220), second = lost(115, 120), third = lost(230, 231);
+    wants(after(policy, pass, HIKEBOX_NO_DEADLINE, &retry, &first, &next), HIKEBOX_OK);
+    holds(is_at(&next, HIKEBOX_WAIT, 115, 1, 1) && next.left == HIKEBOX_NO_DEADLINE);
+    wants(hikebox_retry_ran(&retry, &second, &next), HIKEBOX_OK);
+    holds(is_at(&next, HIKEBOX_WAIT, 220, 2, 2));
+    wants(hikebox_retry_ran(&retry, &early, &next), HIKEBOX_NO_RUN);
+    wants(hikebox_retry_ran(&retry, &third, &next), HIKEBOX_OK);
+    holds(is_at(&next, HIKEBOX_OVER, 0, 2, 3) && next.how == HIKEBOX_ENDED_DONE);
+    wants(hikebox_retry_ran(&retry, &third, &next), HIKEBOX_NO_RUN);
+    wants(hikebox_retry_end(&retry, pass), HIKEBOX_OK);
+}
+
+// A run that goes on, one that succeeds, and a next run that would begin past the deadline.
+static void other_runs(hikebox_policy *policy, hikebox_pass *pass) {
+    hikebox_retry retry = HIKEBOX_INIT;
+    hikebox_next next = HIKEBOX_NEXT;
+    hikebox_run begun = {5, 6, 0, HIKEBOX_NO_REPORT, {0, 0, 0, 0}}, won = {5, 8, 0, HIKEBOX_WON, {0, 0, 0, 0}};
+    hikebox_run first = lost(0, 0), late = lost(101, 102);
+    wants(after(policy, pass, HIKEBOX_NO_DEADLINE, &retry, &begun, &next), HIKEBOX_OK);
+    holds(is_at(&next, HIKEBOX_RUN, 0, 0, 0));
+    wants(hikebox_retry_ran(&retry, &won, &next), HIKEBOX_OK);
+    holds(is_at(&next, HIKEBOX_OVER, 0, 0, 1) && next.how == HIKEBOX_ENDED_WON);
+    wants(hikebox_retry_end(&retry, pass), HIKEBOX_OK);
+    wants(after(policy, pass, 100, &retry, &first, &next), HIKEBOX_OK);
+    holds(is_at(&next, HIKEBOX_WAIT, 100, 1, 1) && next.left == 100);
+    wants(hikebox_retry_ran(&retry, &late, &next), HIKEBOX_NO_RUN);
+    wants(hikebox_retry_poll(&retry, 102, WORDS, HIKEBOX_NO_REPORT, 0, &next), HIKEBOX_OK);
+    holds(is_at(&next, HIKEBOX_OVER, 0, 1, 1) && next.how == HIKEBOX_ENDED_DEADLINE);
+    wants(hikebox_retry_end(&retry, pass), HIKEBOX_OK);
+}
+
+// Each refusal, in its order. A retry whose run is refused has not begun.
+static void refused_runs(hikebox_policy *policy, hikebox_pass *pass) {
+    const uint64_t none = HIKEBOX_NO_DEADLINE, past = HIKEBOX_MAX_NUMBER + 1;
+    hikebox_retry retry = HIKEBOX_INIT, empty = HIKEBOX_INIT;
+    hikebox_next next = HIKEBOX_NEXT, small = HIKEBOX_NEXT;
+    hikebox_run run = lost(1, 2), begins_late = lost(past, 2), ends_late = lost(1, past), unreported = lost(1, 2);
+    hikebox_run coded = {1, 2, past, HIKEBOX_LOST, {0, 0, 0, 0}};
+    unreported.report = 3;
+    small.size--;
+    wants(hikebox_retry_ran(&retry, &run, &next), HIKEBOX_EMPTY);
+    wants(after(policy, pass, none, &retry, &begins_late, &next), HIKEBOX_TOO_LARGE);
+    wants(hikebox_retry_ran(&retry, &run, &small), HIKEBOX_WRONG_SIZE);
+    wants(hikebox_retry_ran(&retry, &begins_late, &next), HIKEBOX_TOO_LARGE);
+    wants(hikebox_retry_ran(&retry, &ends_late, &next), HIKEBOX_TOO_LARGE);
+    wants(hikebox_retry_ran(&retry, &unreported, &next), HIKEBOX_NO_SUCH_REPORT);
+    wants(hikebox_retry_ran(&retry, &coded, &next), HIKEBOX_TOO_LARGE);
+    wants(hikebox_retry_ran(&empty, &run, &next), HIKEBOX_EMPTY);
+    holds(is_at(&next, HIKEBOX_POLL, 0, 0, 0));
+    wants(hikebox_retry_ran(&retry, &run, &next), HIKEBOX_OK);
+    holds(is_at(&next, HIKEBOX_WAIT, 102, 1, 1));
+    wants(hikebox_retry_end(&retry, pass), HIKEBOX_OK);
+}
+
+int runs(void) {
+    hikebox_policy policy = HIKEBOX_INIT;
+    hikebox_pass pass = HIKEBOX_INIT, no_tickets = HIKEBOX_INIT;
+    hikebox_retry retry = HIKEBOX_INIT;
+    hikebox_next next = HIKEBOX_NEXT;
+    hikebox_run first = lost(3, 4);
+    uint64_t tickets;
+    wants(read_policy("{\"meet\":[{\"recurs\":2},{\"spaced\":100}]}", &policy), HIKEBOX_OK);
+    wants(hikebox_budget_fixed(10, &pass), HIKEBOX_OK);
+    wants(hikebox_budget_fixed(0, &no_tickets), HIKEBOX_OK);
+    three_runs(&policy, &pass);
+    other_runs(&policy, &pass);
+    refused_runs(&policy, &pass);
+    wants(after(&policy, &no_tickets, HIKEBOX_NO_DEADLINE, &retry, &first, &next), HIKEBOX_OK);
+    holds(is_at(&next, HIKEBOX_OVER, 0, 0, 1) && next.how == HIKEBOX_ENDED_REFUSED);
+    wants(hikebox_retry_end(&retry, &no_tickets), HIKEBOX_OK);
+    // (two of the first retry, and one of each of two others)
+    wants(hikebox_pass_close(&pass, &tickets), HIKEBOX_OK);
+    holds(tickets == 4);
+    wants(hikebox_pass_close(&no_tickets, &tickets), HIKEBOX_OK);
+    holds(tickets == 0);
+    wants(hikebox_policy_free(&policy), HIKEBOX_OK);
     return wrong;
 }

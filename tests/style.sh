@@ -15,8 +15,7 @@ mapfile -t c < <(git ls-files '*.c' '*.h' | grep -vx c/texts.c)
 mapfile -t shell < <(git ls-files '*.sh' .ci/run; grep -lE '^#!.*bash' bin/*)
 
 # the crates that do not keep the rules of the engine's files yet; none joins them
-later='sched_(task_law|run_machine|retry|repeat|closure|retry_or|run|pool_job|storm|storm_tests)'
-later+='|sched_handle|sched_storm_call|hikebox_c'
+later='sched_storm_call'
 mapfile -t engine < <(git ls-files 'crates/*.rt' 'crates/*.antt' | grep -vE "^crates/($later)/")
 mapfile -t antt < <(printf '%s\n' "${engine[@]}" | grep '\.antt$')
 mapfile -t roots < <(printf '%s\n' "${engine[@]}" | grep -E '^crates/[^/]+/src/(lib|main)\.rt$')

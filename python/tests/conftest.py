@@ -102,17 +102,21 @@ def python_environment() -> Any:
     return {**os.environ, "PYTHONPATH": os.pathsep.join(paths)}
 
 
-@pytest.fixture(scope="session")
-def running_server() -> Iterator[Any]:
-    from http_server import Server
-
-    server = Server()
+def served(server: Any) -> Iterator[Any]:
+    """Has a thread serve until the fixture is over."""
     thread = threading.Thread(target=server.serve_forever, kwargs={"poll_interval": 0.01})
     thread.start()
     yield server
     server.shutdown()
     server.server_close()
     thread.join()
+
+
+@pytest.fixture(scope="session")
+def running_server() -> Iterator[Any]:
+    from http_server import Server
+
+    yield from served(Server())
 
 
 @pytest.fixture

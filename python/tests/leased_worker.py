@@ -14,7 +14,7 @@ import signal
 import sys
 import threading
 import time
-from typing import Any
+from typing import Any, Dict
 
 from hikebox.leased import FileStore, Leased, RedisStore
 
@@ -74,16 +74,21 @@ class Pauses:
             os.write(self.output, f"paused {began} {self.seen}\n".encode())
 
 
-def main() -> None:
-    how = json.loads(sys.argv[1])
-    output = os.open(sys.argv[2], os.O_WRONLY | os.O_CREAT | os.O_APPEND)
+def options_of(how: Any, *names: str) -> Dict[str, Any]:
+    """The options of what draws that are given, with a clock that is off where that is."""
+    named = {name: how[name] for name in (*names, "lease", "spare", "again_after") if name in how}
     off = float(how.get("clock_off", 0))
-    named = {name: how[name] for name in ("limit", "per", "lease", "spare", "again_after") if name in how}
     if off:
         named["clock"] = lambda: time.clock_gettime(time.CLOCK_BOOTTIME) + off
         wall = time.time
         time.time = lambda: float(wall() + off)
-    leased = Leased(store_of(how), how["name"], **named)
+    return named
+
+
+def main() -> None:
+    how = json.loads(sys.argv[1])
+    output = os.open(sys.argv[2], os.O_WRONLY | os.O_CREAT | os.O_APPEND)
+    leased = Leased(store_of(how), how["name"], **options_of(how, "limit", "per"))
     until = time.monotonic() + how.get("seconds", 60)
     stop = how.get("stop", "/no/such/file")
     most = how["number"] if how.get("kill") == "drawn" else -1

@@ -15,7 +15,7 @@ import time
 from collections import Counter
 from typing import Any, Counter as Counts
 
-from leased_worker import Pauses, store_of
+from leased_worker import Pauses, options_of, store_of
 
 from hikebox.leased import LeasedQuota, QuotaRange
 
@@ -48,14 +48,8 @@ class Noting:
 def main() -> None:
     how = json.loads(sys.argv[1])
     output = os.open(sys.argv[2], os.O_WRONLY | os.O_CREAT | os.O_APPEND)
-    off = float(how.get("clock_off", 0))
-    named = {name: how[name] for name in ("lease", "spare", "again_after") if name in how}
-    if off:
-        named["clock"] = lambda: time.clock_gettime(time.CLOCK_BOOTTIME) + off
-        wall = time.time
-        time.time = lambda: float(wall() + off)
     store = Noting(store_of(how), output)
-    quota = LeasedQuota(store, how["name"], how["reserve"], how["share"], how["per"], **named)
+    quota = LeasedQuota(store, how["name"], how["reserve"], how["share"], how["per"], **options_of(how))
     until = time.monotonic() + how.get("seconds", 60)
     stop = how.get("stop", "/no/such/file")
     most = how["number"] if how.get("kill") == "drawn" else -1

@@ -13,7 +13,7 @@ from typing import Any, Dict, List, Tuple
 import pytest
 from conftest import TOP, python_environment
 
-from hikebox._engine import calls, leasing, structs
+from hikebox._engine import calls, leasing, limits, structs
 from hikebox._engine.handles import Handle, Pass, PolicyHandle
 from hikebox._engine.machine import Machine
 from hikebox.errors import EngineError
@@ -35,6 +35,8 @@ TYPES: Dict[str, Any] = {
     "const hikebox_course *": (ctypes.POINTER(structs.Course),),
     "const hikebox_event *": (ctypes.POINTER(structs.Event),),
     "hikebox_line *": (ctypes.POINTER(structs.Line),),
+    "const hikebox_bucket *": (ctypes.POINTER(structs.BucketTerms),),
+    "const hikebox_breaker *": (ctypes.POINTER(structs.BreakerTerms),),
     "hikebox_next *": (ctypes.POINTER(structs.Next),),
     "hikebox_usage *": (ctypes.POINTER(structs.Usage),),
     "const hikebox_storm *": (ctypes.POINTER(structs.Storm),),
@@ -45,7 +47,7 @@ TYPES: Dict[str, Any] = {
     "hikebox_range *": (ctypes.POINTER(structs.Range),),
     **{f"{const}hikebox_ticket *": (ctypes.POINTER(structs.LeasedTicket),) for const in ("", "const ")},
     "const hikebox_grant *": (ctypes.POINTER(structs.Grant),),
-    **{f"hikebox_{kind} *": (ctypes.POINTER(Handle),) for kind in ("policy", "pass", "leased", "retry")},
+    **{f"hikebox_{kind} *": (ctypes.POINTER(Handle),) for kind in ("policy", "pass", "leased", "limit", "retry")},
 }
 
 CTYPES: Dict[str, Any] = {
@@ -65,7 +67,7 @@ def header() -> str:
 
 def test_the_signatures_are_those_of_the_header() -> None:
     declared: Dict[str, Tuple[Any, ...]] = {}
-    signatures = {**calls.SIGNATURES, **leasing.SIGNATURES}
+    signatures = {**calls.SIGNATURES, **leasing.SIGNATURES, **limits.SIGNATURES}
     for name, parameters in re.findall(r"hikebox_status (hikebox_\w+)\((.*?)\);", header(), flags=re.S):
         if name not in signatures:
             continue

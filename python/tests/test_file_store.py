@@ -21,7 +21,7 @@ from conftest import python_environment
 
 from draws import number
 from hikebox import StoreError, StoreLost, TermsError, Usage
-from hikebox.leased import FileStore, Leased, LeasedQuota, Range
+from hikebox.leased import FileStore, Leased, LeasedQuota, Range, slots
 
 #: A window that no test sees the end of, in seconds and in milliseconds.
 LONG = 1_000_000.0
@@ -488,6 +488,33 @@ def test_a_fork_while_a_thread_leases_leaves_no_lock_behind(tmp_path: Path) -> N
             os.kill(child, signal.SIGKILL)
             os.waitpid(child, 0)
     assert not [link for link in links if link.startswith(store.path)]
+
+
+def test_a_child_that_is_forked_while_a_file_is_opened_does_not_keep_it(tmp_path: Path) -> None:
+    """A signal's handler may fork between any two lines of what opens a file, in the thread that opens it."""
+    store = FileStore(tmp_path / "counts")
+    take(store)
+    opens = slots._File.opened.__func__.__code__  # type: ignore[attr-defined]
+    children = []
+
+    def forks(frame: Any, event: str, _: Any) -> Any:
+        if frame.f_code is not opens:
+            return None
+        if event == "line":
+            child = os.fork()
+            if child == 0:
+                links = [os.readlink(link.path) for link in os.scandir("/proc/self/fd") if os.path.exists(link.path)]
+                os._exit(any(link.startswith(store.path) for link in links))
+            children.append(child)
+        return forks
+
+    sys.settrace(forks)
+    try:
+        assert take(store) == Range(1, 1, None)
+    finally:
+        sys.settrace(None)
+    assert len(children) >= 4
+    assert [os.waitstatus_to_exitcode(os.waitpid(child, 0)[1]) for child in children] == [0] * len(children)
 
 
 def test_a_process_killed_in_a_lease_while_its_child_lives(tmp_path: Path) -> None:

@@ -20,7 +20,7 @@ from pathlib import Path
 from typing import Any, Callable, Dict, Iterator, List, Optional, Tuple
 
 import pytest
-from conftest import TOP, heed_signals, python_environment
+from conftest import TOP, heed_signals, python_environment, served
 
 from hikebox import Policy, Quota, recurs, storm
 from hikebox.lab.server import Lab
@@ -40,13 +40,7 @@ LONG_SIDE = {"text": "recurs(10000) & spaced(0.01)", "limit": ""}
 
 @pytest.fixture(scope="module")
 def lab() -> Iterator[Lab]:
-    made = Lab()
-    thread = threading.Thread(target=made.serve_forever, kwargs={"poll_interval": 0.01})
-    thread.start()
-    yield made
-    made.shutdown()
-    made.server_close()
-    thread.join()
+    yield from served(Lab())
 
 
 class Answer:
@@ -225,7 +219,7 @@ def test_a_plan_is_shown_or_its_fault_marked(lab: Lab) -> None:
         "said": "not a plan",
         "hint": "no builder is called 'spced'; did you mean 'spaced'?",
     }
-    assert told["limit_fault"] == "expected N or RESERVE/SHARE%/PERIOD, as 10/10%/1s, got 'x'"
+    assert told["limit_fault"] == "expected N or RESERVE/SHARE%/PERIOD, such as 10/10%/1s, got 'x'"
 
 
 def test_storms_are_shown_side_by_side(lab: Lab) -> None:

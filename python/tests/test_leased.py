@@ -16,7 +16,7 @@ from hikebox import AsyncRetrying, BudgetError, Ending, Retrying, StoreError, St
 from hikebox.leased import FileStore, Leased, Range, RedisStore
 
 
-class Drawing(Workers):
+class Drawers(Workers):
     """Processes that draw tickets, and what they wrote down."""
 
     def look_at(self, number: int, output: str) -> None:
@@ -48,7 +48,7 @@ class Drawing(Workers):
 
 @pytest.fixture
 def workers(tmp_path: Path) -> Any:
-    made = Drawing("leased_worker.py", tmp_path)
+    made = Drawers("leased_worker.py", tmp_path)
     yield made
     made.end()
 
@@ -253,7 +253,7 @@ def test_a_forked_child_has_leases_of_its_own(tmp_path: Path) -> None:
 # Many processes, a file
 
 
-def test_8_processes_draw_100000_tickets_of_a_file_each_once(workers: Drawing, tmp_path: Path) -> None:
+def test_8_processes_draw_100000_tickets_of_a_file_each_once(workers: Drawers, tmp_path: Path) -> None:
     how = {"file": str(tmp_path / "counts"), "name": "a", "limit": 100_000, "lease": 500}
     for _ in range(8):
         workers.start(how)
@@ -264,7 +264,7 @@ def test_8_processes_draw_100000_tickets_of_a_file_each_once(workers: Drawing, t
 KILLS = [("asked", 1), ("asked", 4), ("granted", 1), ("granted", 4), ("drawn", 1), ("drawn", 20), ("drawn", 33)]
 
 
-def kill_some(workers: Drawing, how: Any) -> None:
+def kill_some(workers: Drawers, how: Any) -> None:
     """Processes that are killed at points of a lease, beside two that are not: each loses a range at most."""
     lost = 0
     for point, number in KILLS:
@@ -280,11 +280,11 @@ def kill_some(workers: Drawing, how: Any) -> None:
     assert len(tickets) >= how["limit"] - lost
 
 
-def test_processes_killed_at_points_of_a_lease_of_a_file(workers: Drawing, tmp_path: Path) -> None:
+def test_processes_killed_at_points_of_a_lease_of_a_file(workers: Drawers, tmp_path: Path) -> None:
     kill_some(workers, {"file": str(tmp_path / "counts"), "name": "a", "limit": 5000, "lease": 10})
 
 
-def test_processes_killed_at_any_moment(workers: Drawing, tmp_path: Path) -> None:
+def test_processes_killed_at_any_moment(workers: Drawers, tmp_path: Path) -> None:
     how = {"file": str(tmp_path / "counts"), "name": "a", "limit": 30_000, "lease": 20, "threads": 2}
     for _ in range(6):
         workers.start(how)
@@ -316,7 +316,7 @@ def since_1970() -> int:
 DIFFER = 2
 
 
-def in_windows(workers: Drawing, folder: Path, limit: int, period: int, offset: int = 0) -> None:
+def in_windows(workers: Drawers, folder: Path, limit: int, period: int, offset: int = 0) -> None:
     """Lets processes that heed the file `stop` draw until three windows were drawn nearly whole. No window has more
     tickets
     than the limit of those that were drawn in it for sure; and of a whole window nearly all are drawn, where the
@@ -344,7 +344,7 @@ def in_windows(workers: Drawing, folder: Path, limit: int, period: int, offset: 
     assert sum(len(by_window[window]) for window in whole) >= 0.9 * limit * len(whole)
 
 
-def test_windows_of_many_processes_one_with_a_clock_an_hour_off(workers: Drawing, tmp_path: Path) -> None:
+def test_windows_of_many_processes_one_with_a_clock_an_hour_off(workers: Drawers, tmp_path: Path) -> None:
     how = {"file": str(tmp_path / "counts"), "name": "a", "limit": 50, "lease": 5, "per": 0.5}
     for off in (0, 0, 3600, -3600):
         workers.start({**how, "clock_off": off, "patient": True, "seconds": 90, "stop": str(tmp_path / "stop")})
@@ -403,7 +403,7 @@ def test_a_redis_that_was_started_anew_grants_nothing(redis_server: Any) -> None
     assert durable.take("a", 7, 20, None, time.monotonic)[:2] == (6, 7)
 
 
-def test_8_processes_draw_100000_tickets_of_redis_each_once(workers: Drawing, redis_server: Any) -> None:
+def test_8_processes_draw_100000_tickets_of_redis_each_once(workers: Drawers, redis_server: Any) -> None:
     server = redis_server()
     RedisStore(server.client()).begin("a")
     for _ in range(8):
@@ -412,14 +412,14 @@ def test_8_processes_draw_100000_tickets_of_redis_each_once(workers: Drawing, re
     assert workers.tickets() == list(range(100_000))
 
 
-def test_processes_killed_at_points_of_a_lease_of_redis(workers: Drawing, redis_server: Any) -> None:
+def test_processes_killed_at_points_of_a_lease_of_redis(workers: Drawers, redis_server: Any) -> None:
     server = redis_server()
     RedisStore(server.client()).begin("a")
     kill_some(workers, {"port": server.port, "name": "a", "limit": 5000, "lease": 10})
 
 
 @pytest.mark.parametrize("durable", [True, False])
-def test_redis_stopped_and_started_under_load(durable: bool, workers: Drawing, redis_server: Any) -> None:
+def test_redis_stopped_and_started_under_load(durable: bool, workers: Drawers, redis_server: Any) -> None:
     options = ("--appendonly", "yes", "--appendfsync", "always") if durable else ()
     server = redis_server(*options)
     RedisStore(server.client()).begin("a")
@@ -451,7 +451,7 @@ def test_redis_stopped_and_started_under_load(durable: bool, workers: Drawing, r
 
 
 def test_windows_of_redis_one_process_with_a_clock_an_hour_off(
-    workers: Drawing, redis_server: Any, tmp_path: Path
+    workers: Drawers, redis_server: Any, tmp_path: Path
 ) -> None:
     server = redis_server()
     store = RedisStore(server.client())

@@ -24,7 +24,7 @@ from hikebox.budgets.terms import Terms
 LONG = 1_000_000.0
 
 
-class Drawing(Workers):
+class Drawers(Workers):
     """Processes that draw on a quota, and what they wrote down."""
 
     def count(self) -> int:
@@ -57,7 +57,7 @@ class Drawing(Workers):
 
 @pytest.fixture
 def workers(tmp_path: Path) -> Any:
-    made = Drawing("quota_worker.py", tmp_path)
+    made = Drawers("quota_worker.py", tmp_path)
     yield made
     made.end()
 
@@ -362,7 +362,7 @@ def test_windows_of_a_file_go_by_the_machines_uptime(tmp_path: Path) -> None:
 # Many processes, a file
 
 
-def test_8_processes_draw_all_tickets_of_a_file_each_once(workers: Drawing, tmp_path: Path) -> None:
+def test_8_processes_draw_all_tickets_of_a_file_each_once(workers: Drawers, tmp_path: Path) -> None:
     how = {"file": str(tmp_path / "counts"), "name": "a", "reserve": 20_000, "share": 0.5, "per": LONG}
     for _ in range(8):
         workers.start({**how, "lease": 200, "first": 2500})
@@ -376,7 +376,7 @@ def test_8_processes_draw_all_tickets_of_a_file_each_once(workers: Drawing, tmp_
 KILLS = [("asked", 1), ("asked", 4), ("granted", 1), ("granted", 4), ("drawn", 1), ("drawn", 20), ("drawn", 33)]
 
 
-def test_processes_killed_at_points_of_a_lease_of_a_file(workers: Drawing, tmp_path: Path) -> None:
+def test_processes_killed_at_points_of_a_lease_of_a_file(workers: Drawers, tmp_path: Path) -> None:
     how = {"file": str(tmp_path / "counts"), "name": "a", "reserve": 1500, "share": 0.5, "per": LONG, "lease": 10}
     for point, number in KILLS:
         workers.start({**how, "first": 200, "kill": point, "number": number})
@@ -397,7 +397,7 @@ def test_processes_killed_at_points_of_a_lease_of_a_file(workers: Drawing, tmp_p
     assert len(tickets) >= 2300 - 10 * len(KILLS)
 
 
-def check_windows(workers: Drawing, folder: Path, reserve: int, share: float, offset: int = 0) -> None:
+def check_windows(workers: Drawers, folder: Path, reserve: int, share: float, offset: int = 0) -> None:
     """Lets processes that heed the file `stop` draw until of three windows of half a second most of what they allow was
     drawn. In no window a ticket is drawn twice, or one past what the requests allow that were told; and of whole
     windows most of what they allow is drawn, where the machine held no process up."""
@@ -428,7 +428,7 @@ def check_windows(workers: Drawing, folder: Path, reserve: int, share: float, of
     assert sum(len(by_window[window]) for window in whole) >= 0.8 * sum(allowed(told, window) for window in whole)
 
 
-def test_windows_of_many_processes_two_with_a_clock_an_hour_off(workers: Drawing, tmp_path: Path) -> None:
+def test_windows_of_many_processes_two_with_a_clock_an_hour_off(workers: Drawers, tmp_path: Path) -> None:
     how = {"file": str(tmp_path / "counts"), "name": "a", "reserve": 20, "share": 0.5, "per": 0.5, "lease": 2}
     for off in (0, 0, 3600, -3600):
         more = {"clock_off": off, "patient": True, "seconds": 90, "stop": str(tmp_path / "stop")}
@@ -545,7 +545,7 @@ def test_the_script_grants_what_the_step_of_a_lease_does(redis_server: Any) -> N
 
 
 def test_windows_of_redis_two_processes_with_a_clock_an_hour_off(
-    workers: Drawing, redis_server: Any, tmp_path: Path
+    workers: Drawers, redis_server: Any, tmp_path: Path
 ) -> None:
     server = redis_server()
     time.sleep(3.2)
@@ -560,7 +560,7 @@ def test_windows_of_redis_two_processes_with_a_clock_an_hour_off(
     assert server.client().keys("*") == []
 
 
-def test_processes_killed_at_points_of_a_lease_of_redis(workers: Drawing, redis_server: Any) -> None:
+def test_processes_killed_at_points_of_a_lease_of_redis(workers: Drawers, redis_server: Any) -> None:
     server = redis_server()
     time.sleep(3.2)
     how = {"port": server.port, "name": "a", "reserve": 100, "share": 0.5, "per": 0.5, "lease": 10, "each": 1}
@@ -580,7 +580,7 @@ def test_processes_killed_at_points_of_a_lease_of_redis(workers: Drawing, redis_
 
 
 @pytest.mark.parametrize("durable", [True, False])
-def test_redis_stopped_and_started_under_load(durable: bool, workers: Drawing, redis_server: Any) -> None:
+def test_redis_stopped_and_started_under_load(durable: bool, workers: Drawers, redis_server: Any) -> None:
     options = ("--appendonly", "yes", "--appendfsync", "always") if durable else ()
     server = redis_server(*options)
     time.sleep(3.2)

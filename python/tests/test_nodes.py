@@ -16,6 +16,7 @@ from typing import Any, Dict, Set
 import pytest
 from conftest import TOP, python_environment
 
+import hikebox
 from hikebox import Policy
 from hikebox.policy import builders
 from hikebox.policy.nodes import NODES
@@ -24,13 +25,23 @@ RANDOM = runpy.run_path(str(TOP / "tests" / "random_policies.py"))
 #: The rows, as Python has them too.
 TABLE = json.loads((TOP / "schemas" / "nodes.json").read_text())["nodes"]
 
-#: Another node, which the engine does not know: what it is written in JSON, in Python and in Rust.
+#: Other nodes, which the engine does not know: a leaf, and a node over one policy.
+LEAF = {
+    "name": "brief_one",
+    "items": [{"letter": "D", "field": "delay", "unit": "ms", "min": 7, "max": 9}],
+    "python": "brief_one({D})",
+    "rust": "Schedule::brief_one({D})",
+    "zio": None,
+    "does": "waits briefly",
+    "defined": ["brief_one d", "n - 1", "go on at now + d"],
+}
 ANOTHER = {
     "name": "pause",
+    "group": "delays",
     "items": [
-        {"letter": "LANE", "unit": "lane", "min": 0, "max": 3},
-        {"letter": "D", "unit": "ms", "min": 7, "max": 9},
-        {"letter": "KIND", "unit": "word", "words": ["long_one", "short_one"]},
+        {"letter": "LANE", "field": "lane", "unit": "lane", "min": 0, "max": 3},
+        {"letter": "D", "field": "delay", "unit": "ms", "min": 7, "max": 9},
+        {"letter": "KIND", "field": "kind", "unit": "word", "words": ["long_one", "short_one"]},
         {"letter": "A", "unit": "plan"},
     ],
     "python": '{A}.paused({D}, "{KIND}"{LANE:option})',
@@ -38,6 +49,56 @@ ANOTHER = {
     "zio": None,
     "does": "A, but later",
     "reads": "word",
+    "defined": ["pause lane d kind A", "A's answer, but later"],
+}
+#: Rows that bin/nodes makes of both, by the definitions of the nodes that are like them.
+ROWS = {
+    "docs/DESIGN.md": ["| brief_one d | n - 1 | go on at now + d |", "| pause lane d kind A | A's answer, but later |"],
+    "crates/sched_plan/specs/Schedule.antt": [
+        "leaf_in_range (BriefOne delay) = nat_le 7 delay && nat_le delay 9",
+        "one_in_range (Pause lane delay kind) = nat_le lane 3 && (nat_le 7 delay && nat_le delay 9)",
+        "use Rattle.sched_plan.specs.declared.leaves.Leaf.TheVariants.{Elapsed, Identity, Unfold, Lone, BriefOne}",
+    ],
+    "crates/sched_plan/specs/ScheduleCode.antt": [
+        "leaf_code (BriefOne delay) = tagged 14 delay 0 0 0",
+        "one_code (Pause lane delay kind) = tagged 14 lane delay (kind_code kind) 0",
+    ],
+    "crates/sched_plan_json/specs/Nodes.antt": [
+        '∷ (codes "brief_one", a_number BriefOne)',
+        '∷ (codes "pause", parameters_and_a_plan pause_and_part)',
+    ],
+    "crates/sched_plan_json/specs/Node.antt": ["one_of (read.Pause lane delay kind) = plan.Pause lane delay kind"],
+    "crates/sched_plan_json/src/leaves.rt": [
+        "    BriefOne(u64),",
+        "LeafNode::BriefOne(delay) => Plan::brief_one(delay),",
+        '"brief_one" => Ok(LeafNode::BriefOne(number(value)?)),',
+    ],
+    "crates/sched_plan_json/src/nodes.rt": ["        kind: Kind,", "Plan::pause(alloc, lane, delay, kind, plan)"],
+    "crates/sched_plan_json/src/spelling.rt": ["let (lane, delay, kind, plan) = pause_and_plan(value)?;"],
+    "crates/sched_plan_json_write/specs/Written.antt": [
+        'leaf_json (BriefOne delay) = with_number (codes "brief_one") delay',
+        "(item (string (kind_word kind)) (item a no_items))",
+    ],
+    "crates/sched_plan_json_write/src/leaves.rt": [
+        'Leaf::BriefOne(delay) => of_number(alloc, "brief_one", delay.get()),',
+    ],
+    "crates/sched_plan_node/specs/Names.antt": ['∷ (codes "brief_one", BriefOne)'],
+    "crates/sched_plan_node/src/leaves.rt": ['"brief_one" => of_leaf(Plan::brief_one(n)),'],
+    "crates/sched_plan_check/specs/PlanFaults.antt": ["item_in (Pause lane delay kind) = Some 3"],
+    "crates/sched_plan_check/src/below.rt": ["OneNode::Pause { .. } => Some(3),"],
+    "crates/sched_plan_check/proofs/Tables.antt": ["(number_has leaf.BriefOne, tt)", " pause_has,\n"],
+    "crates/sched_plan_hint/src/nodes.rt": [
+        "const NODES: [(&str, &str); 34] = [",
+        '("brief_one", r#"{"brief_one":D}, D from 7 to 9"#),',
+        'LANE from 0 to 3, D from 7 to 9, KIND "long_one" or "short_one"',
+    ],
+}
+#: What these two leave as it is: no such node is plain, or stands over two policies; and builders are written by hand.
+OTHERS = {
+    "crates/sched_plan_json_write/src/nodes.rt",
+    "crates/sched_plan_json_write/src/words.rt",
+    "crates/sched_plan_node/src/over.rt",
+    "python/src/hikebox/__init__.py",
 }
 SPELL_IT = """
 from hikebox.policy.nodes import parts_of
@@ -56,7 +117,8 @@ def copied(folder: Path) -> Path:
         shutil.copytree(TOP / name, folder / name, ignore=shutil.ignore_patterns("pictures"))
     for name in ("python/src", "tests"):
         shutil.copytree(TOP / name, folder / name, ignore=shutil.ignore_patterns("__pycache__"))
-    (folder / "schemas" / "nodes.json").write_text(json.dumps({"nodes": [*TABLE, ANOTHER]}))
+    shutil.copytree(TOP / "crates", folder / "crates", ignore=shutil.ignore_patterns("out", "must-fail"))
+    (folder / "schemas" / "nodes.json").write_text(json.dumps({"nodes": [*TABLE, LEAF, ANOTHER]}))
     return folder
 
 
@@ -77,12 +139,7 @@ def test_what_is_made_of_the_table_is_as_it_is_made() -> None:
 def test_another_node_is_a_row(tmp_path: Path) -> None:
     copy = copied(tmp_path / "copy")
     before = files_of(copy)
-    made = {
-        "schemas/policy.schema.json",
-        "schemas/jobs.schema.json",
-        "python/src/hikebox/policy/nodes.py",
-        "docs/COOKBOOK.md",
-    }
+    made = set(nodes(copy, "--files").stdout.split()) - OTHERS
     ran = nodes(copy, "--check")
     assert (ran.returncode, set(re.findall(r"bin/nodes: (\S+) is not what", ran.stderr))) == (1, made)
     assert nodes(copy).returncode == 0 and nodes(copy, "--check").returncode == 0
@@ -90,6 +147,17 @@ def test_another_node_is_a_row(tmp_path: Path) -> None:
     assert {name for name in after if after[name] != before.get(name)} == made
     row = '| `{"pause":[LANE,D,"KIND",A]}` | none | A, but later; KIND is "long_one" or "short_one" |\n'
     assert row in (copy / "docs" / "COOKBOOK.md").read_text()
+    for name, rows in ROWS.items():
+        text = re.sub(r" \\\n +", " ", (copy / name).read_text().replace('\\"', '"'))
+        for each in rows:
+            assert each in text, (name, each)
+    assert {name for name in made if "crates/" in name} == {name for name in ROWS if "crates/" in name}
+    # all other rows are as they were, and no line of a definition is too long (`rt fmt` lays out code)
+    definitions = [name for name in made if name.endswith(".antt")]
+    assert [line for name in definitions for line in after[name].decode().splitlines() if len(line) > 120] == []
+    (written,) = [name for name in definitions if name.endswith("Written.antt")]
+    lines = [line for line in before[written].decode().splitlines() if not line.startswith("use ")]
+    assert not set(lines) - set(after[written].decode().splitlines())
 
     # both spellings, and the parser's names
     environment = {**python_environment(), "PYTHONPATH": str(copy / "python" / "src")}
@@ -133,6 +201,12 @@ def test_the_builders_of_python_are_those_of_the_table() -> None:
     assert {*builders.__all__, *methods} - own == builders_of("python")
 
 
+def test_each_builder_is_exported() -> None:
+    defined = {name for name, each in vars(builders).items() if getattr(each, "__module__", None) == builders.__name__}
+    assert set(builders.__all__) == defined and defined <= set(hikebox.__all__)
+    assert all(getattr(hikebox, name) is getattr(builders, name) for name in defined)
+
+
 def test_the_builders_of_rust_are_those_of_the_table() -> None:
     source = (TOP / "rust" / "src" / "policy" / "schedule.rs").read_text()
     declared = set(re.findall(r"^    pub fn (\w+)\([^)]*\) -> Self", source, flags=re.M))
@@ -154,34 +228,3 @@ def test_the_page_on_python_has_each_builder() -> None:
     page = (TOP / "docs" / "PYTHON.md").read_text()
     table = page[page.index("| Python | JSON |") :].partition("\n\n")[0]
     assert {name for name in builders_of("python") if f"{name}(" not in table} == {"exponential_milli"}
-
-
-#: The files that have a node each time, outside the engine: those that are written by hand, and those that are made.
-BY_HAND = [
-    "schemas/nodes.json",
-    "python/src/hikebox/policy/builders.py|python/src/hikebox/policy/policy.py",
-    "python/tests/faults.py",
-    "python/tests/reference.py",
-    "python/tests/test_policy.py",
-    "rust/src/policy/schedule.rs",
-    "docs/DESIGN.md",
-    "docs/PYTHON.md",
-]
-MADE = [
-    "schemas/policy.schema.json",
-    "schemas/jobs.schema.json",
-    "python/src/hikebox/policy/nodes.py",
-    "rust/tests/spellings.rs",
-    "docs/COOKBOOK.md",
-]
-
-
-@pytest.mark.parametrize("name", ["fibonacci", "windowed", "renew_idle", "ends_by", "gather", "join"])
-def test_a_node_touches_few_files(name: str) -> None:
-    for files in (*BY_HAND, *MADE):
-        text = "".join((TOP / file).read_text() for file in files.split("|"))
-        assert re.search(rf"\b{name}\b", text), files
-    listed = (TOP / "docs" / "ARCHITECTURE.md").read_text().partition("## Adding a node")[2].partition("\n## ")[0]
-    for files in (*BY_HAND, *MADE):
-        assert any(f"`{file}`" in listed for file in files.split("|")), files
-    assert len(BY_HAND) + len(MADE) <= 25

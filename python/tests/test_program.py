@@ -43,7 +43,7 @@ def test_terms_with_their_units() -> None:
     assert terms("10/0.1%/1.5m") == (10, 0.001, 90.0)
     assert [terms(f"1/1%/2{unit}")[2] for unit in ("ms", "s", "m", "h", "d")] == [0.002, 2, 120, 7200, 172800]
     for bad in ("10/20%/60", "10/0.2/60s", "10/20%/60x", "10/20%", "/20%/60s", "1.5/20%/60s", "10/20 %/60s"):
-        with pytest.raises(BudgetError, match=r"^expected RESERVE/SHARE%/PERIOD, as .* \(units: ms, s, m, h, d\)"):
+        with pytest.raises(BudgetError, match=r"^expected RESERVE/SHARE%/PERIOD, such as .* \(units: ms, s, m, h, d\)"):
             terms(bad)
     assert repr(quota("10/20%/60s@/nowhere/f")).endswith("'run', 10, 0.2, per=60, lease=1)")
 

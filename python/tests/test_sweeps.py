@@ -307,7 +307,7 @@ BAD_SCENARIOS: List[Tuple[Any, str]] = [
     ({"lines": [{"policy": {"recurs": -1}}]}, 'not a plan: expected {"recurs":N}'),
     (
         {"lines": [{"policy": "recurs(1)", "limit": "x"}]},
-        "expected RESERVE/SHARE%/PERIOD, as 10/20%/60s (units: ms, s, m, h, d), got 'x'",
+        "expected RESERVE/SHARE%/PERIOD, such as 10/20%/60s (units: ms, s, m, h, d), got 'x'",
     ),
     ({"lines": [{"policy": "recurs(1)", "limit": -1}]}, "lines[0].limit: expected 0 to 4294967296, got -1"),
     ({"lines": [{"policy": "recurs(1)", "limit": 1.5}]}, "lines[0].limit: expected a whole number, got 1.5"),

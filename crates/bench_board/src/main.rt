@@ -126,7 +126,7 @@ fn retry<'a>(
     runs: u32,
 ) -> Option<Retry<Toil, OnBudget<&'a Budget>>>
     requires none { drawing.pass.has.tickets ≡ [] }
-    ensures past { IfSome result (λ retry. retry.past ≡ nothing_yet retry.past.driver.plan) }
+    ensures past { IfSome result (λ retry. retry.past ≡ nothing_yet retry.past.driver None) }
     ensures drawing { IfSome result (λ retry. retry.drawing ≡ drawing.entry) }
     ensures had { IfSome result (λ retry. retry.had ≡ 0) }
 {

@@ -4,7 +4,7 @@ use futures::task::{Context, Poll};
 use sched_driver::Driver;
 use sched_effect::{Code, Effect, Ran, Scripted};
 use sched_plan::{Plan, PlanFault};
-use sched_repeat::Repeat;
+use sched_retry::Repeat;
 use sched_task::{Clock, How, MidWords, Task, VirtualClock};
 use sched_time::{Millis, Moment, NoMemory};
 use sched_wheel::{LoopStop, WheelLoop};

@@ -4,8 +4,8 @@
 
 use anyhow::{Context, Result, bail};
 use sched_run::{
-    Action, Call, Driver, Effect, MidWords, Moment, Plan, PlanFault, Ran, Repeat, RepeatEnding,
-    SystemClock, Tagged, Timed, block_on,
+    Action, Call, Ending, MidWords, Moment, Plan, PlanFault, Repeat, Stepper, SystemClock, Tagged,
+    Timed, block_on,
 };
 use std::alloc::{AllocGlobal, Global};
 use std::random::RandomSource;
@@ -58,27 +58,23 @@ fn print_polls<R: Eprint>(rt: &R, begun: &[Moment]) -> io::Result<()> {
 fn poll<R: Runtime + RandomSource + AllocGlobal + Wait>(rt: &R, path: &str) -> Result<u64> {
     let alloc = rt.alloc();
     let clock = SystemClock::new(rt)?;
-    let driver = Driver::new(alloc, each_boundary(alloc)?)?;
+    let stepper = Stepper::new(alloc, each_boundary(alloc)?)?;
     let call = Call::new(alloc, FileSize { rt, path });
-    let repeat = Repeat::new(alloc, call, driver);
+    let repeat = Repeat::new(alloc, call, stepper);
     let mut repeat = block_on(rt, Timed::new(alloc, repeat, clock, MidWords))?;
     told(rt, &mut repeat)
 }
 
 // What came of it, after a line for each poll.
-fn told<R: Files + Eprint>(rt: &R, repeat: &mut Repeat<Call<FileSize<'_, R>>>) -> Result<u64> {
+fn told<R: Files + Eprint>(
+    rt: &R,
+    repeat: &mut Repeat<Call<FileSize<'_, R>>, Stepper>,
+) -> Result<u64> {
     print_polls(rt, repeat.begun())?;
     match repeat.take_ending() {
-        Some(RepeatEnding::ScheduleDone) => last_size(repeat.effect().runs()),
-        Some(RepeatEnding::Failed(fault)) => Err(fault.value.into()),
+        Some(Ending::ScheduleDone(Ok(size))) => Ok(size),
+        Some(Ending::Failed(fault)) => Err(fault.value.into()),
         _ => bail!("the repeat broke off"),
-    }
-}
-
-fn last_size(runs: &[Ran]) -> Result<u64> {
-    match runs.last() {
-        Some(Ran::Won(size)) => Ok(size.get()),
-        _ => bail!("it was not polled"),
     }
 }
 

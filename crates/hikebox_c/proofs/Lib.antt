@@ -1,2 +1,3 @@
 -- Lemmas that the proofs of `hikebox_c` cite.
 pub mod Lines
+pub mod Put

@@ -24,5 +24,5 @@ Leases g a s code t r = s.window ≤ a.window →
     (code ≡ 0) × IsLease s (ask_of g a) (record { stored = t; first = r.first; tickets = r.tickets })
 
 -- in a window before the store's there is none, and nothing is written
-abbrev pub Refuses : Asking → Stored → Range → ℕ → Stored → Range → Type 0
-Refuses a s r code t q = a.window < s.window → (code ≡ code_of Backwards) × (t ≡ s) × (q ≡ r)
+abbrev pub LeasesNone : Asking → Stored → Range → ℕ → Stored → Range → Type 0
+LeasesNone a s r code t q = a.window < s.window → (code ≡ code_of Backwards) × (t ≡ s) × (q ≡ r)

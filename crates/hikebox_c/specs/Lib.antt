@@ -5,5 +5,8 @@ pub mod Policies
 pub mod Courses
 pub mod Passes
 pub mod Retries
+pub mod Runs
 pub mod Leases
 pub mod Leased
+pub mod Limits
+pub mod LimitTerms

@@ -1,7 +1,7 @@
 //! Leases, and what a window of a quota allows.
 ghost use Rattle.std.specs.Prelude.{◌≡◌};
 ghost use Rattle.sched_ticket_lease.specs.Leases.{allows};
-ghost use Rattle.hikebox_c.specs.Leases.{quota_of, Leases, Refuses};
+ghost use Rattle.hikebox_c.specs.Leases.{quota_of, Leases, LeasesNone};
 ghost use Rattle.sched_ticket_lease.specs.declared.lease.Grants.TheVariants.{Budget};
 
 use sched_handle::Status;
@@ -37,7 +37,7 @@ pub extern "C" fn hikebox_lease_of_budget(
     range: &mut Range,
 ) -> u32
     ensures leases { Leases (Budget limit) asking.now stored.old result stored.new range.new }
-    ensures refuses { Refuses asking.now stored.old range.old result stored.new range.new }
+    ensures refuses { LeasesNone asking.now stored.old range.old result stored.new range.new }
 {
     tell_lease(Grants::Budget(limit), asking, stored, range)
 }
@@ -51,7 +51,7 @@ pub extern "C" fn hikebox_lease_of_quota(
     range: &mut Range,
 ) -> u32
     ensures leases { Leases (quota_of reserve share) asking.now stored.old result stored.new range.new }
-    ensures refuses { Refuses asking.now stored.old range.old result stored.new range.new }
+    ensures refuses { LeasesNone asking.now stored.old range.old result stored.new range.new }
 {
     tell_lease(quota(reserve, share), asking, stored, range)
 }
@@ -84,7 +84,7 @@ fn quota(reserve: u64, share: u64) -> Grants
 // Takes a lease, and writes what comes of it.
 fn tell_lease(grants: Grants, asking: &Asking, stored: &mut Stored, range: &mut Range) -> u32
     ensures leases { Leases grants asking.now stored.old result stored.new range.new }
-    ensures refuses { Refuses asking.now stored.old range.old result stored.new range.new }
+    ensures refuses { LeasesNone asking.now stored.old range.old result stored.new range.new }
 {
     let Asking {
         window,

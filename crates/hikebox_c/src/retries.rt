@@ -84,7 +84,7 @@ pub struct SizedReply {
 }
 
 // The size of it.
-const REPLY_SIZE: usize = 48;
+pub(crate) const REPLY_SIZE: usize = 48;
 
 #[unsafe(no_mangle)]
 pub extern "C" fn hikebox_retry_poll(
@@ -141,7 +141,7 @@ fn poll(
 }
 
 // The run that is reported, if any.
-fn reported(report: u32, code: u64) -> Result<Option<Ran>, Status>
+pub(crate) fn reported(report: u32, code: u64) -> Result<Option<Ran>, Status>
     ensures { Reports report code result }
 {
     if report == 0 {

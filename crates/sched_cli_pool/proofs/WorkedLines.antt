@@ -15,6 +15,7 @@ use Rattle.sched_cli_pool.specs.PoolText.{job_text, pool_text, quota_text}
 abbrev pub ended : Option How → List Ran → ℕ → Past
 ended how runs granted = record {
   driver = record { plan = leaf Forever; journal = [] };
+  deadline = None;
   runs = runs;
   begun = [];
   over = how;

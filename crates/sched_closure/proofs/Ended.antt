@@ -10,7 +10,8 @@ use Rattle.sched_run_machine.specs.Aims.{MayStop, EndsAs}
 use Rattle.sched_closure.specs.Endings.{EndsWith, MayStopCalls, EndsCalls}
 
 -- what an ending hands out in the place of what the last call gave
-pub ends_with : {I F : Type 0} (item_code : I → ℕ) (fault_code : F → ℕ) (over : Option How) (runs : List Ran) (how : How)
+pub ends_with : {I F : Type 0} (item_code : I → ℕ) (fault_code : F → ℕ) (over : Option How) (runs : List Ran)
+    (how : How)
     (handed outcome : Result I F) → handed ≡ outcome → over ≡ Some how →
     last_element runs ≡ Some (ran_by item_code fault_code outcome) → EndsWith item_code fault_code over runs how handed
 ends_with {I} {F} item_code fault_code over runs how handed outcome same ends last =

@@ -1,3 +1,4 @@
+-- The lemmas that the proofs of closures cite.
 pub mod Ended
 pub mod Told
 pub mod First

@@ -1,5 +1,6 @@
 -- What a first call makes of a retry that has not begun.
-use Rattle.std.proofs.Common.{◌≡◌, ℕ, ◌<◌, Bool, true, false, List, [], ◌∷◌, length, inl, Option, Some, None, Result, Err, refl, arith}
+use Rattle.std.proofs.Common.{◌≡◌, ℕ, Bool, true, false, List, [], ◌∷◌, Option, Some, None, Result, Err, refl, sym}
+use Rattle.std.proofs.Common.{arith}
 use Rattle.rand_core.specs.Stream.{Stream}
 use Rattle.sched_time.specs.declared.numbers.Tick.{Tick}
 use Rattle.sched_plan.specs.Schedule.{Schedule}
@@ -9,10 +10,7 @@ use Rattle.sched_task.specs.Words.{next_four}
 use Rattle.sched_task.specs.declared.endings.RunFault.TheVariants.{NoMemory}
 use Rattle.sched_task_law.specs.Kind.{a_retry}
 use Rattle.sched_task_law.specs.Poll.{runs_on, ends, breaks, RefusedIn}
-use Rattle.sched_task_law.proofs.Law.{law_of_nothing}
-use Rattle.sched_effect.specs.declared.ran.Ran.{Ran}
-use Rattle.sched_task_law.specs.Past.{is_under_way}
-use Rattle.sched_run_machine.specs.Next.{HostPoll, HostPollUntil}
+use Rattle.sched_task_law.proofs.Law.{law_of_nothing, none_planned, first_can, first_goes_on}
 use Rattle.sched_run_machine.specs.Retrying.{Retrying, RetryLaw}
 use Rattle.sched_run_machine.specs.Machine.{unbegun}
 use Rattle.sched_run_machine.proofs.Settles.{Settled, settles, next}
@@ -22,15 +20,17 @@ use Rattle.sched_closure.specs.Begins.{WinsOnce, BrokenAtOnce}
 use Rattle.sched_closure.proofs.First.{idle_turn, run_turn}
 
 -- the plan has had no event, so that there is room for one
-room_in_none : (keeps : Bool) (plan : Schedule) (now : ℕ) → RefusedIn keeps (record { plan = plan; journal = [] }) now NoMemory
+room_in_none : (keeps : Bool) (plan : Schedule) (now : ℕ) →
+    RefusedIn keeps (record { plan = plan; journal = [] }) now NoMemory
 room_in_none true plan now = (omega arith, omega arith)
 room_in_none false plan now = omega arith
 
-module _ {D : Type 0} (grants : Grants D) (lawful : Lawful grants) (keeps : Bool) (plan : Schedule) (drawing : D)
+module _ {D : Type 0} (grants : Grants D) (lawful : Lawful grants) (keeps : Bool) (plan : Schedule)
+    (deadline : Option ℕ) (drawing : D)
     (holds : grants.stands drawing) where
-  law_unbegun : RetryLaw grants (a_retry keeps) (unbegun grants plan drawing)
+  law_unbegun : RetryLaw grants (a_retry keeps) (unbegun grants plan deadline drawing)
   law_unbegun = record {
-    law = law_of_nothing (a_retry keeps) plan;
+    law = law_of_nothing (a_retry keeps) plan deadline;
     granted = omega arith;
     denied = λ yes. absurd cc;
     stands = holds;
@@ -39,26 +39,28 @@ module _ {D : Type 0} (grants : Grants D) (lawful : Lawful grants) (keeps : Bool
 
   -- with a run under way, which began at the tick
   abbrev pub running_by : Tick → Retrying D
-  running_by t = next grants lawful (a_retry keeps) (unbegun grants plan drawing) t runs_on drawing
+  running_by t = next grants lawful (a_retry keeps) (unbegun grants plan deadline drawing) t runs_on drawing
 
-  starts : (t : Tick) → Settled grants lawful (a_retry keeps) (unbegun grants plan drawing) t false (running_by t)
+  starts : (t : Tick) → Settled grants lawful (a_retry keeps) (unbegun grants plan deadline drawing) t false
+      (running_by t)
   starts t =
-      settles grants lawful (a_retry keeps) (unbegun grants plan drawing) t runs_on drawing law_unbegun refl
-      (record { unended = refl; unstopped = refl; due = tt }) refl holds
+      settles grants lawful (a_retry keeps) (unbegun grants plan deadline drawing) t runs_on drawing law_unbegun refl
+      (first_can deadline plan t) refl holds
 
   wins_then : (t tick : Tick) (code : ℕ) → Settled grants lawful (a_retry keeps) (running_by t) tick true
       (next grants lawful (a_retry keeps) (running_by t) tick (ends (Won code)) drawing)
   wins_then t tick code =
       settles grants lawful (a_retry keeps) (running_by t) tick (ends (Won code)) drawing (starts t).law refl
-      (record { unended = refl; unstopped = refl; due = tt }, refl) refl holds
+      (first_goes_on deadline plan t tick, refl) refl holds
 
   breaks_then : (t tick : Tick) (code : ℕ) → Settled grants lawful (a_retry keeps) (running_by t) tick true
       (next grants lawful (a_retry keeps) (running_by t) tick (breaks (Lost code) NoMemory) drawing)
   breaks_then t tick code =
-      settles grants lawful (a_retry keeps) (running_by t) tick (breaks (Lost code) NoMemory) drawing (starts t).law refl
-      (record { unended = refl; unstopped = refl; due = tt }, refl, room_in_none keeps plan tick.now) refl holds
+      settles grants lawful (a_retry keeps) (running_by t) tick (breaks (Lost code) NoMemory) drawing (starts t).law
+      refl
+      (first_goes_on deadline plan t tick, refl, room_in_none keeps plan tick.now) refl holds
 
-  pub wins_once : (moment code : ℕ) → WinsOnce grants keeps plan drawing moment code
+  pub wins_once : (moment code : ℕ) → WinsOnce grants keeps plan deadline drawing moment code
   wins_once moment code =
       let none : Tick = record { now = moment; words = [] } in record {
         running = running_by none;
@@ -67,45 +69,42 @@ module _ {D : Type 0} (grants : Grants D) (lawful : Lawful grants) (keeps : Bool
         law = (wins_then none none code).law;
       }
 
--- no poll of a task with a run under way, or before its first, begins a run too late
-pub only_first_in_time : {D : Type 0} (grants : Grants D) (keeps : Bool) (deadline : Option ℕ) (v : Retrying D) (t : Tick)
-    (told : List Ran) (u : Retrying D) → HostPoll grants (a_retry keeps) v t told u →
-    (is_under_way v.past.runs v.past.begun ≡ false → 0 < length v.past.runs → ⊥) →
-    HostPollUntil grants (a_retry keeps) deadline v t told u
-only_first_in_time grants keeps deadline v t told u poll first =
-    record { poll = inl poll; in_time = λ past idle some. absurd (first idle some) }
-
 module _ {T D K C I F : Type 0} (grants : Grants D) (lawful : Lawful grants) (keeps : Bool) (tells : K → ℕ → K → Type 0)
-    (waits : K → ℕ → ℕ → K → Type 0) (gives : C → Result I F → C → Type 0) (item_code : I → ℕ) (fault_code : F → ℕ) where
+    (waits : K → ℕ → ℕ → K → Type 0) (gives : C → Result I F → C → Type 0) (item_code : I → ℕ)
+    (fault_code : F → ℕ) where
   -- two turns, by ticks that the clock and the generator gave: a run begins, and its step is refused memory
-  pub broken_at_once : (task after : T) (clock during then : K) (words between left : Stream) (call called : C) (fault : F) (began ended : Tick) →
+  pub broken_at_once : (task after : T) (clock during then : K) (words between left : Stream) (call called : C)
+      (fault : F) (began ended : Tick) →
       tells clock began.now during → (began.words, between) ≡ next_four words → gives call (Err fault) called →
       tells during ended.now then → (ended.words, left) ≡ next_four between →
       BrokenAtOnce grants keeps tells waits gives item_code fault_code
       (calling task clock words call None) (calling after then left called (Some (Err fault))) fault
-  broken_at_once task after clock during then words between left call called fault began ended told lanes gave tells_then lanes_then = record {
-    ticks = began ∷ ended ∷ [];
-    breaks = λ deadline plan drawing holds.
-        let code = fault_code fault in
-        let first = starts grants lawful keeps plan drawing holds began in
-        let second = breaks_then grants lawful keeps plan drawing holds began ended code in
-        let running = running_by grants lawful keeps plan drawing holds began in
-        let broken = next grants lawful (a_retry keeps) running ended (breaks (Lost code) NoMemory) drawing in (
-          broken,
-          (
-            calling running during between call None,
-            idle_turn (task_turning grants (a_retry keeps) deadline) tells waits gives item_code fault_code _ _ clock during words between call None
-                began refl refl told lanes
-                (only_first_in_time grants keeps deadline _ began [] _ (record { poll = first.poll; runs = refl }) (λ idle some. omega (arith, some))),
-            (
-              calling broken then left called (Some (Err fault)),
-              run_turn (task_turning grants (a_retry keeps) deadline) tells waits gives item_code fault_code _ _ during then between left call called
-                  None ended (Err fault) refl refl gave tells_then lanes_then
-                  (only_first_in_time grants keeps deadline _ ended (Lost code ∷ []) _ (record { poll = second.poll; runs = refl }) (λ idle some. absurd cc)),
-              refl,
-            ),
-          ),
-          (refl, refl),
-          second.law,
-        );
-  }
+  broken_at_once task after clock during then words between left call called fault began ended told lanes gave
+      tells_then lanes_then = record {
+        ticks = began ∷ ended ∷ [];
+        breaks = λ plan deadline drawing holds.
+            let code = fault_code fault in
+            let first = starts grants lawful keeps plan deadline drawing holds began in
+            let second = breaks_then grants lawful keeps plan deadline drawing holds began ended code in
+            let running = running_by grants lawful keeps plan deadline drawing holds began in
+            let broken = next grants lawful (a_retry keeps) running ended (breaks (Lost code) NoMemory) drawing in (
+              broken,
+              (
+                calling running during between call None,
+                idle_turn (task_turning grants (a_retry keeps)) tells waits gives item_code fault_code _ _ clock during
+                    words between call None
+                    began (sym (none_planned deadline plan)) refl told lanes
+                    (record { poll = first.poll; runs = refl }),
+                (
+                  calling broken then left called (Some (Err fault)),
+                  run_turn (task_turning grants (a_retry keeps)) tells waits gives item_code fault_code _ _ during then
+                      between left call called
+                      None ended (Err fault) refl refl gave tells_then lanes_then
+                      (record { poll = second.poll; runs = refl }),
+                  refl,
+                ),
+              ),
+              (refl, refl),
+              second.law,
+            );
+      }

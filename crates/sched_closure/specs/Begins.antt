@@ -3,15 +3,15 @@ use Rattle.std.specs.Prelude.{◌≡◌, ℕ, Bool, false, true, List, [], ◌�
 use Rattle.std.specs.List.{FoldsTo}
 use Rattle.sched_time.specs.declared.numbers.Tick.{Tick}
 use Rattle.sched_plan.specs.Schedule.{Schedule}
-use Rattle.sched_driver.specs.Driven.{Driven}
 use Rattle.sched_ticket_draws.specs.Grants.{Grants}
 use Rattle.sched_effect.specs.declared.ran.Ran.TheVariants.{Won}
 use Rattle.sched_task.specs.declared.endings.How.TheVariants as how
 use Rattle.sched_task.specs.declared.endings.RunFault.TheVariants.{NoMemory}
 use Rattle.sched_task_law.specs.Kind.{a_retry}
-use Rattle.sched_run_machine.specs.Retrying.{Retrying, RetryLaw}
-use Rattle.sched_run_machine.specs.Machine.{Machine, unbegun, StandsFor}
-use Rattle.sched_run_machine.specs.Next.{HostPoll}
+use Rattle.sched_task_law.specs.Past.{unstepped}
+use Rattle.sched_run_machine.specs.Drives.{Driving}
+use Rattle.sched_run_machine.specs.Retrying.{Retrying, RetryLaw, HostPoll}
+use Rattle.sched_run_machine.specs.Machine.{Machine, unbegun, IsMachineOf}
 use Rattle.sched_closure.specs.Turns.{Calling, calling, Turn}
 use Rattle.sched_closure.specs.Calls.{task_turning}
 use Rattle.sched_closure.specs.Endings.{how_of, gave, EndsWith}
@@ -20,10 +20,11 @@ use Rattle.sched_closure.specs.declared.endings.CallEnding.TheVariants as call
 
 module _ {D : Type 0} (grants : Grants D) where
   -- a retry with one run, which began at this moment and won
-  abbrev pub won_once : Schedule → D → ℕ → ℕ → Retrying D
-  won_once plan drawing moment code = record {
+  abbrev pub won_once : Schedule → Option ℕ → D → ℕ → ℕ → Retrying D
+  won_once plan deadline drawing moment code = record {
     past = record {
-      driver = record { plan = plan; journal = [] };
+      driver = unstepped plan;
+      deadline = deadline;
       runs = Won code ∷ [];
       begun = moment ∷ [];
       over = Some how.Won;
@@ -37,55 +38,54 @@ module _ {D : Type 0} (grants : Grants D) where
 
   -- Of a retry that has not begun this is what two polls leave, whatever their words: one begins a run at the moment,
   -- and in the other that run wins. It keeps the law of retries.
-  pub record WinsOnce (keeps : Bool) (plan : Schedule) (drawing : D) (moment code : ℕ) : Type 0 where
+  pub record WinsOnce (keeps : Bool) (plan : Schedule) (deadline : Option ℕ) (drawing : D)
+      (moment code : ℕ) : Type 0 where
     pub running : Retrying D
-    pub begins : (words : List ℕ) →
-        HostPoll grants (a_retry keeps) (unbegun grants plan drawing) (record { now = moment; words = words }) []
-        running
+    pub begins : (words : List ℕ) → HostPoll grants (a_retry keeps) (unbegun grants plan deadline drawing)
+        (record { now = moment; words = words }) [] running
     pub wins : (tick : Tick) →
-        HostPoll grants (a_retry keeps) running tick (Won code ∷ []) (won_once plan drawing moment code)
-    pub law : RetryLaw grants (a_retry keeps) (won_once plan drawing moment code)
+        HostPoll grants (a_retry keeps) running tick (Won code ∷ []) (won_once plan deadline drawing moment code)
+    pub law : RetryLaw grants (a_retry keeps) (won_once plan deadline drawing moment code)
 
-module _ {R D K C I F : Type 0} (stands : R → Driven → Type 0) (keeps : Bool) (goes_by : R → Schedule → Type 0)
-    (ends : R → Option ℕ) (grants : Grants D) (tells : K → ℕ → K → Type 0) (waits : K → ℕ → ℕ → K → Type 0)
-    (gives : C → Result I F → C → Type 0) (item_code : I → ℕ) (fault_code : F → ℕ) where
-  -- Each retry that the machine may stand for in the beginning, by a schedule that it may go by in the end, took these
-  -- turns, is over as the ending says, and is one that the machine may stand for in the end.
+module _ {R D K C I F : Type 0} (driving : Driving R) (grants : Grants D) (tells : K → ℕ → K → Type 0)
+    (waits : K → ℕ → ℕ → K → Type 0) (gives : C → Result I F → C → Type 0) (item_code : I → ℕ)
+    (fault_code : F → ℕ) where
+  -- Each retry that the machine may stand for in the beginning took these turns, is over as the ending says, and is one
+  -- that the machine may stand for in the end.
   pub record Goes (s n : Calling (Machine R D) K C (Result I F)) (ending : CallEnding I F) : Type 0 where
     pub ticks : List Tick
-    pub leads : (v : Retrying D) → StandsFor stands (a_retry keeps) grants s.task v →
-        goes_by n.task.driver v.past.driver.plan → (u : Retrying D)
-        × FoldsTo (Turn (task_turning grants (a_retry keeps) (ends s.task.driver)) tells waits gives item_code fault_code)
+    pub leads : (v : Retrying D) → IsMachineOf driving (a_retry driving.keeps) grants s.task v → (u : Retrying D)
+        × FoldsTo (Turn (task_turning grants (a_retry driving.keeps)) tells waits gives item_code fault_code)
         (calling v s.clock s.words s.call s.last) ticks (calling u n.clock n.words n.call n.last)
         × EndsWith item_code fault_code u.past.over u.past.runs (how_of ending) (gave ending)
-        × StandsFor stands (a_retry keeps) grants n.task u
-    -- it goes by no other schedules than in the beginning, and has the same deadline
-    pub narrows : (plan : Schedule) → goes_by n.task.driver plan → goes_by s.task.driver plan
-    pub deadline : ends n.task.driver ≡ ends s.task.driver
+        × IsMachineOf driving (a_retry driving.keeps) grants n.task u
+    -- it goes by its plan and its deadline from the beginning
+    pub begins : IsMachineOf driving (a_retry driving.keeps) grants s.task
+        (unbegun grants (driving.plan s.task.driver) (driving.ends s.task.driver) s.task.drawing)
+    pub deadline : driving.ends n.task.driver ≡ driving.ends s.task.driver
     -- it draws on the same budget as in the beginning
     pub budget : grants.name n.task.drawing ≡ grants.name s.task.drawing
 
 module _ {T D K C I F : Type 0} (grants : Grants D) (keeps : Bool) (tells : K → ℕ → K → Type 0)
     (waits : K → ℕ → ℕ → K → Type 0) (gives : C → Result I F → C → Type 0)
     (item_code : I → ℕ) (fault_code : F → ℕ) where
-  -- The first call succeeded: the clock was asked before it, no word was drawn and nothing made, and a retry that had not
-  -- begun won.
+  -- The first call succeeded: the clock was asked before it, no word was drawn and nothing made, and a retry that had
+  -- not begun won.
   pub record WonAtOnce (s n : Calling T K C (Result I F)) (item : I) : Type 0 where
     pub moment : ℕ
     pub told : tells s.clock moment n.clock
     pub words : n.words ≡ s.words
     pub nothing : n.task ≡ s.task
     pub calls : gives s.call (Ok item) n.call
-    pub wins : (plan : Schedule) (drawing : D) → grants.stands drawing →
-        WinsOnce grants keeps plan drawing moment (item_code item)
+    pub wins : (plan : Schedule) (deadline : Option ℕ) (drawing : D) → grants.stands drawing →
+        WinsOnce grants keeps plan deadline drawing moment (item_code item)
 
-  -- The first call failed, and nothing could be begun: two turns of each retry that had not begun, which they break,
-  -- with whichever deadline.
+  -- The first call failed, and nothing could be begun: two turns of each retry that had not begun, which they break.
   pub record BrokenAtOnce (s n : Calling T K C (Result I F)) (fault : F) : Type 0 where
     pub ticks : List Tick
-    pub breaks : (deadline : Option ℕ) (plan : Schedule) (drawing : D) → grants.stands drawing → (u : Retrying D)
-        × FoldsTo (Turn (task_turning grants (a_retry keeps) deadline) tells waits gives item_code fault_code)
-        (calling (unbegun grants plan drawing) s.clock s.words s.call None) ticks
+    pub breaks : (plan : Schedule) (deadline : Option ℕ) (drawing : D) → grants.stands drawing → (u : Retrying D)
+        × FoldsTo (Turn (task_turning grants (a_retry keeps)) tells waits gives item_code fault_code)
+        (calling (unbegun grants plan deadline drawing) s.clock s.words s.call None) ticks
         (calling u n.clock n.words n.call (Some (Err fault)))
         × EndsWith item_code fault_code u.past.over u.past.runs (how.Broken NoMemory) (Err fault)
         × RetryLaw grants (a_retry keeps) u

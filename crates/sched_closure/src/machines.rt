@@ -17,11 +17,11 @@ impl<S: Drives, D: Draws, A: Aims> Turns for Machine<S, D, A> {
 
     ghost ended = { λ m. m.over };
 
-    ghost turning = { machine_turning D.grants (A.kind S.keeps) S.stands S.goes_by S.ends };
+    ghost turning = { machine_turning D.grants (A.kind S.driving.keeps) S.driving };
 
     ghost has_run = { λ m. nat_lt 0 m.told };
 
-    ghost may_end = { EndsCalls (repeats (A.kind S.keeps)) };
+    ghost may_end = { EndsCalls (repeats (A.kind S.driving.keeps)) };
 
     fn next(&self) -> Next {
         Machine::next(self)

@@ -2,11 +2,10 @@
 ghost use Rattle.std.specs.Prelude.{◌≡◌, ℕ, List, Some, None};
 ghost use Rattle.std.specs.List.{FoldsTo};
 ghost use Rattle.sched_time.specs.declared.numbers.Tick.{Tick as Ticked};
-ghost use Rattle.sched_plan.specs.Schedule.{Schedule};
 ghost use Rattle.sched_ticket_draws.specs.Freely.{free_grants};
 ghost use Rattle.sched_task_law.specs.Kind.{a_repeat};
 ghost use Rattle.sched_run_machine.specs.Retrying.{Retrying};
-ghost use Rattle.sched_run_machine.specs.Machine.{begins, unbegun, StandsFor};
+ghost use Rattle.sched_run_machine.specs.Machine.{begins, unbegun, IsMachineOf};
 ghost use Rattle.sched_closure.specs.Turns.{calling, Turn};
 ghost use Rattle.sched_closure.specs.Calls.{task_turning};
 ghost use Rattle.sched_closure.specs.Endings.{how_of_repeat, gave_of_repeat, EndsWith};
@@ -26,8 +25,8 @@ use std::sync::Wait;
 /// The repeat's machine is made of this driver, and is answered beside the ending.
 ///
 /// Each run calls the closure once, and ends at the moment that the clock tells after the call: the schedule's delays
-/// count from there. The schedule is stepped with the code of each success. Where memory is refused or a journal is full
-/// at the end of a run that succeeded, the repeat ends as `Broken`, with that run's item.
+/// count from there. The schedule is stepped with the code of each success. Where memory is refused or a journal is
+/// full at the end of a run that succeeded, the repeat ends as `Broken`, with that run's item.
 ///
 /// With a deadline, by `Until` as its driver, each call but the first begins by the deadline. The repeat ends as
 /// `ScheduleDone` where the start planned is past it, and as `DeadlinePassed` where a wait goes past it.
@@ -46,22 +45,21 @@ where
     K: Clock,
     G: Rng,
     C: FnMut() -> Result<I, F>,
-    requires fresh { S.fresh driver }
+    requires fresh { S.driving.fresh driver }
     requires callable { C.IsAlwaysCallable call }
     ensures turns { (ticks : List Ticked) × (called : C)
-        × ((v : Retrying ℕ) → StandsFor S.stands (a_repeat S.keeps) free_grants (begins free_grants driver 0) v →
-        S.goes_by result.1.driver v.past.driver.plan → (u : Retrying ℕ)
-        × FoldsTo (Turn (task_turning free_grants (a_repeat S.keeps) (S.ends driver)) K.tells K.waits C.step
-        I.coded F.coded)
+        × ((v : Retrying ℕ) →
+        IsMachineOf S.driving (a_repeat S.driving.keeps) free_grants (begins free_grants driver 0) v →
+        (u : Retrying ℕ)
+        × FoldsTo (Turn (task_turning free_grants (a_repeat S.driving.keeps)) K.tells K.waits C.step I.coded F.coded)
         (calling v clock.old (G.stream words.old) call None)
         ticks
         (calling u clock.new (G.stream words.new) called (Some (gave_of_repeat result.0)))
         × EndsWith I.coded F.coded u.past.over u.past.runs (how_of_repeat result.0) (gave_of_repeat result.0)
-        × StandsFor S.stands (a_repeat S.keeps) free_grants result.1 u) }
-    ensures stands { (plan : Schedule) → S.goes_by driver plan →
-        StandsFor S.stands (a_repeat S.keeps) free_grants (begins free_grants driver 0) (unbegun free_grants plan 0) }
-    ensures narrows { (plan : Schedule) → S.goes_by result.1.driver plan → S.goes_by driver plan }
-    ensures deadline { S.ends result.1.driver ≡ S.ends driver }
+        × IsMachineOf S.driving (a_repeat S.driving.keeps) free_grants result.1 u) }
+    ensures stands { IsMachineOf S.driving (a_repeat S.driving.keeps) free_grants (begins free_grants driver 0)
+        (unbegun free_grants (S.driving.plan driver) (S.driving.ends driver) 0) }
+    ensures deadline { S.driving.ends result.1.driver ≡ S.driving.ends driver }
     ensures over { result.1.over ≡ Some (how_of_repeat result.0) }
 {
     let mut repeat = Machine::repeating(driver);

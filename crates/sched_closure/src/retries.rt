@@ -1,8 +1,7 @@
 //! A closure that is called until it succeeds.
 ghost use Rattle.std.specs.Prelude.{◌≡◌, [], Some, None, Ok, Err, IfOk, IfSome, IfNone, true};
-ghost use Rattle.sched_plan.specs.Schedule.{Schedule};
 ghost use Rattle.sched_task_law.specs.Kind.{a_retry};
-ghost use Rattle.sched_run_machine.specs.Machine.{begins, unbegun, StandsFor, PollsUntil};
+ghost use Rattle.sched_run_machine.specs.Machine.{begins, unbegun, IsMachineOf, PollsEach};
 ghost use Rattle.sched_closure.specs.Turns.{calling};
 ghost use Rattle.sched_closure.specs.Calls.{machine_turning};
 ghost use Rattle.sched_closure.specs.Begins.{Goes, EndsUnbegun};
@@ -22,12 +21,14 @@ use std::sync::Wait;
 /// Calls this closure until it succeeds, again after each failure as the retry's schedule says, with a ticket for each
 /// retry, and answers how that ended. Between two calls it waits by the clock.
 ///
-/// The retry's machine is made at the first failure, by `begin`, and is answered beside the ending. Where the first call
-/// succeeds there is none: the clock was asked once, for the moment at which that call began, and nothing else was done.
+/// The retry's machine is made at the first failure, by `begin`, and is answered beside the ending. Where the first
+/// call succeeds there is none: the clock was asked once, for the moment at which that call began, and nothing else was
+/// done.
 ///
 /// Each run calls the closure once, and ends at the moment that the clock tells after the call: the schedule's delays
 /// count from there. Where memory is refused or a journal is full at the end of a run that failed, the retry ends as
-/// `Broken`, with that run's fault; so it does where `begin` is refused memory.
+/// `Broken`, with that run's fault; so it does where `begin` is refused memory. No clause says that the clock is asked
+/// after the call and not before it, since neither knows of the other; tests do.
 ///
 /// With a deadline, by `Until` as the retry's driver, each call but the first begins by the deadline. The retry ends
 /// as `ScheduleDone` where the start planned is past it; the driver's `late_start` then tells that start. Where a wait
@@ -51,14 +52,14 @@ where
     C: FnMut() -> Result<I, F>,
     requires makes { B.IsAlwaysCallable begin.old }
     requires fresh { (alloc : _) (made : _) (after : B) → B.step begin.old alloc made after →
-        IfOk made (λ m. S.fresh m.0) }
+        IfOk made (λ m. S.driving.fresh m.0) }
     requires callable { C.IsAlwaysCallable call }
     ensures begun { IfSome result.1 (λ retry. (made : _) × (alloc : _) × B.step begin.old alloc (Ok made) begin.new
-        × (called : C) × Goes S.stands S.keeps S.goes_by S.ends D.grants K.tells K.waits C.step I.coded F.coded
+        × (called : C) × Goes S.driving D.grants K.tells K.waits C.step I.coded F.coded
         (calling (begins D.grants made.0 made.1) clock.old (G.stream words.old) call None)
         (calling retry clock.new (G.stream words.new) called (Some (gave result.0))) result.0) }
     ensures unbegun { IfNone result.1 ((called : C)
-        × EndsUnbegun D.grants S.keeps K.tells K.waits C.step I.coded F.coded
+        × EndsUnbegun D.grants S.driving.keeps K.tells K.waits C.step I.coded F.coded
         ((alloc : _) × (cause : _) × B.step begin.old alloc (Err cause) begin.new)
         (calling begin.old clock.old (G.stream words.old) call None)
         (calling begin.new clock.new (G.stream words.new) called (Some (gave result.0))) result.0) }
@@ -94,15 +95,15 @@ where
     C: FnMut() -> Result<I, F>,
     requires makes { B.IsAlwaysCallable begin.old }
     requires fresh { (alloc : _) (made : _) (after : B) → B.step begin.old alloc made after →
-        IfOk made (λ m. S.fresh m.0) }
+        IfOk made (λ m. S.driving.fresh m.0) }
     requires callable { C.IsAlwaysCallable call }
     ensures begun { (k : K) (c : C) → K.tells k first.0 clock.old → C.step c (Err first.1) call →
         IfSome result.1 (λ retry. (made : _) × (alloc : _) × B.step begin.old alloc (Ok made) begin.new
-        × (called : C) × Goes S.stands S.keeps S.goes_by S.ends D.grants K.tells K.waits C.step I.coded F.coded
+        × (called : C) × Goes S.driving D.grants K.tells K.waits C.step I.coded F.coded
         (calling (begins D.grants made.0 made.1) k (G.stream words.old) c None)
         (calling retry clock.new (G.stream words.new) called (Some (gave result.0))) result.0) }
     ensures unbegun { (k : K) (c : C) → K.tells k first.0 clock.old → C.step c (Err first.1) call →
-        IfNone result.1 ((called : C) × EndsUnbegun D.grants S.keeps K.tells K.waits C.step I.coded F.coded
+        IfNone result.1 ((called : C) × EndsUnbegun D.grants S.driving.keeps K.tells K.waits C.step I.coded F.coded
         ((alloc : _) × (cause : _) × B.step begin.old alloc (Err cause) begin.new)
         (calling begin.old k (G.stream words.old) c None)
         (calling begin.new clock.new (G.stream words.new) called (Some (gave result.0))) result.0) }
@@ -133,13 +134,13 @@ where
 
 // The machine of a retry whose first run began at the tick.
 fn begun<S: Drives, D: Draws>(driver: S, drawing: D, tick: &Tick) -> Machine<S, D>
-    requires { S.fresh driver }
-    ensures due { (machine_turning D.grants (a_retry S.keeps) S.stands S.goes_by S.ends).due
+    requires { S.driving.fresh driver }
+    ensures due { (machine_turning D.grants (a_retry S.driving.keeps) S.driving).due
         (begins D.grants driver drawing) None }
-    ensures stands { (s : Schedule) → S.goes_by driver s →
-        StandsFor S.stands (a_retry S.keeps) D.grants (begins D.grants driver drawing) (unbegun D.grants s drawing) }
+    ensures stands { IsMachineOf S.driving (a_retry S.driving.keeps) D.grants (begins D.grants driver drawing)
+        (unbegun D.grants (S.driving.plan driver) (S.driving.ends driver) drawing) }
     ensures begun { result ≡ record (begins D.grants driver drawing) { under_way = true } }
-    ensures polls { PollsUntil S.stands (a_retry S.keeps) S.goes_by D.grants S.ends
+    ensures polls { PollsEach S.driving (a_retry S.driving.keeps) D.grants
         (begins D.grants driver drawing) tick.entry.now [] result }
 {
     let mut retry = Machine::new(driver, drawing);

@@ -110,7 +110,7 @@ where
     B: FnMut(Global) -> Result<(S, D), NoMemory>,
     requires makes { B.IsAlwaysCallable begin.old }
     requires fresh { (alloc : _) (made : _) (after : B) → B.step begin.old alloc made after →
-        IfOk made (λ m. S.fresh m.0) }
+        IfOk made (λ m. S.driving.fresh m.0) }
 {
     let mut calls = 0u32;
     let (ending, retry) = retry_call(rt, begin, clock, &mut MidWords, || {
@@ -137,7 +137,7 @@ fn retried_by<S: Drives, D: Draws>(
     clock: &mut impl Clock,
     failures: u32,
 ) -> (Came, Machine<S, D>)
-    requires { S.fresh made.0 }
+    requires { S.driving.fresh made.0 }
 {
     let mut made = Some(made);
     let mut begin = |_: Global| made.take().ok_or(NoMemory);
@@ -151,7 +151,7 @@ fn repeated<S: Drives>(
     clock: &mut impl Clock,
     successes: u32,
 ) -> (Came, RepeatMachine<S>)
-    requires { S.fresh driver }
+    requires { S.driving.fresh driver }
 {
     let mut calls = 0u32;
     let (ending, repeat) = repeat_call(rt, driver, clock, &mut MidWords, || {

@@ -1,12 +1,12 @@
 -- What a stepper keeps of a plan's state, in either form.
-use Rattle.std.specs.Prelude.{◌≡◌, ℕ, false, List, [], length, Option, Some, None, IsTrue}
+use Rattle.std.specs.Prelude.{◌≡◌, ℕ, false, if◌then◌else◌, List, [], length, Option, Some, None, IfSome, IsTrue}
 use Rattle.sched_time.specs.declared.starts.Decision.{Decision}
 use Rattle.sched_plan.specs.Schedule.{Schedule}
 use Rattle.sched_plan.specs.Answer.{answer}
 use Rattle.sched_plan.specs.declared.history.Event.{Event}
 use Rattle.sched_step.specs.Progress.{Progress, fits}
 use Rattle.sched_step_flat.specs.Words.{width_of}
-use Rattle.sched_step_flat.specs.Record.{has_record}
+use Rattle.sched_step_flat.specs.Record.{has_record, record_after}
 use Rattle.sched_driver_stepper.specs.Standing.{Standing, words_after, tree_after}
 use Rattle.sched_driver_stepper.specs.declared.kept.Kept.{Kept}
 use Rattle.sched_driver_stepper.specs.declared.kept.Kept.TheVariants.{Flat, Tree}
@@ -32,6 +32,20 @@ pub record IsKeptAfter (s : Schedule) (h : List Event) (kept : Kept) : Type 0 wh
 abbrev pub KeptFits : Schedule → Kept → ℕ → Type 0
 KeptFits s (Flat words) now = IsTrue (has_record s) × (length words ≡ width_of s)
 KeptFits s (Tree tree) now = (has_record s ≡ false) × IsTrue (fits s tree now)
+
+-- it is what is kept before the first event, which may come at any moment
+pub record IsFirstKept (s : Schedule) (kept : Kept) : Type 0 where
+  pub value : IsKeptAfter s [] kept
+  pub fits_at : (now : ℕ) → KeptFits s kept now
+
+-- the record before the first event, where the schedule has one
+abbrev pub start_of : Schedule → Option (List ℕ)
+start_of s = if has_record s then Some (record_after s []) else None
+
+-- It is that record, of the schedule's width.
+pub record IsStart (s : Schedule) (start : Option (List ℕ)) : Type 0 where
+  pub is : start ≡ start_of s
+  pub wide : IfSome start (λ words. length words ≡ width_of s)
 
 -- what a step gives where this is the history with the step's event
 pub record KeptSteps (s : Schedule) (h : List Event) (kept : Kept) (decision : Decision) : Type 0 where

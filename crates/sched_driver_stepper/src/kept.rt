@@ -2,7 +2,7 @@ ghost use Rattle.std.specs.Prelude.{◌≡◌, ℕ, ◌≤◌, List, [], ◌∷�
 ghost use Rattle.sched_time.specs.declared.numbers.TheConstants.{FAR};
 ghost use Rattle.sched_plan.specs.declared.history.Event.{Event};
 ghost use Rattle.sched_step.specs.StateOf.{event_of};
-ghost use Rattle.sched_driver_stepper.specs.Kept.{IsKeptAfter, KeptFits, KeptSteps};
+ghost use Rattle.sched_driver_stepper.specs.Kept.{IsKeptAfter, IsFirstKept, KeptFits, KeptSteps};
 
 use sched_plan::{Plan, Val};
 use sched_step::{State, initial};
@@ -22,8 +22,7 @@ pub(crate) enum Kept {
 impl Kept {
     /// Before the first event. Fails only with `NoMemory`.
     pub(crate) fn new(alloc: Global, plan: &Plan) -> Result<Kept, NoMemory>
-        ensures value { IfOk result (λ kept. IsKeptAfter plan.now [] kept) }
-        ensures fits { IfOk result (λ kept. (now : ℕ) → KeptFits plan.now kept now) }
+        ensures { IfOk result (λ kept. IsFirstKept plan.now kept) }
     {
         if has_record(plan) {
             return Ok(Kept::Flat(Record::new(alloc, plan)?));

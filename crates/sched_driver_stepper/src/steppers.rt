@@ -40,6 +40,7 @@ impl Model for Stepper {
 }
 
 impl Stepper {
+    ghost use Rattle.sched_driver_stepper.specs.Kept.{IsFirstKept};
     ghost use Rattle.sched_driver_stepper.specs.Stepper.{Goes, Refuses, EndsEarly};
 
     /// A stepper of the plan before its first event. Fails only with `NoMemory`; the plan is then dropped.
@@ -54,12 +55,21 @@ impl Stepper {
         ensures { IfOk result (λ stepper. stepper ≡ standing_after plan []) }
     {
         let kept = Kept::new(alloc, plan.get())?;
-        Ok(Stepper {
+        Ok(Stepper::unstepped(plan, kept))
+    }
+
+    /// A stepper of the plan that keeps this, before its first event.
+    #[inline(always)]
+    pub(crate) fn unstepped(plan: SharedPlan, kept: Kept) -> Stepper
+        requires { IsFirstKept plan kept }
+        ensures { result ≡ standing_after plan [] }
+    {
+        Stepper {
             plan,
             kept,
             start: None,
             floor: Moment::new(0).unwrap(),
-        })
+        }
     }
 
     /// Gives the plan one more event, also after `Done`, and answers what it decides: the next start, or `Done`.

@@ -5,21 +5,19 @@ use Rattle.std.specs.Global.{Global}
 use Rattle.std_alloc.specs.declared.boxed.Box.{Box}
 use Rattle.sched_time.specs.declared.numbers.Tick.{Tick}
 use Rattle.sched_plan.specs.Schedule.{Schedule}
-use Rattle.sched_driver.specs.Driven.{next_start_of}
 use Rattle.sched_driver_stepper.specs.Standing.{Standing, standing_after}
 use Rattle.sched_effect.specs.declared.ran.Ran.{Ran}
 use Rattle.sched_task.specs.declared.endings.How.{How}
 use Rattle.sched_task.specs.declared.endings.How.TheVariants as how
 use Rattle.sched_task.specs.declared.endings.RunFault.TheVariants as fault
 use Rattle.sched_task_law.specs.Kind.{a_retry}
-use Rattle.sched_task_law.specs.Past.{Past, schedule_is_done}
+use Rattle.sched_task_law.specs.Past.{Past, schedule_is_done, next_start_by}
 use Rattle.sched_run_machine.specs.Retrying.{Retrying, gives_up}
-use Rattle.sched_run_machine.specs.Deadline.{is_past, late, until_from}
-use Rattle.sched_run_machine.specs.Drives.{IsStepped, GoesByPlan}
-use Rattle.sched_run_machine.specs.Machine.{Machine, begins, unbegun, is_told, cancelled, StandsFor, PollsUntil}
-use Rattle.sched_run_machine.specs.Machine.{PollsInTime, Polls as PollsMachine}
+use Rattle.sched_task_law.specs.Deadline.{is_past, late}
+use Rattle.sched_run_machine.specs.Drives.{Until, by_stepper, by_until}
+use Rattle.sched_run_machine.specs.Machine.{Machine, begins, unbegun, is_told, cancelled, IsMachineOf, PollsEach}
+use Rattle.sched_run_machine.specs.Machine.{PollsInTime}
 use Rattle.sched_run_machine.specs.Next.{next_of}
-use Rattle.sched_run_machine.specs.Until.{Until, unstepped_until, beneath, StandsUntil, GoesUntil}
 use Rattle.sched_ticket_draws.specs.Drawing.{drawing_grants}
 use Rattle.sched_ticket_draws.specs.declared.drawing.Drawing.{Drawing}
 use Rattle.sched_run_machine.specs.declared.next.Next.{Next}
@@ -37,9 +35,9 @@ use Rattle.sched_handle.specs.declared.status.Status.TheVariants.{WrongKind, NoM
 abbrev pub Hosted : Type 0
 Hosted = Machine (Until Standing) Drawing
 
--- it may stand for this retry, whose schedule is that of the deadline
+-- it may stand for this retry, by its policy and its deadline
 abbrev pub MayBe : Hosted → Retrying Drawing → Type 0
-MayBe m u = StandsFor (StandsUntil IsStepped) (a_retry false) drawing_grants m u
+MayBe m u = IsMachineOf (by_until by_stepper) (a_retry false) drawing_grants m u
 
 -- the number by which C knows how a retry ended: of one that is done, by its deadline or by its plan; the deadline also
 -- ended one whose next run would have begun past it
@@ -72,11 +70,11 @@ was_timed_out (Some how.DeadlinePassed) = true
 was_timed_out _ = false
 
 -- whether the plan of a retry, without its deadline, is done; and whether it has a start that is past the deadline
-abbrev pub plan_is_done : Option ℕ → Past → Bool
-plan_is_done deadline v = schedule_is_done (beneath deadline v.driver)
+abbrev pub plan_is_done : Past → Bool
+plan_is_done v = schedule_is_done None v.driver
 
 abbrev pub is_late : Option ℕ → Past → Bool
-is_late deadline v = is_some (late deadline (next_start_of (beneath deadline v.driver)))
+is_late deadline v = is_some (late deadline (next_start_by None v.driver))
 
 -- how long a retry has at a moment up to its deadline: 0 where that is past, and 2^64 - 1 without one
 abbrev pub left_number : Option ℕ → ℕ
@@ -98,15 +96,15 @@ pub record Shows (m : Hosted) (now : ℕ) (x : Reply) : Type 0 where
   pub stands : (u : Retrying Drawing) × MayBe m u
   pub tells : (u : Retrying Drawing) → MayBe m u → x ≡ reply_of m.driver.deadline now u.past
   pub in_time : x.what ≡ 2 → is_past m.driver.deadline x.until ≡ false
-  pub done : (u : Retrying Drawing) → MayBe m u → plan_is_done m.driver.deadline u.past ≡ nat_eq x.how 2
+  pub done : (u : Retrying Drawing) → MayBe m u → plan_is_done u.past ≡ nat_eq x.how 2
   pub late : (u : Retrying Drawing) → MayBe m u →
       (is_late m.driver.deadline u.past || was_timed_out u.past.over) ≡ nat_eq x.how 8
 
 -- A retry that has not begun, of this policy, with this deadline or none: the one that has done nothing yet is among
--- those that it may stand for, by the schedule that the deadline makes of the policy whichever the first step's moment.
+-- those that it may stand for.
 pub record IsUnbegun (plan : Schedule) (deadline : Option ℕ) (m : Hosted) : Type 0 where
-  pub begins_so : m ≡ begins drawing_grants (unstepped_until (standing_after plan []) deadline) m.drawing
-  pub stands : (first : ℕ) → MayBe m (unbegun drawing_grants (until_from first deadline plan) m.drawing)
+  pub begins_so : m ≡ begins drawing_grants (record { driver = standing_after plan []; deadline = deadline }) m.drawing
+  pub stands : MayBe m (unbegun drawing_grants plan deadline m.drawing)
 
 -- and one that draws by this
 abbrev pub IsFresh : Schedule → Option ℕ → Drawing → Held → Type 0
@@ -132,15 +130,14 @@ Retries deadline policy u r v = OtherKind u r v
 
 -- The run under way ends as it is reported: one poll of each retry that it may stand for. Its deadline stays.
 pub record IsReport (m : Hosted) (t : Tick) (ran : Ran) (n : Hosted) : Type 0 where
-  pub polls : PollsMachine (StandsUntil IsStepped) (a_retry false) (GoesUntil GoesByPlan) drawing_grants
-      m t (ran ∷ []) n
+  pub polls : PollsEach (by_until by_stepper) (a_retry false) drawing_grants m t (ran ∷ []) n
   pub deadline : n.driver.deadline ≡ m.driver.deadline
 
--- One poll of each retry that it may stand for, in which no run finishes, or the end by its deadline, which stays: past
--- that, no run begins but the first.
+-- One poll of each retry that it may stand for, in which no run finishes; its deadline stays. Past that, no run begins
+-- but the first.
 pub record IsPoll (m : Hosted) (t : Tick) (n : Hosted) : Type 0 where
-  pub polls : PollsUntil (StandsUntil IsStepped) (a_retry false) (GoesUntil GoesByPlan) drawing_grants
-      (λ v. v.deadline) m t [] n
+  pub polls : PollsEach (by_until by_stepper) (a_retry false) drawing_grants m t [] n
+  pub deadline : n.driver.deadline ≡ m.driver.deadline
   pub in_time : PollsInTime m.driver.deadline m t.now n
 
 -- the run under way ends as it is reported, and then one begins where it may

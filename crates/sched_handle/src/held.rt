@@ -4,8 +4,7 @@ ghost use Rattle.sched_handle.specs.Held.{kind_of};
 ghost use Rattle.sched_handle.specs.declared.status.Status.TheVariants as status;
 
 use crate::status::Status;
-use sched_driver_stepper::Stepper;
-use sched_plan::SharedPlan;
+use sched_driver_stepper::{Compiled, Stepper};
 use sched_run_machine::{Machine, Until};
 use sched_ticket_draws::Drawing;
 use sched_ticket_lease::Leased;
@@ -18,7 +17,7 @@ pub enum Held {
     /// Room for what is being made.
     Room,
     /// A policy, which other handles and retries may hold too.
-    Policy(SharedPlan),
+    Policy(Compiled),
     /// A pass, with what it draws on.
     Pass(Drawing),
     /// A retry, which keeps no journal, and has a deadline or none.
@@ -52,6 +51,7 @@ impl Held {
     }
 
     /// The same in a block of its own.
+    #[inline(always)]
     pub(crate) fn boxed(self, alloc: Global) -> Result<Box<Held>, Status>
         ensures ok { IfOk result (λ b. b.value ≡ self) }
         ensures err { IfErr result (λ s. s ≡ status.NoMemory) }
@@ -63,6 +63,7 @@ impl Held {
     }
 
     /// The same in the place of what is in this block.
+    #[inline(always)]
     pub(crate) fn within(self, mut room: Box<Held>) -> Box<Held>
         ensures { result.value ≡ self }
     {

@@ -178,16 +178,22 @@ impl Held {
     }
 
     /// Joins what another pass or a retry draws by into this pass. A retry ends so.
+    #[inline(always)]
     pub fn join(&mut self, other: Held)
         requires alike { draw_alike (drawing_of self.old) (drawing_of other) ≡ true }
         requires one { DrawOnOne (drawing_of self.old) (drawing_of other) }
         ensures { Joins (drawing_of self.old) (drawing_of other) self.new }
     {
-        let this = mem::replace(self, Held::Room);
-        let Some(this) = this.into_drawing() else {
+        let Some(other) = other.into_drawing() else {
             unreachable!()
         };
-        let Some(other) = other.into_drawing() else {
+        if let Held::Pass(pass) = self {
+            let this = mem::replace(pass, Drawing::Unlimited(Unlimited::new()));
+            drop(mem::replace(pass, this.join(other)));
+            return;
+        }
+        let this = mem::replace(self, Held::Room);
+        let Some(this) = this.into_drawing() else {
             unreachable!()
         };
         drop(mem::replace(self, Held::Pass(this.join(other))));
@@ -208,6 +214,7 @@ impl Held {
     }
 
     // The same, taken out of it.
+    #[inline(always)]
     fn into_drawing(self) -> Option<Drawing>
         ensures { result ≡ drawing_of self }
     {
@@ -230,6 +237,7 @@ impl Held {
     }
 
     // The pass to be changed, where it is one.
+    #[inline(always)]
     pub(crate) fn pass_mut(&mut self) -> Result<&mut Drawing, Status>
         ensures* lends { sem 𝓛 (LendsIfOk held_row drawing_row self.entry result what.Pass self.old) }
         ensures ok { IfOk result (λ pass. self.old ≡ what.Pass pass.now) }

@@ -9,7 +9,7 @@ ghost use Rattle.sched_handle.specs.declared.held.Kind.TheVariants as kind;
 use crate::held::Held;
 use crate::replies::{Place, Size};
 use crate::status::Status;
-use sched_driver_stepper::Stepper;
+use sched_driver_stepper::{Compiled, Stepper};
 use sched_plan::{Plan, SharedPlan};
 use sched_plan_bound::most_goes;
 use sched_plan_json::{TextFault, read_text};
@@ -41,14 +41,14 @@ impl Held {
     pub fn of_plan(alloc: Global, plan: Plan) -> Result<Box<Held>, Status>
         ensures { IsMade plan result }
     {
-        match SharedPlan::new(alloc, plan) {
+        match Compiled::new(alloc, plan) {
             Ok(plan) => Held::Policy(plan).boxed(alloc),
             Err(_) => Err(Status::NoMemory),
         }
     }
 
     // The policy, where it is one.
-    fn policy(&self) -> Result<&SharedPlan, Status>
+    fn policy(&self) -> Result<&Compiled, Status>
         ensures ok { IfOk result (λ plan. self.now ≡ what.Policy plan.now) }
         ensures err { IfErr result (IsOther kind.Policy self.now) }
     {
@@ -74,8 +74,10 @@ impl Held {
     pub fn shared(&self, alloc: Global) -> Result<Box<Held>, Status>
         ensures { Shares self.now result }
     {
-        let plan = self.plan()?;
-        Held::Policy(plan).boxed(alloc)
+        match self.policy()?.again() {
+            Ok(plan) => Held::Policy(plan).boxed(alloc),
+            Err(_) => Err(Status::NoMemory),
+        }
     }
 
     /// How many nodes the policy has, how deep it is, and at how many events it goes on at most.
@@ -99,13 +101,13 @@ impl Held {
     }
 
     /// What steps the policy and keeps no journal, before its first event.
+    #[inline(always)]
     pub(crate) fn stepper(&self, alloc: Global) -> Result<Stepper, Status>
         ensures ok { IfOk result
             (λ stepper. (self.now ≡ what.Policy stepper.plan) × (stepper ≡ standing_after stepper.plan [])) }
         ensures err { IfErr result (Wants kind.Policy self.now) }
     {
-        let plan = self.plan()?;
-        match Stepper::of_shared(alloc, plan) {
+        match self.policy()?.stepper(alloc) {
             Ok(stepper) => Ok(stepper),
             Err(_) => Err(Status::NoMemory),
         }

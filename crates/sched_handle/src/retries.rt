@@ -65,6 +65,7 @@ impl Held {
 }
 
 // A retry that has not begun.
+#[inline(always)]
 fn fresh(stepper: Stepper, deadline: Option<Moment>, drawing: Drawing) -> Held
     requires { stepper ≡ standing_after stepper.plan [] }
     ensures { IsFresh stepper.plan deadline drawing result }
@@ -95,6 +96,7 @@ fn poll_retry(
 }
 
 // Begins a run where one may begin, or ends the retry by its deadline, and answers what it is at then.
+#[inline(always)]
 fn poll_at(retry: &mut Machine<Until<Stepper>, Drawing>, tick: &Tick) -> Reply
     ensures polls { IsPoll retry.old tick.entry.now retry.new }
     ensures shows { Shows retry.new tick.entry.now.now result }

@@ -5,6 +5,7 @@ use Rattle.std.proofs.Common.{ltb-false, eq-eqb, ne_eqb}
 use Rattle.sched_limit_word.specs.Laws.{IsKeptBy, word_of}
 use Rattle.sched_limit_word.specs.declared.call.Call.{Call}
 use Rattle.sched_limit_word.specs.declared.call.Call.TheVariants.{Admit, Draw, Failed, Succeeded, Ended, Returned}
+use Rattle.sched_limit_word.specs.declared.call.Call.TheVariants.{Closed}
 use Rattle.sched_limit_word.proofs.Views.{what_is_kept_holds}
 use Rattle.sched_limit.specs.Word.{generation_of, count_of, won_of, admitted_of, at_of, trip_of, closed, tripped}
 use Rattle.sched_limit.specs.Word.{stamp_of}
@@ -94,14 +95,15 @@ module _ (b : Breaker) where
       (λ _. few_closed (generation_of w) 0)
 
   few_next : (c : Call) (w : ℕ) → has_few_probes b w ≡ true → has_few_probes b (breaker_next b c w) ≡ true
-  few_next (Admit now) w h = few_asked (since_start b now) w h
+  few_next (Admit now random before) w h = few_asked (since_start b now) w h
   few_next (Draw now cost slots) w h = few_asked (since_start b now) w h
   few_next (Failed now generation) w h = by_eq (λ (x : ℕ). has_few_probes b x ≡ true) generation (stamp_of w)
       (failed b (since_start b now) w) w (λ _. few_failed (since_start b now) w h) (λ _. h)
-  few_next (Succeeded generation worth) w h = by_eq (λ (x : ℕ). has_few_probes b x ≡ true) generation (stamp_of w)
+  few_next (Succeeded now generation worth) w h = by_eq (λ (x : ℕ). has_few_probes b x ≡ true) generation (stamp_of w)
       (succeeded b w) w (λ _. few_after w h) (λ _. h)
   few_next (Ended slots) w h = h
   few_next (Returned cost) w h = h
+  few_next (Closed now) w h = h
 
   kept_few : IsKeptBy (breaker_next b) 0 (has_few_probes b)
   kept_few = (refl, few_next)
@@ -150,32 +152,34 @@ module _ (b : Breaker) where
       (and_no_left (w % 2 == 1) (admitted_of w == 0) (ne_eqb (w % 2) 1 even)))
 
   open_kept : (c : Call) (w : ℕ) → is_kept_open b c w (breaker_next b c w) ≡ true
-  open_kept (Admit now) w = asked_kept (since_start b now) w
+  open_kept (Admit now random before) w = asked_kept (since_start b now) w
   open_kept (Draw now cost slots) w = asked_kept (since_start b now) w
   open_kept (Failed now generation) w =
       by_eq (λ (x : ℕ). cond ((w % 2 == 1) && (admitted_of w == 0)) ((x == w) || false) true ≡ true) generation
       (stamp_of w) (failed b (since_start b now) w) w
       (λ _. failed_kept (since_start b now) w) (λ _. same_kept false w)
-  open_kept (Succeeded generation worth) w =
+  open_kept (Succeeded now generation worth) w =
       by_eq (λ (x : ℕ). cond ((w % 2 == 1) && (admitted_of w == 0)) ((x == w) || false) true ≡ true) generation
       (stamp_of w) (succeeded b w) w
       (λ _. succeeded_kept w) (λ _. same_kept false w)
   open_kept (Ended slots) w = same_kept false w
   open_kept (Returned cost) w = same_kept false w
+  open_kept (Closed now) w = same_kept false w
 
   late_same : (c : Call) (w : ℕ) → is_of_now c w (breaker_next b c w) ≡ true
-  late_same (Admit now) w = refl
+  late_same (Admit now random before) w = refl
   late_same (Draw now cost slots) w = refl
   late_same (Failed now generation) w = by_eq (λ (x : ℕ). ((x == w) || (generation == stamp_of w)) ≡ true) generation
       (stamp_of w) (failed b (since_start b now) w) w
       (λ e. or_right _ (generation == stamp_of w) (eq-eqb generation (stamp_of w) e))
       (λ _. or_left (w == w) _ (eq-eqb w w refl))
-  late_same (Succeeded generation worth) w =
+  late_same (Succeeded now generation worth) w =
       by_eq (λ (x : ℕ). ((x == w) || (generation == stamp_of w)) ≡ true) generation (stamp_of w) (succeeded b w) w
       (λ e. or_right _ (generation == stamp_of w) (eq-eqb generation (stamp_of w) e))
       (λ _. or_left (w == w) _ (eq-eqb w w refl))
   late_same (Ended slots) w = refl
   late_same (Returned cost) w = refl
+  late_same (Closed now) w = refl
 
   -- a breaker that is left as it is was not tripped
   as_it_was : (z : Bool) (w : ℕ) → ((w % 2 == 1) || (not (w % 2 == 1) || z)) ≡ true
@@ -186,7 +190,7 @@ module _ (b : Breaker) where
       (λ odd. or_left (w % 2 == 1) _ (eq-eqb (w % 2) 1 odd)) (λ _. as_it_was false w)
 
   trips : (c : Call) (w : ℕ) → trips_late b c w (breaker_next b c w) ≡ true
-  trips (Admit now) w = asked_trips (since_start b now) w
+  trips (Admit now random before) w = asked_trips (since_start b now) w
   trips (Draw now cost slots) w = asked_trips (since_start b now) w
   trips (Failed now generation) w =
       let z : Bool = leb b.failures (count_of w + 1) in
@@ -200,7 +204,7 @@ module _ (b : Breaker) where
       (λ _. or_right (w % 2 == 1) _ (or_left _ z (closed_not_odd (generation_of w) (count_of w + 1))))
       (λ last. or_right (w % 2 == 1) _ (or_right _ z (le-leb b.failures (count_of w + 1) last)))))
       (λ _. as_it_was z w)
-  trips (Succeeded generation worth) w =
+  trips (Succeeded now generation worth) w =
       by_eq (λ (x : ℕ). ((w % 2 == 1) || (not (x % 2 == 1) || false)) ≡ true) generation (stamp_of w) (succeeded b w) w
       (λ _. by_eq (λ (x : ℕ). ((w % 2 == 1) || (not (x % 2 == 1) || false)) ≡ true) (w % 2) 1 (succeeded_tripped b w)
       (closed (generation_of w) 0)
@@ -209,6 +213,7 @@ module _ (b : Breaker) where
       (λ _. as_it_was false w)
   trips (Ended slots) w = as_it_was false w
   trips (Returned cost) w = as_it_was false w
+  trips (Closed now) w = as_it_was false w
 
 pub probes_are_few : ProbesAreFew
 probes_are_few b s kept = (what_is_kept_holds (breaker_next b) 0 s kept (has_few_probes b) (kept_few b)).0

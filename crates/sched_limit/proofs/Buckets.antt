@@ -7,6 +7,7 @@ use Rattle.sched_limit_word.specs.Rule.{moves_of}
 use Rattle.sched_limit_word.specs.Laws.{IsKeptBy, word_of}
 use Rattle.sched_limit_word.specs.declared.call.Call.{Call}
 use Rattle.sched_limit_word.specs.declared.call.Call.TheVariants.{Admit, Draw, Failed, Succeeded, Ended, Returned}
+use Rattle.sched_limit_word.specs.declared.call.Call.TheVariants.{Closed}
 use Rattle.sched_limit_word.specs.declared.view.Move.{Move}
 use Rattle.sched_limit_word.specs.declared.view.View.{View}
 use Rattle.sched_limit_word.proofs.Views.{what_is_kept_holds, sums_telescope}
@@ -18,13 +19,14 @@ use Rattle.sched_limit.proofs.Cases.{by_lt, or_left, or_right, and_both, each_is
 
 module _ (b : Bucket) where
   next_le : (c : Call) (w : ℕ) → w ≤ b.capacity → bucket_next b c w ≤ b.capacity
-  next_le (Admit now) w h = h
+  next_le (Admit now random before) w h = h
   next_le (Draw now cost slots) w h =
       by_lt (λ (x : ℕ). x ≤ b.capacity) w (b.floor + cost) w (w - cost) (λ _. h) (λ _. omega (arith, h))
   next_le (Failed now generation) w h = omega (arith, h)
-  next_le (Succeeded generation worth) w h = omega arith
+  next_le (Succeeded now generation worth) w h = omega arith
   next_le (Ended slots) w h = h
   next_le (Returned cost) w h = omega arith
+  next_le (Closed now) w h = h
 
   kept_within : IsKeptBy (bucket_next b) b.capacity (λ (w : ℕ). leb w b.capacity)
   kept_within = (
@@ -36,16 +38,17 @@ module _ (b : Bucket) where
   balanced : (c : Call) (w : ℕ) → w ≤ b.capacity
       → bucket_next b c w + (granted c w (bucket_next b c w) + debited c w (bucket_next b c w))
       ≡ w + credited c w (bucket_next b c w)
-  balanced (Admit now) w h = omega arith
+  balanced (Admit now random before) w h = omega arith
   balanced (Draw now cost slots) w h = by_lt (λ (x : ℕ). x + ((w - x) + 0) ≡ w + 0) w (b.floor + cost) w (w - cost)
       (λ _. omega arith) (λ _. omega arith)
   balanced (Failed now generation) w h = omega arith
-  balanced (Succeeded generation worth) w h = omega (arith, h)
+  balanced (Succeeded now generation worth) w h = omega (arith, h)
   balanced (Ended slots) w h = omega arith
   balanced (Returned cost) w h = omega (arith, h)
+  balanced (Closed now) w h = omega arith
 
   above : (c : Call) (w : ℕ) → is_above b c w (bucket_next b c w) ≡ true
-  above (Admit now) w = refl
+  above (Admit now random before) w = refl
   above (Draw now cost slots) w =
       by_lt (λ (x : ℕ). ((x == w) || ((x + cost == w) && leb b.floor x)) ≡ true) w (b.floor + cost) w (w - cost)
       (λ _. or_left (w == w) ((w + cost == w) && leb b.floor w) (eq-eqb w w refl))
@@ -53,9 +56,10 @@ module _ (b : Bucket) where
       (and_both (w - cost + cost == w) (leb b.floor (w - cost)) (eq-eqb (w - cost + cost) w (omega (arith, high)))
       (le-leb b.floor (w - cost) (omega (arith, high)))))
   above (Failed now generation) w = refl
-  above (Succeeded generation worth) w = refl
+  above (Succeeded now generation worth) w = refl
   above (Ended slots) w = refl
   above (Returned cost) w = refl
+  above (Closed now) w = refl
 
 -- what two kinds of moves weigh together
 moves_plus : (f g : Move → ℕ) (views : List View)

@@ -4,6 +4,7 @@ use Rattle.std.proofs.Common.{ap, subst, sym, arith, le-leb, eq-eqb}
 use Rattle.sched_limit_word.specs.Laws.{IsKeptBy, word_of}
 use Rattle.sched_limit_word.specs.declared.call.Call.{Call}
 use Rattle.sched_limit_word.specs.declared.call.Call.TheVariants.{Admit, Draw, Failed, Succeeded, Ended, Returned}
+use Rattle.sched_limit_word.specs.declared.call.Call.TheVariants.{Closed}
 use Rattle.sched_limit_word.specs.declared.view.Move.{Move}
 use Rattle.sched_limit_word.proofs.Views.{sums_telescope}
 use Rattle.sched_limit.specs.InFlight.{flight_next, requests_of, retries_of, bound}
@@ -41,7 +42,7 @@ module _ (k : InFlight) where
       (le-leb (r + 1) (bound k q) (omega (arith, room)))))
 
   within : (c : Call) (w : ℕ) → is_within k c w (flight_next k c w) ≡ true
-  within (Admit now) w = refl
+  within (Admit now random before) w = refl
   within (Draw now cost slots) w =
       let q : ℕ = requests_of w in
       let r : ℕ = retries_of w - slots in
@@ -52,9 +53,10 @@ module _ (k : InFlight) where
       (leb (retries_of (q * 4294967296 + r)) (bound k (requests_of (q * 4294967296 + r))))
       (eq-eqb (retries_of (q * 4294967296 + r)) r (retries_laid q r (omega arith))))
   within (Failed now generation) w = refl
-  within (Succeeded generation worth) w = refl
+  within (Succeeded now generation worth) w = refl
   within (Ended slots) w = refl
   within (Returned cost) w = refl
+  within (Closed now) w = refl
 
 difference : (a b : ℕ) → a + (b - a) ≡ b + (a - b)
 difference a b = omega arith

@@ -3,3 +3,4 @@ pub mod Cases
 pub mod Buckets
 pub mod Flights
 pub mod Breakers
+pub mod Throttles

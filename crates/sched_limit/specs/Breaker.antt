@@ -3,6 +3,7 @@ use Rattle.std.specs.Prelude.{ℕ, ◌+◌, ◌-◌, ◌%◌, ◌==◌, ◌&&◌
 use Rattle.std.specs.Prelude.{Option, Some, None}
 use Rattle.sched_limit_word.specs.declared.call.Call.{Call}
 use Rattle.sched_limit_word.specs.declared.call.Call.TheVariants.{Admit, Draw, Failed, Succeeded, Ended, Returned}
+use Rattle.sched_limit_word.specs.declared.call.Call.TheVariants.{Closed}
 use Rattle.sched_limit.specs.Word.{generation_of, count_of, won_of, admitted_of, at_of, trip_of, closed, tripped}
 use Rattle.sched_limit.specs.Word.{stamp_of}
 use Rattle.sched_limit.specs.declared.refusal.Refusal.{Refusal}
@@ -82,13 +83,14 @@ abbrev pub succeeded : Breaker → ℕ → ℕ
 succeeded b word = if word % 2 == 1 then succeeded_tripped b word else closed (generation_of word) 0
 
 abbrev pub breaker_next : Breaker → Call → ℕ → ℕ
-breaker_next b (Admit now) word = asked b (since_start b now) word
+breaker_next b (Admit now random before) word = asked b (since_start b now) word
 breaker_next b (Draw now cost slots) word = asked b (since_start b now) word
 breaker_next b (Failed now generation) word =
     if generation == stamp_of word then failed b (since_start b now) word else word
-breaker_next b (Succeeded generation worth) word = if generation == stamp_of word then succeeded b word else word
+breaker_next b (Succeeded now generation worth) word = if generation == stamp_of word then succeeded b word else word
 breaker_next b (Ended slots) word = word
 breaker_next b (Returned cost) word = word
+breaker_next b (Closed now) word = word
 
 abbrev pub refused_tripped : Breaker → ℕ → ℕ → Option Refusal
 refused_tripped b at word =
@@ -99,9 +101,10 @@ abbrev pub refused : Breaker → ℕ → ℕ → Option Refusal
 refused b at word = if word % 2 == 1 then refused_tripped b at word else None
 
 abbrev pub breaker_refusal : Breaker → Call → ℕ → Option Refusal
-breaker_refusal b (Admit now) word = refused b (since_start b now) word
+breaker_refusal b (Admit now random before) word = refused b (since_start b now) word
 breaker_refusal b (Draw now cost slots) word = refused b (since_start b now) word
 breaker_refusal b (Failed now generation) word = None
-breaker_refusal b (Succeeded generation worth) word = None
+breaker_refusal b (Succeeded now generation worth) word = None
 breaker_refusal b (Ended slots) word = None
 breaker_refusal b (Returned cost) word = None
+breaker_refusal b (Closed now) word = None

@@ -2,6 +2,7 @@
 use Rattle.std.specs.Prelude.{◌≡◌, ℕ, ◌+◌, ◌-◌, ◌*◌, ◌≤◌, min, true, false, if◌then◌else◌, nat_lt, Option, Some, None}
 use Rattle.sched_limit_word.specs.declared.call.Call.{Call}
 use Rattle.sched_limit_word.specs.declared.call.Call.TheVariants.{Admit, Draw, Failed, Succeeded, Ended, Returned}
+use Rattle.sched_limit_word.specs.declared.call.Call.TheVariants.{Closed}
 use Rattle.sched_limit.specs.declared.refusal.Refusal.{Refusal}
 use Rattle.sched_limit.specs.declared.refusal.Refusal.TheVariants.{LevelLow}
 use Rattle.sched_limit.specs.declared.bucket.Bucket.{Bucket}
@@ -26,20 +27,22 @@ abbrev pub drawn : Bucket → ℕ → ℕ → ℕ
 drawn b cost level = if nat_lt level (b.floor + cost) then level else level - cost
 
 abbrev pub bucket_next : Bucket → Call → ℕ → ℕ
-bucket_next b (Admit now) level = level
+bucket_next b (Admit now random before) level = level
 bucket_next b (Draw now cost slots) level = drawn b cost level
 bucket_next b (Failed now generation) level = level - b.debit
-bucket_next b (Succeeded generation worth) level = min (level + worth) b.capacity
+bucket_next b (Succeeded now generation worth) level = min (level + worth) b.capacity
 bucket_next b (Ended slots) level = level
 bucket_next b (Returned cost) level = min (level + cost) b.capacity
+bucket_next b (Closed now) level = level
 
 abbrev pub bucket_refusal : Bucket → Call → ℕ → Option Refusal
-bucket_refusal b (Admit now) level = None
+bucket_refusal b (Admit now random before) level = None
 bucket_refusal b (Draw now cost slots) level = if nat_lt level (b.floor + cost) then Some (LevelLow level) else None
 bucket_refusal b (Failed now generation) level = None
-bucket_refusal b (Succeeded generation worth) level = None
+bucket_refusal b (Succeeded now generation worth) level = None
 bucket_refusal b (Ended slots) level = None
 bucket_refusal b (Returned cost) level = None
+bucket_refusal b (Closed now) level = None
 
 -- a success gives the credit, or with refund what the last granted draw of its request took
 abbrev pub bucket_worth : Bucket → Option ℕ → ℕ

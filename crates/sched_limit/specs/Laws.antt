@@ -1,5 +1,5 @@
 -- What holds of each limit between any two atomic steps. Each law is the contract of a function of the module `laws`.
-use Rattle.std.specs.Prelude.{◌≡◌, ℕ, ◌+◌, ◌-◌, ◌≤◌, ◌%◌, ◌==◌, ◌&&◌, ◌||◌, not, Bool, true, false, if◌then◌else◌}
+use Rattle.std.specs.Prelude.{◌≡◌, ℕ, ◌+◌, ◌-◌, ◌≤◌, ◌%◌, ◌==◌, ◌&&◌, ◌||◌, not, Bool, true, false, min, if◌then◌else◌}
 use Rattle.std.specs.Prelude.{nat_lt, nat_le}
 use mathlib.Core.Option.{some}
 use lib.ListN.{get_elem?}
@@ -9,6 +9,7 @@ use Rattle.sched_limit_word.specs.Rule.{Next, moves_of, IsKept}
 use Rattle.sched_limit_word.specs.Laws.{word_of}
 use Rattle.sched_limit_word.specs.declared.call.Call.{Call}
 use Rattle.sched_limit_word.specs.declared.call.Call.TheVariants.{Admit, Draw, Failed, Succeeded, Ended, Returned}
+use Rattle.sched_limit_word.specs.declared.call.Call.TheVariants.{Closed}
 use Rattle.sched_limit_word.specs.declared.view.Move.{Move}
 use Rattle.sched_limit_word.specs.declared.view.View.{View}
 use Rattle.sched_limit.specs.Bucket.{bucket_next}
@@ -17,7 +18,10 @@ use Rattle.sched_limit.specs.Word.{count_of, admitted_of, at_of, stamp_of}
 use Rattle.sched_limit.specs.Breaker.{breaker_next, since_start}
 use Rattle.sched_limit.specs.declared.bucket.Bucket.{Bucket}
 use Rattle.sched_limit.specs.declared.in_flight.InFlight.{InFlight}
+use Rattle.sched_limit.specs.Window.{window_of, is_closed, requests_in, accepts_in, requests_at, accepts_at}
+use Rattle.sched_limit.specs.Throttle.{throttle_next}
 use Rattle.sched_limit.specs.declared.breaker.Breaker.{Breaker}
+use Rattle.sched_limit.specs.declared.throttle.Throttle.{Throttle}
 
 -- each move of each pass of this machine is so
 abbrev pub EachMove : Next → ℕ → (Call → ℕ → ℕ → Bool) → Type 0
@@ -38,7 +42,7 @@ debited (Failed now generation) found left = found - left
 debited call found left = 0
 
 abbrev pub credited : Call → ℕ → ℕ → ℕ
-credited (Succeeded generation worth) found left = left - found
+credited (Succeeded now generation worth) found left = left - found
 credited (Returned cost) found left = left - found
 credited call found left = 0
 
@@ -86,7 +90,7 @@ ProbesAreFew = (b : Breaker) (s : State Call View) → IsKept (breaker_next b) 0
 
 -- an open breaker is left by one that asks at the end of its time or later, and by none else
 abbrev pub stays_open : Breaker → Call → ℕ → ℕ → Bool
-stays_open b (Admit now) found left = nat_le (at_of found) (since_start b now)
+stays_open b (Admit now random before) found left = nat_le (at_of found) (since_start b now)
 stays_open b (Draw now cost slots) found left = nat_le (at_of found) (since_start b now)
 stays_open b call found left = false
 
@@ -100,7 +104,7 @@ OpenIsKept = (b : Breaker) → EachMove (breaker_next b) 0 (is_kept_open b)
 -- what is told of a run of another generation changes nothing
 abbrev pub is_of_now : Call → ℕ → ℕ → Bool
 is_of_now (Failed now generation) found left = (left == found) || (generation == stamp_of found)
-is_of_now (Succeeded generation worth) found left = (left == found) || (generation == stamp_of found)
+is_of_now (Succeeded now generation worth) found left = (left == found) || (generation == stamp_of found)
 is_of_now call found left = true
 
 abbrev pub LateResultsChangeNothing : Type 0
@@ -116,3 +120,32 @@ trips_late b call found left = (found % 2 == 1) || (not (left % 2 == 1) || is_la
 
 abbrev pub OpensAfterFailures : Type 0
 OpensAfterFailures = (b : Breaker) → EachMove (breaker_next b) 0 (trips_late b)
+
+-- a throttle's word is left for a later window, or in an open window: one that is closed counts no more
+abbrev pub is_forward : Call → ℕ → ℕ → Bool
+is_forward call found left =
+    (left == found)
+    || (nat_lt (window_of found) (window_of left) || ((window_of found == window_of left) && not (is_closed found)))
+
+abbrev pub ClosedIsFinal : Type 0
+ClosedIsFinal = (t : Throttle) → EachMove (throttle_next t) 0 is_forward
+
+-- one that asks is one more request of its window, and a success one more accept, up to the most that are counted; and
+-- what closes a window changes neither
+abbrev pub counts_as : Call → ℕ → ℕ → ℕ
+counts_as (Admit now random before) requests accepts = min (requests + 1) 1048575
+counts_as call requests accepts = requests
+
+abbrev pub accepts_as : Call → ℕ → ℕ → ℕ
+accepts_as (Succeeded now generation worth) requests accepts = min (accepts + 1) 1048575
+accepts_as call requests accepts = accepts
+
+abbrev pub is_counted : Call → ℕ → ℕ → Bool
+is_counted call found left =
+    let window = window_of left in
+    (left == found)
+    || ((requests_in left == counts_as call (requests_at window found) (accepts_at window found))
+    && (accepts_in left == accepts_as call (requests_at window found) (accepts_at window found)))
+
+abbrev pub EachIsCounted : Type 0
+EachIsCounted = (t : Throttle) → EachMove (throttle_next t) 0 is_counted

@@ -4,3 +4,5 @@ pub mod InFlight
 pub mod Word
 pub mod Breaker
 pub mod Laws
+pub mod Window
+pub mod Throttle

@@ -262,7 +262,7 @@ impl Machine for Breaker {
 
     fn next(&self, call: Call, word: u64) -> u64 {
         match call {
-            Call::Admit(now) => self.asked(self.since_start(now), word),
+            Call::Admit(now, _, _) => self.asked(self.since_start(now), word),
             Call::Draw(now, _, _) => self.asked(self.since_start(now), word),
             Call::Failed(now, generation) => {
                 if generation == stamp_of(word) {
@@ -271,7 +271,7 @@ impl Machine for Breaker {
                     word
                 }
             }
-            Call::Succeeded(generation, _) => {
+            Call::Succeeded(_, generation, _) => {
                 if generation == stamp_of(word) {
                     self.succeeded(word)
                 } else {
@@ -280,6 +280,7 @@ impl Machine for Breaker {
             }
             Call::Ended(_) => word,
             Call::Returned(_) => word,
+            Call::Closed(_) => word,
         }
     }
 }
@@ -296,12 +297,13 @@ impl Refuses for Breaker {
 
     fn refusal(&self, call: Call, word: u64) -> Option<Refusal> {
         match call {
-            Call::Admit(now) => self.refused(self.since_start(now), word),
+            Call::Admit(now, _, _) => self.refused(self.since_start(now), word),
             Call::Draw(now, _, _) => self.refused(self.since_start(now), word),
             Call::Failed(_, _) => None,
-            Call::Succeeded(_, _) => None,
+            Call::Succeeded(_, _, _) => None,
             Call::Ended(_) => None,
             Call::Returned(_) => None,
+            Call::Closed(_) => None,
         }
     }
 

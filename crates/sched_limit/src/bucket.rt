@@ -109,10 +109,11 @@ impl Machine for Bucket {
         match call {
             Call::Draw(_, cost, _) => self.drawn(cost, level),
             Call::Failed(_, _) => level.saturating_sub(self.debit),
-            Call::Succeeded(_, worth) => level.saturating_add(worth).min(self.capacity),
+            Call::Succeeded(_, _, worth) => level.saturating_add(worth).min(self.capacity),
             Call::Returned(cost) => level.saturating_add(cost).min(self.capacity),
-            Call::Admit(_) => level,
+            Call::Admit(_, _, _) => level,
             Call::Ended(_) => level,
+            Call::Closed(_) => level,
         }
     }
 }
@@ -136,10 +137,11 @@ impl Refuses for Bucket {
                 }
             }
             Call::Failed(_, _) => None,
-            Call::Succeeded(_, _) => None,
+            Call::Succeeded(_, _, _) => None,
             Call::Returned(_) => None,
-            Call::Admit(_) => None,
+            Call::Admit(_, _, _) => None,
             Call::Ended(_) => None,
+            Call::Closed(_) => None,
         }
     }
 

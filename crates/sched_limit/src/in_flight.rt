@@ -71,7 +71,7 @@ impl Machine for InFlight {
         let requests = word / REQUEST;
         let retries = word % REQUEST;
         match call {
-            Call::Admit(_) => {
+            Call::Admit(_, _, _) => {
                 if requests < MOST {
                     word + REQUEST
                 } else {
@@ -83,8 +83,9 @@ impl Machine for InFlight {
                 requests.saturating_sub(1) * REQUEST + retries.saturating_sub(slots)
             }
             Call::Failed(_, _) => word,
-            Call::Succeeded(_, _) => word,
+            Call::Succeeded(_, _, _) => word,
             Call::Returned(_) => word,
+            Call::Closed(_) => word,
         }
     }
 }
@@ -102,7 +103,7 @@ impl Refuses for InFlight {
         let requests = word / REQUEST;
         let retries = word % REQUEST;
         match call {
-            Call::Admit(_) => {
+            Call::Admit(_, _, _) => {
                 if requests < MOST {
                     None
                 } else {
@@ -118,8 +119,9 @@ impl Refuses for InFlight {
             }
             Call::Ended(_) => None,
             Call::Failed(_, _) => None,
-            Call::Succeeded(_, _) => None,
+            Call::Succeeded(_, _, _) => None,
             Call::Returned(_) => None,
+            Call::Closed(_) => None,
         }
     }
 

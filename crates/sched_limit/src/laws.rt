@@ -3,6 +3,7 @@
 ghost use Rattle.sched_limit.specs.Laws.{LevelStaysWithin, TokensAreCounted, GrantsLeaveTheFloor};
 ghost use Rattle.sched_limit.specs.Laws.{GrantsAreWithinTheBound, RequestsAreCounted};
 ghost use Rattle.sched_limit.specs.Laws.{ProbesAreFew, OpenIsKept, LateResultsChangeNothing, OpensAfterFailures};
+ghost use Rattle.sched_limit.specs.Laws.{ClosedIsFinal, EachIsCounted};
 
 /// A bucket's level is at most its capacity; what it was and what came in is what went out and what is left; and each
 /// draw left at least the floor.
@@ -26,4 +27,10 @@ pub fn breakers_hold()
     ensures open { OpenIsKept }
     ensures late { LateResultsChangeNothing }
     ensures failures { OpensAfterFailures }
+{}
+
+/// A throttle counts each request and each accept once, in its window, and what a closed window counted is final.
+pub fn windows_are_counted()
+    ensures closed { ClosedIsFinal }
+    ensures counted { EachIsCounted }
 {}

@@ -10,6 +10,9 @@ mod in_flight;
 pub mod laws;
 mod refusal;
 mod refuses;
+mod throttle;
+mod throttle_machine;
+mod window;
 mod word;
 
 pub use breaker::{Breaker, MAX_PROBES, MAX_TRIPS};
@@ -17,3 +20,5 @@ pub use bucket::{Bucket, MAX_CAPACITY};
 pub use in_flight::InFlight;
 pub use refusal::Refusal;
 pub use refuses::Refuses;
+pub use throttle::Throttle;
+pub use window::MAX_COUNT;

@@ -15,6 +15,10 @@ pub enum Refusal {
     Open(Moment),
     /// The breaker has as many probes out as it admits.
     Probing,
+    /// The throttle refuses it, since too few of the latest requests were accepted.
+    Throttled,
     /// Other calls came first, 64 times.
     RacesLost,
+    /// A request is admitted once, before it draws, and the next one after it has ended.
+    OutOfTurn,
 }

@@ -7,6 +7,7 @@ use std::process::Abort;
 mod breakers;
 mod buckets;
 mod flights;
+mod throttles;
 
 fn at(millis: u64) -> Moment {
     match Moment::new(millis.min(FAR)) {

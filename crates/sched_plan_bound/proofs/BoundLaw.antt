@@ -16,12 +16,10 @@ use Rattle.sched_plan.specs.Gates.{is_wanted, passes, tested}
 use Rattle.sched_plan.specs.Answer.{answer, changed, combined, leaf_decision, go_after, meet_decisions, join_decisions}
 use Rattle.sched_plan.specs.Answer.{follow_answer, crossing, from_end_of}
 use Rattle.sched_plan.specs.declared.leaves.Leaf.{Leaf}
-use Rattle.sched_plan.specs.declared.leaves.Leaf.TheVariants.{Forever, Recurs, Spaced, Fixed, Windowed, Linear}
-use Rattle.sched_plan.specs.declared.leaves.Leaf.TheVariants.{Exponential, ExponentialMilli, Fibonacci, Decorrelated}
-use Rattle.sched_plan.specs.declared.leaves.Leaf.TheVariants.{Elapsed, Identity, Unfold, Lone}
+use Rattle.sched_plan.specs.declared.leaves.Leaf.TheVariants.{Recurs, Lone}
 use Rattle.sched_plan.specs.declared.nodes.One.{One}
-use Rattle.sched_plan.specs.declared.nodes.One.TheVariants.{Gate, Gather, Add, Set, Cap, AddOut, Jitter, Within, EndsBy}
-use Rattle.sched_plan.specs.declared.nodes.One.TheVariants.{Renew, RenewIdle, First, Second, Nothing}
+use Rattle.sched_plan.specs.declared.nodes.One.TheVariants.{Gate, Add, Set, Cap, AddOut, Jitter, Within, EndsBy}
+use Rattle.sched_plan.specs.declared.nodes.One.TheVariants.{Renew, RenewIdle}
 use Rattle.sched_plan.specs.declared.nodes.Two.{Two}
 use Rattle.sched_plan.specs.declared.nodes.Two.TheVariants.{Meet, Join, Follow, Feed}
 use Rattle.sched_plan.specs.declared.history.Event.{Event}
@@ -45,20 +43,9 @@ lone_ends delay h past =
     (λ one. let same = eqb-true (length h) 1 one in absurd (omega (arith, past, same))) (λ _. refl)
 
 leaf_ends : (l : Leaf) → Bounds (answer (leaf l)) (leaf_bound l)
-leaf_ends Forever = tt
 leaf_ends (Recurs count) = λ h past far. recurs_ends count h past
-leaf_ends (Spaced delay) = tt
-leaf_ends (Fixed d) = tt
-leaf_ends (Windowed d) = tt
-leaf_ends (Linear delay) = tt
-leaf_ends (Exponential base factor) = tt
-leaf_ends (ExponentialMilli base thousandths) = tt
-leaf_ends (Fibonacci delay) = tt
-leaf_ends (Decorrelated lane base thousandths most) = tt
-leaf_ends Elapsed = tt
-leaf_ends Identity = tt
-leaf_ends (Unfold seed factor more) = tt
 leaf_ends (Lone delay) = λ h past far. lone_ends delay h past
+leaf_ends _ = tt
 
 -- where a schedule is done, it is so with another delay, and where a node may stop it
 moved_done : (delay : ℕ → ℕ) (now : ℕ) (d : Decision) → d ≡ Done → moved_decision delay now d ≡ Done
@@ -76,7 +63,6 @@ kept : (k : One) (f : List Event → Answer) (most : ℕ) → Ends f most
     → IfSome (one_bound k (Some most)) (Ends (changed k f))
 kept (Gate side want test bound) f most ends = λ h past far.
     passed_done (is_wanted want (passes test bound (tested side (last_input h) (f h)))) (f h) (ends h past far)
-kept (Gather fold) f most ends = ends
 kept (Add d) f most ends = λ h past far. moved_done (added d) (last_moment h) (f h).decision (ends h past far)
 kept (Set d) f most ends = λ h past far. moved_done (λ _. d) (last_moment h) (f h).decision (ends h past far)
 kept (Cap d) f most ends = λ h past far.
@@ -91,26 +77,12 @@ kept (EndsBy d) f most ends = λ h past far.
     ended_done (goes_past (capped (first_moment h + d)) (f h).decision) (f h) (ends h past far)
 kept (Renew d) f most ends = tt
 kept (RenewIdle d) f most ends = tt
-kept First f most ends = ends
-kept Second f most ends = ends
-kept Nothing f most ends = ends
+kept _ f most ends = ends
 
 -- a node gives no bound where its schedule gives none
 none_kept : (k : One) (f : List Event → Answer) → IfSome (one_bound k None) (Ends f)
-none_kept (Gate side want test bound) f = tt
-none_kept (Gather fold) f = tt
-none_kept (Add d) f = tt
-none_kept (Set d) f = tt
-none_kept (Cap d) f = tt
 none_kept AddOut f = tt
-none_kept (Jitter lane least most) f = tt
-none_kept (Within d) f = tt
-none_kept (EndsBy d) f = tt
-none_kept (Renew d) f = tt
-none_kept (RenewIdle d) f = tt
-none_kept First f = tt
-none_kept Second f = tt
-none_kept Nothing f = tt
+none_kept _ f = tt
 
 one_ends : (k : One) (f : List Event → Answer) (bound : Option ℕ) → Bounds f bound
     → Bounds (changed k f) (one_bound k bound)

@@ -1,4 +1,4 @@
--- Where the plans of a node stand in its value, by the tables of nodes.
+-- Where the plans of a node stand in its value, by the tables of nodes. bin/nodes makes all_have.
 use Rattle.std.proofs.Common.{◌≡◌, ℕ, List, [], ◌∷◌, Bool, Option, Some, None, refl}
 use Rattle.std.proofs.lemmas.Bool.{cond_both}
 use Rattle.std.specs.Prelude.{bytes_eq, option_map, option_and_then}

@@ -1,4 +1,4 @@
--- The first fault of a plan, and where it is.
+-- The first fault of a plan, and where it is. bin/nodes makes item_in.
 use Rattle.std.specs.Prelude.{◌≡◌, ◌⊎◌, ℕ, List, [], ◌∷◌, ◌++◌, Option, Some, None, Ok, Err}
 use Rattle.serde_json.specs.Data.{Data, object, member}
 use Rattle.sched_plan.specs.Schedule.{Schedule}
@@ -15,9 +15,9 @@ abbrev pub IsPlan : Data → Type 0
 IsPlan d = (s : Schedule) × (plan_of d ≡ Ok s)
 
 -- the value spells a plan where no fault is told, and else it is refused for this one
-abbrev pub Refuses : Data → Option ReadFault → Type 0
-Refuses d None = IsPlan d
-Refuses d (Some fault) = plan_of d ≡ Err fault
+abbrev pub IsRefusal : Data → Option ReadFault → Type 0
+IsRefusal d None = IsPlan d
+IsRefusal d (Some fault) = plan_of d ≡ Err fault
 
 -- which item of its value a node has as its plan, where that is not the value itself
 abbrev pub item_in : One → Option ℕ

@@ -5,7 +5,7 @@ ghost use Rattle.serde_json.specs.View.{view};
 ghost use Rattle.sched_plan_json.specs.Node.{one_of};
 ghost use Rattle.sched_plan_json.specs.PlanOf.{spelt_of};
 ghost use Rattle.sched_plan_check.specs.Places.{place_of};
-ghost use Rattle.sched_plan_check.specs.PlanFaults.{Refuses, name_in, item_in, plans_in, steps_to};
+ghost use Rattle.sched_plan_check.specs.PlanFaults.{IsRefusal, name_in, item_in, plans_in, steps_to};
 ghost use Rattle.sched_plan_check.specs.Below.{IsFirstBelow};
 
 use crate::places::Step;
@@ -26,7 +26,7 @@ pub(crate) struct Below<'a> {
 
 /// Why the value is no plan, if it is none.
 pub(crate) fn refusal(alloc: Global, value: &Value) -> Result<Option<ReadFault>, NoMemory>
-    ensures { IfOk result (Refuses (view value.now)) }
+    ensures { IfOk result (IsRefusal (view value.now)) }
 {
     match read_plan(alloc, value) {
         Ok(_) => Ok(None),
@@ -91,9 +91,8 @@ fn item_of(node: OneNode) -> Option<usize>
     ensures { result ≡ item_in (one_of node) }
 {
     match node {
+        // bin/nodes makes these rows.
         OneNode::AddOut | OneNode::First | OneNode::Second | OneNode::Nothing => None,
-        OneNode::Jitter { .. } => Some(3),
-        OneNode::Gate { .. } => Some(4),
         OneNode::Gather(_)
         | OneNode::Add(_)
         | OneNode::Set(_)
@@ -102,6 +101,9 @@ fn item_of(node: OneNode) -> Option<usize>
         | OneNode::EndsBy(_)
         | OneNode::Renew(_)
         | OneNode::RenewIdle(_) => Some(1),
+        OneNode::Jitter { .. } => Some(3),
+        OneNode::Gate { .. } => Some(4),
+        // end
     }
 }
 

@@ -10,6 +10,7 @@ const MAX_EDITS: usize = 2;
 const MAX_WORD: usize = 76;
 
 // Each node with how it is spelt, in the order in which the nearest name is looked for.
+// bin/nodes makes these rows.
 const NODES: [(&str, &str); 32] = [
     ("forever", r#""forever""#),
     ("recurs", r#"{"recurs":N}, N from 0 to 4611686018427387903"#),
@@ -34,8 +35,8 @@ const NODES: [(&str, &str); 32] = [
     ),
     (
         "decorrelated",
-        "{\"decorrelated\":[LANE,D,F,MAX]}, LANE from 0 to 3, D from 0 to MAX, F from 1000 to 1000000, \
-         MAX from D to 4611686018427387903",
+        "{\"decorrelated\":[LANE,D,F,MAX]}, LANE from 0 to 3, D from 0 to MAX, F from 1000 to 1000000, MAX from D \
+         to 4611686018427387903",
     ),
     ("elapsed", r#""elapsed""#),
     ("identity", r#""identity""#),
@@ -50,8 +51,8 @@ const NODES: [(&str, &str); 32] = [
     ("feed", r#"{"feed":[PLAN,PLAN]}"#),
     (
         "gate",
-        "{\"gate\":[SIDE,WANT,TEST,N,PLAN]}, SIDE \"input\" or \"output\", WANT true or false, \
-         TEST \"below\", \"at_least\" or \"equal\", N from 0 to 4611686018427387903",
+        "{\"gate\":[SIDE,WANT,TEST,N,PLAN]}, SIDE \"input\" or \"output\", WANT true or false, TEST \"below\", \
+         \"at_least\" or \"equal\", N from 0 to 4611686018427387903",
     ),
     (
         "gather",
@@ -72,7 +73,7 @@ const NODES: [(&str, &str); 32] = [
     ("add_out", r#"{"add_out":PLAN}"#),
     (
         "jitter",
-        "{\"jitter\":[LANE,MIN,MAX,PLAN]}, LANE from 0 to 3, MIN at most MAX, MAX at most 10000",
+        r#"{"jitter":[LANE,MIN,MAX,PLAN]}, LANE from 0 to 3, MIN at most MAX, MAX at most 10000"#,
     ),
     (
         "within",
@@ -94,6 +95,7 @@ const NODES: [(&str, &str); 32] = [
     ("second", r#"{"second":PLAN}"#),
     ("nothing", r#"{"nothing":PLAN}"#),
 ];
+// end
 
 // Words of other libraries, each with the node that does the same.
 const FOREIGN: [(&str, &str); 20] = [

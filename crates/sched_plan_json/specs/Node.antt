@@ -1,4 +1,4 @@
--- Nodes as the code reads them, by what their own forms spell.
+-- Nodes as the code reads them, by what their own forms spell. bin/nodes makes leaf_of and one_of.
 use Rattle.std.specs.Prelude.{◌≡◌, ◌<◌, ℕ, Option, Some, Result, Ok, Err}
 use Rattle.serde_json.specs.Data.{depth}
 use Rattle.serde_json.specs.View.{view}

@@ -1,4 +1,4 @@
--- The tables of all nodes: how each is spelt in JSON.
+-- The tables of all nodes: how each is spelt in JSON. bin/nodes makes the rows of nodes.
 use Rattle.std.specs.Prelude.{ℕ, List, [], ◌∷◌, ◌++◌, codes}
 use Rattle.sched_plan.specs.declared.leaves.Leaf.{Leaf}
 use Rattle.sched_plan.specs.declared.leaves.Leaf.TheVariants.{Forever, Recurs, Spaced, Fixed, Windowed, Linear}

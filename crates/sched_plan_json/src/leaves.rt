@@ -17,6 +17,7 @@ use serde_json::Value;
 /// A leaf as it was read: its numbers may lie outside their ranges.
 #[derive(Clone, Copy, Debug, PartialEq, Eq)]
 pub enum LeafNode {
+    // bin/nodes makes these rows.
     Forever,
     Recurs(u64),
     Spaced(u64),
@@ -46,6 +47,7 @@ pub enum LeafNode {
         more: u64,
     },
     Lone(u64),
+    // end
 }
 
 impl LeafNode {
@@ -61,6 +63,7 @@ impl LeafNode {
         ensures { result ≡ built_plan (leaf (leaf_of self)) }
     {
         match self {
+            // bin/nodes makes these rows.
             LeafNode::Forever => Plan::forever(),
             LeafNode::Recurs(count) => Plan::recurs(count),
             LeafNode::Spaced(delay) => Plan::spaced(delay),
@@ -82,6 +85,7 @@ impl LeafNode {
             LeafNode::Identity => Plan::identity(),
             LeafNode::Unfold { seed, factor, more } => Plan::unfold(seed, factor, more),
             LeafNode::Lone(delay) => Plan::lone(delay),
+            // end
         }
     }
 }
@@ -91,9 +95,11 @@ pub(crate) fn read_name(name: &str) -> Result<LeafNode, ReadFault>
     ensures { IsLeaf result (spelt_by_name name.now) }
 {
     match name {
+        // bin/nodes makes these rows.
         "forever" => Ok(LeafNode::Forever),
         "elapsed" => Ok(LeafNode::Elapsed),
         "identity" => Ok(LeafNode::Identity),
+        // end
         _ => Err(ReadFault::NotAPlan),
     }
 }
@@ -103,6 +109,7 @@ pub(crate) fn read_leaf(name: &str, value: &Value) -> Result<LeafNode, ReadFault
     ensures { IsLeaf result (spelt_by leaf_rows name.now (part_of (view value.now)) (parts_of (view value.now))) }
 {
     match name {
+        // bin/nodes makes these rows.
         "recurs" => Ok(LeafNode::Recurs(number(value)?)),
         "spaced" => Ok(LeafNode::Spaced(number(value)?)),
         "fixed" => Ok(LeafNode::Fixed(number(value)?)),
@@ -131,6 +138,7 @@ pub(crate) fn read_leaf(name: &str, value: &Value) -> Result<LeafNode, ReadFault
             Ok(LeafNode::Unfold { seed, factor, more })
         }
         "lone" => Ok(LeafNode::Lone(number(value)?)),
+        // end
         _ => Err(ReadFault::NotAPlan),
     }
 }

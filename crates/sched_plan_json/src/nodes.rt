@@ -23,6 +23,7 @@ pub enum Node<'a> {
 /// What a node makes of one plan, as it was read: its numbers may lie outside their ranges.
 #[derive(Clone, Copy, Debug, PartialEq, Eq)]
 pub enum OneNode {
+    // bin/nodes makes these rows.
     Gate {
         side: Side,
         want: bool,
@@ -46,6 +47,7 @@ pub enum OneNode {
     First,
     Second,
     Nothing,
+    // end
 }
 
 impl OneNode {
@@ -54,6 +56,7 @@ impl OneNode {
         ensures { Reads result (built_node (one (one_of self) plan)) }
     {
         match self {
+            // bin/nodes makes these rows.
             OneNode::Gate {
                 side,
                 want,
@@ -75,6 +78,7 @@ impl OneNode {
             OneNode::First => built(Plan::first(alloc, plan)),
             OneNode::Second => built(Plan::second(alloc, plan)),
             OneNode::Nothing => built(Plan::nothing(alloc, plan)),
+            // end
         }
     }
 }
@@ -89,9 +93,11 @@ pub(crate) fn over_both(
     ensures { Reads result (built_node (two node first second)) }
 {
     match node {
+        // bin/nodes makes these rows.
         Two::Meet => built(Plan::meet(alloc, first, second)),
         Two::Join => built(Plan::join(alloc, first, second)),
         Two::Follow => built(Plan::follow(alloc, first, second)),
         Two::Feed => built(Plan::feed(alloc, first, second)),
+        // end
     }
 }

@@ -47,10 +47,12 @@ fn read_pair<'a>(name: &str, value: &'a Value) -> Result<Node<'a>, ReadFault>
     ensures nested { IfOk result (λ node. NestsBelow node (depth (view value.now) + 1)) }
 {
     let node = match name {
+        // bin/nodes makes these rows.
         "meet" => Two::Meet,
         "join" => Two::Join,
         "follow" => Two::Follow,
         "feed" => Two::Feed,
+        // end
         _ => return read_delay(name, value),
     };
     let (first, second) = two_plans(value)?;
@@ -64,6 +66,7 @@ fn read_delay<'a>(name: &str, value: &'a Value) -> Result<Node<'a>, ReadFault>
     ensures nested { IfOk result (λ node. NestsBelow node (depth (view value.now) + 1)) }
 {
     match name {
+        // bin/nodes makes these rows.
         "add" => {
             let (delay, plan) = number_and_plan(value)?;
             Ok(Node::One(OneNode::Add(delay), plan))
@@ -81,6 +84,7 @@ fn read_delay<'a>(name: &str, value: &'a Value) -> Result<Node<'a>, ReadFault>
             let (lane, least, most, plan) = jitter_and_plan(value)?;
             Ok(Node::One(OneNode::Jitter { lane, least, most }, plan))
         }
+        // end
         _ => read_output(name, value),
     }
 }
@@ -92,6 +96,7 @@ fn read_output<'a>(name: &str, value: &'a Value) -> Result<Node<'a>, ReadFault>
     ensures nested { IfOk result (λ node. NestsBelow node (depth (view value.now) + 1)) }
 {
     match name {
+        // bin/nodes makes these rows.
         "gate" => {
             let (side, want, test, bound, plan) = gate_and_plan(value)?;
             let node = OneNode::Gate {
@@ -109,6 +114,7 @@ fn read_output<'a>(name: &str, value: &'a Value) -> Result<Node<'a>, ReadFault>
         "first" => Ok(Node::One(OneNode::First, value)),
         "second" => Ok(Node::One(OneNode::Second, value)),
         "nothing" => Ok(Node::One(OneNode::Nothing, value)),
+        // end
         _ => read_round(name, value),
     }
 }
@@ -120,6 +126,7 @@ fn read_round<'a>(name: &str, value: &'a Value) -> Result<Node<'a>, ReadFault>
     ensures nested { IfOk result (λ node. NestsBelow node (depth (view value.now) + 1)) }
 {
     match name {
+        // bin/nodes makes these rows.
         "within" => {
             let (length, plan) = number_and_plan(value)?;
             Ok(Node::One(OneNode::Within(length), plan))
@@ -136,6 +143,7 @@ fn read_round<'a>(name: &str, value: &'a Value) -> Result<Node<'a>, ReadFault>
             let (length, plan) = number_and_plan(value)?;
             Ok(Node::One(OneNode::RenewIdle(length), plan))
         }
+        // end
         _ => Ok(Node::Leaf(read_leaf(name, value)?)),
     }
 }

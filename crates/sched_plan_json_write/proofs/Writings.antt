@@ -16,14 +16,11 @@ use Rattle.sched_plan.specs.Schedule.{is_valid}
 use Rattle.sched_plan.specs.Plan.{built_plan}
 use Rattle.sched_plan.specs.declared.plans.PlanFault.TheVariants.{OutOfRange, TooDeep, TooMany}
 use Rattle.sched_plan.specs.declared.leaves.Leaf.{Leaf}
-use Rattle.sched_plan.specs.declared.leaves.Leaf.TheVariants.{Forever, Recurs, Spaced, Fixed, Windowed, Linear}
-use Rattle.sched_plan.specs.declared.leaves.Leaf.TheVariants.{Exponential, ExponentialMilli, Fibonacci, Decorrelated}
-use Rattle.sched_plan.specs.declared.leaves.Leaf.TheVariants.{Elapsed, Identity, Unfold, Lone}
+use Rattle.sched_plan.specs.declared.leaves.Leaf.TheVariants.{Forever}
 use Rattle.sched_plan.specs.declared.nodes.One.{One}
-use Rattle.sched_plan.specs.declared.nodes.One.TheVariants.{Gate, Gather, Add, Set, Cap, AddOut, Jitter, Within, EndsBy}
-use Rattle.sched_plan.specs.declared.nodes.One.TheVariants.{Renew, RenewIdle, First, Second, Nothing}
+use Rattle.sched_plan.specs.declared.nodes.One.TheVariants.{Gate, Gather, AddOut}
 use Rattle.sched_plan.specs.declared.nodes.Two.{Two}
-use Rattle.sched_plan.specs.declared.nodes.Two.TheVariants.{Meet, Join, Follow, Feed}
+use Rattle.sched_plan.specs.declared.nodes.Two.TheVariants.{Meet}
 use Rattle.sched_plan.specs.declared.nodes.Side.TheVariants.{Input, Output}
 use Rattle.sched_plan.specs.declared.nodes.Test.TheVariants.{Below, AtLeast, Equal}
 use Rattle.sched_plan.specs.declared.nodes.Fold.TheVariants as fold
@@ -39,19 +36,7 @@ use Rattle.sched_plan_json_write.specs.Written.{leaf_json, one_json, two_word, j
 
 leaf_spelt : (l : Leaf) → spelt_of (leaf_json l) ≡ Some (of_leaf l)
 leaf_spelt Forever = refl
-leaf_spelt (Recurs count) = refl
-leaf_spelt (Spaced delay) = refl
-leaf_spelt (Fixed length) = refl
-leaf_spelt (Windowed length) = refl
-leaf_spelt (Linear delay) = refl
-leaf_spelt (Exponential base factor) = refl
-leaf_spelt (ExponentialMilli base thousandths) = refl
-leaf_spelt (Fibonacci delay) = refl
-leaf_spelt (Decorrelated lane base thousandths most) = refl
-leaf_spelt Elapsed = refl
-leaf_spelt Identity = refl
-leaf_spelt (Unfold seed factor more) = refl
-leaf_spelt (Lone delay) = refl
+leaf_spelt _ = refl
 
 one_spelt : (k : One) (a : Data) → spelt_of (one_json k a) ≡ Some (over_one k (part_of a))
 one_spelt (Gate Input want Below bound) a = refl
@@ -64,24 +49,11 @@ one_spelt (Gather fold.Sum) a = refl
 one_spelt (Gather fold.Count) a = refl
 one_spelt (Gather fold.Max) a = refl
 one_spelt (Gather fold.List) a = refl
-one_spelt (Add delay) a = refl
-one_spelt (Set delay) a = refl
-one_spelt (Cap delay) a = refl
-one_spelt AddOut a = refl
-one_spelt (Jitter lane least most) a = refl
-one_spelt (Within length) a = refl
-one_spelt (EndsBy length) a = refl
-one_spelt (Renew length) a = refl
-one_spelt (RenewIdle length) a = refl
-one_spelt First a = refl
-one_spelt Second a = refl
-one_spelt Nothing a = refl
+one_spelt _ a = refl
 
 two_spelt : (k : Two) (a b : Data) → spelt_of (with_both (two_word k) a b) ≡ Some (over_two k (part_of a) (part_of b))
 two_spelt Meet a b = refl
-two_spelt Join a b = refl
-two_spelt Follow a b = refl
-two_spelt Feed a b = refl
+two_spelt _ a b = refl
 
 not_above : (a b : ℕ) → b ≤ a → nat_lt a b ≡ false
 not_above a b h = grind (arith, nat_tests)
@@ -132,35 +104,11 @@ written_reads d s is valid shallow few = ap plan_of is ∙ json_reads s valid sh
 
 leaf_nested : (l : Leaf) → depth (leaf_json l) ≤ 2
 leaf_nested Forever = omega arith
-leaf_nested (Recurs count) = omega arith
-leaf_nested (Spaced delay) = omega arith
-leaf_nested (Fixed length) = omega arith
-leaf_nested (Windowed length) = omega arith
-leaf_nested (Linear delay) = omega arith
-leaf_nested (Exponential base factor) = omega arith
-leaf_nested (ExponentialMilli base thousandths) = omega arith
-leaf_nested (Fibonacci delay) = omega arith
-leaf_nested (Decorrelated lane base thousandths most) = omega arith
-leaf_nested Elapsed = omega arith
-leaf_nested Identity = omega arith
-leaf_nested (Unfold seed factor more) = omega arith
-leaf_nested (Lone delay) = omega arith
+leaf_nested _ = omega arith
 
 one_nested : (k : One) (a : Data) → depth (one_json k a) ≤ depth a + 2
-one_nested (Gate side want test bound) a = omega arith
-one_nested (Gather kind) a = omega arith
-one_nested (Add delay) a = omega arith
-one_nested (Set delay) a = omega arith
-one_nested (Cap delay) a = omega arith
 one_nested AddOut a = omega arith
-one_nested (Jitter lane least most) a = omega arith
-one_nested (Within length) a = omega arith
-one_nested (EndsBy length) a = omega arith
-one_nested (Renew length) a = omega arith
-one_nested (RenewIdle length) a = omega arith
-one_nested First a = omega arith
-one_nested Second a = omega arith
-one_nested Nothing a = omega arith
+one_nested _ a = omega arith
 
 pub json_nested : (s : Schedule) → depth (json_of s) ≤ depth_of s + depth_of s
 json_nested (leaf l) = omega (arith, leaf_nested l)
@@ -171,35 +119,11 @@ json_nested (two k a b) = omega (arith, json_nested a, json_nested b)
 
 leaf_whole : (l : Leaf) → has_float (leaf_json l) ≡ false
 leaf_whole Forever = refl
-leaf_whole (Recurs count) = refl
-leaf_whole (Spaced delay) = refl
-leaf_whole (Fixed length) = refl
-leaf_whole (Windowed length) = refl
-leaf_whole (Linear delay) = refl
-leaf_whole (Exponential base factor) = refl
-leaf_whole (ExponentialMilli base thousandths) = refl
-leaf_whole (Fibonacci delay) = refl
-leaf_whole (Decorrelated lane base thousandths most) = refl
-leaf_whole Elapsed = refl
-leaf_whole Identity = refl
-leaf_whole (Unfold seed factor more) = refl
-leaf_whole (Lone delay) = refl
+leaf_whole _ = refl
 
 one_whole : (k : One) (a : Data) → has_float a ≡ false → has_float (one_json k a) ≡ false
-one_whole (Gate side want test bound) a h = rw h refl
-one_whole (Gather kind) a h = rw h refl
-one_whole (Add delay) a h = rw h refl
-one_whole (Set delay) a h = rw h refl
-one_whole (Cap delay) a h = rw h refl
 one_whole AddOut a h = rw h refl
-one_whole (Jitter lane least most) a h = rw h refl
-one_whole (Within length) a h = rw h refl
-one_whole (EndsBy length) a h = rw h refl
-one_whole (Renew length) a h = rw h refl
-one_whole (RenewIdle length) a h = rw h refl
-one_whole First a h = rw h refl
-one_whole Second a h = rw h refl
-one_whole Nothing a h = rw h refl
+one_whole _ a h = rw h refl
 
 pub json_whole : (s : Schedule) → has_float (json_of s) ≡ false
 json_whole (leaf l) = leaf_whole l

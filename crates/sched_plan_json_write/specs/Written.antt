@@ -1,4 +1,4 @@
--- The JSON that is written of a schedule.
+-- The JSON that is written of a schedule. bin/nodes makes leaf_json, one_json and two_word.
 use Rattle.std.specs.Prelude.{ℕ, List, codes}
 use Rattle.serde_json.specs.Data.{Data, string, boolean, no_items, item}
 use Rattle.sched_plan.specs.Schedule.{Schedule, leaf, one, two}
@@ -16,7 +16,7 @@ use Rattle.sched_plan.specs.declared.nodes.Side.TheVariants.{Input, Output}
 use Rattle.sched_plan.specs.declared.nodes.Test.{Test}
 use Rattle.sched_plan.specs.declared.nodes.Test.TheVariants.{Below, AtLeast, Equal}
 use Rattle.sched_plan.specs.declared.nodes.Fold.{Fold}
-use Rattle.sched_plan.specs.declared.nodes.Fold.TheVariants as fold
+use Rattle.sched_plan.specs.declared.nodes.Fold.TheVariants as folds
 use Rattle.sched_plan_json_write.specs.Forms.{named, listed, whole, with_number, with_two, with_number_and, with_both}
 
 -- the value that a gate tests
@@ -32,10 +32,10 @@ test_word Equal = codes "equal"
 
 -- what a gathering makes of the outputs
 abbrev pub fold_word : Fold → List ℕ
-fold_word fold.Sum = codes "sum"
-fold_word fold.Count = codes "count"
-fold_word fold.Max = codes "max"
-fold_word fold.List = codes "list"
+fold_word folds.Sum = codes "sum"
+fold_word folds.Count = codes "count"
+fold_word folds.Max = codes "max"
+fold_word folds.List = codes "list"
 
 -- a recurrence of its own
 abbrev pub leaf_json : Leaf → Data
@@ -63,7 +63,7 @@ one_json (Gate side want test bound) a =
     listed (codes "gate")
     (item (string (side_word side)) (item (boolean want) (item (string (test_word test))
     (item (whole bound) (item a no_items)))))
-one_json (Gather kind) a = listed (codes "gather") (item (string (fold_word kind)) (item a no_items))
+one_json (Gather fold) a = listed (codes "gather") (item (string (fold_word fold)) (item a no_items))
 one_json (Add delay) a = with_number_and (codes "add") delay a
 one_json (Set delay) a = with_number_and (codes "set") delay a
 one_json (Cap delay) a = with_number_and (codes "cap") delay a

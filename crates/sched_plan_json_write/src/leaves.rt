@@ -14,9 +14,8 @@ pub(crate) fn write_leaf(alloc: Global, leaf: Leaf) -> Result<Value, NoMemory>
     ensures { IfOk result (λ v. view v ≡ leaf_json leaf) }
 {
     match leaf {
+        // bin/nodes makes these rows.
         Leaf::Forever => name_alone(alloc, "forever"),
-        Leaf::Elapsed => name_alone(alloc, "elapsed"),
-        Leaf::Identity => name_alone(alloc, "identity"),
         Leaf::Recurs(count) => of_number(alloc, "recurs", count.get()),
         Leaf::Spaced(delay) => of_number(alloc, "spaced", delay.get()),
         Leaf::Fixed(length) => of_number(alloc, "fixed", length.get()),
@@ -36,10 +35,13 @@ pub(crate) fn write_leaf(alloc: Global, leaf: Leaf) -> Result<Value, NoMemory>
             let items = json!(in alloc; [lane, base.get(), thousandths, most.get()])?;
             of_value(alloc, "decorrelated", items)
         }
+        Leaf::Elapsed => name_alone(alloc, "elapsed"),
+        Leaf::Identity => name_alone(alloc, "identity"),
         Leaf::Unfold { seed, factor, more } => {
             let items = json!(in alloc; [seed.get(), factor.get(), more.get()])?;
             of_value(alloc, "unfold", items)
         }
         Leaf::Lone(delay) => of_number(alloc, "lone", delay.get()),
+        // end
     }
 }

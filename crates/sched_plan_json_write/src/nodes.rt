@@ -24,11 +24,12 @@ pub(crate) fn write_one(alloc: Global, node: One, plan: Value) -> Result<Value, 
             bound,
         } => gate(alloc, (side, want, test), bound.get(), plan),
         One::Gather(fold) => gather(alloc, fold, plan),
+        One::Jitter { lane, least, most } => jitter(alloc, lane, least, most, plan),
+        // bin/nodes makes these rows.
         One::Add(delay) => of_number_and(alloc, "add", delay.get(), plan),
         One::Set(delay) => of_number_and(alloc, "set", delay.get(), plan),
         One::Cap(delay) => of_number_and(alloc, "cap", delay.get(), plan),
         One::AddOut => of_value(alloc, "add_out", plan),
-        One::Jitter { lane, least, most } => jitter(alloc, lane, least, most, plan),
         One::Within(length) => of_number_and(alloc, "within", length.get(), plan),
         One::EndsBy(length) => of_number_and(alloc, "ends_by", length.get(), plan),
         One::Renew(length) => of_number_and(alloc, "renew", length.get(), plan),
@@ -36,6 +37,7 @@ pub(crate) fn write_one(alloc: Global, node: One, plan: Value) -> Result<Value, 
         One::First => of_value(alloc, "first", plan),
         One::Second => of_value(alloc, "second", plan),
         One::Nothing => of_value(alloc, "nothing", plan),
+        // end
     }
 }
 

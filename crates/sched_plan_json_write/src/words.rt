@@ -42,9 +42,11 @@ pub(crate) fn pair(node: Two) -> &'static str
     ensures { result.now ≡ two_word node }
 {
     match node {
+        // bin/nodes makes these rows.
         Two::Meet => "meet",
         Two::Join => "join",
         Two::Follow => "follow",
         Two::Feed => "feed",
+        // end
     }
 }

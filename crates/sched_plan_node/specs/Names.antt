@@ -1,6 +1,5 @@
 -- The names of nodes, by the numbers and the schedules that they take. A gate and a gathering, which have words among
--- their
--- parameters, have none.
+-- their parameters, have none. bin/nodes makes the tables of names.
 use Rattle.std.specs.Prelude.{ℕ, List, [], ◌∷◌, codes, Option, Some, None, option_map, bytes_eq, if◌then◌else◌}
 use Rattle.sched_plan.specs.declared.leaves.Leaf.{Leaf}
 use Rattle.sched_plan.specs.declared.leaves.Leaf.TheVariants.{Forever, Recurs, Spaced, Fixed, Windowed, Linear}

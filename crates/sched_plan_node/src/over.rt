@@ -21,8 +21,10 @@ pub(crate) fn over_one(
     match numbers {
         Numbers::Zero => over_alone(alloc, name, plan),
         Numbers::One(n) => over_with_one(alloc, name, n, plan),
-        Numbers::Three(lane, least, most) => match name {
-            "jitter" => of_node(Plan::jitter(alloc, lane, least, most, plan)),
+        Numbers::Three(n, m, k) => match name {
+            // bin/nodes makes these rows.
+            "jitter" => of_node(Plan::jitter(alloc, n, m, k, plan)),
+            // end
             _ => Err(NodeFault::NotANode),
         },
         Numbers::Two(_, _) => Err(NodeFault::NotANode),
@@ -35,10 +37,12 @@ fn over_alone(alloc: Global, name: &str, plan: Plan) -> Result<Plan, NodeFault>
     ensures { Gives result (answer_of (option_map (λ k. one_schedule k plan) (named one_names name.now))) }
 {
     match name {
+        // bin/nodes makes these rows.
         "add_out" => of_node(Plan::add_out(alloc, plan)),
         "first" => of_node(Plan::first(alloc, plan)),
         "second" => of_node(Plan::second(alloc, plan)),
         "nothing" => of_node(Plan::nothing(alloc, plan)),
+        // end
         _ => Err(NodeFault::NotANode),
     }
 }
@@ -48,6 +52,7 @@ fn over_with_one(alloc: Global, name: &str, n: u64, plan: Plan) -> Result<Plan, 
         (answer_of (option_map (λ k. one_schedule k plan) (option_map (λ k. k n) (named ones_with_one name.now)))) }
 {
     match name {
+        // bin/nodes makes these rows.
         "add" => of_node(Plan::add(alloc, n, plan)),
         "set" => of_node(Plan::set(alloc, n, plan)),
         "cap" => of_node(Plan::cap(alloc, n, plan)),
@@ -55,6 +60,7 @@ fn over_with_one(alloc: Global, name: &str, n: u64, plan: Plan) -> Result<Plan, 
         "ends_by" => of_node(Plan::ends_by(alloc, n, plan)),
         "renew" => of_node(Plan::renew(alloc, n, plan)),
         "renew_idle" => of_node(Plan::renew_idle(alloc, n, plan)),
+        // end
         _ => Err(NodeFault::NotANode),
     }
 }
@@ -84,10 +90,12 @@ fn pair(alloc: Global, name: &str, first: Plan, second: Plan) -> Result<Plan, No
     ensures { Gives result (answer_of (option_map (λ k. two_schedule k first second) (named two_names name.now))) }
 {
     match name {
+        // bin/nodes makes these rows.
         "meet" => of_node(Plan::meet(alloc, first, second)),
         "join" => of_node(Plan::join(alloc, first, second)),
         "follow" => of_node(Plan::follow(alloc, first, second)),
         "feed" => of_node(Plan::feed(alloc, first, second)),
+        // end
         _ => Err(NodeFault::NotANode),
     }
 }

@@ -142,7 +142,7 @@ was_refused : (pass : Held) (ends : List Past) → All (Law retry) ends → All 
 was_refused pass [] laws refused some = absurd (cc)
 was_refused pass (v ∷ ends) laws refused some =
     by_test (is_refused v.over)
-    (λ yes. refused 0 v (omega arith) (denied_is retry refl v v.over (laws 0 v (omega arith)).ended ∙ yes))
+    (λ yes. refused 0 v (omega arith) (denied_is retry v v.over (laws 0 v (omega arith)).ended ∙ yes))
     (λ no. was_refused pass ends (λ k d small. laws (suc k) d (omega (arith, small)))
     (λ k d small. refused (suc k) d (omega (arith, small))) (rw no at some))
 

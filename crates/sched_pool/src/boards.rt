@@ -78,7 +78,7 @@ impl<'a, X: Effect, N: Naming> Board<'a, X, N> {
     pub fn add(&mut self, retry: Retry<X, OnBudget<&'a Budget>>) -> Result<usize, AddRefused<'a, X>>
         requires of { retry.drawing.budget ≡ N.budget }
         requires had { retry.had ≡ 0 }
-        requires new { retry.past ≡ nothing_yet retry.past.driver.plan }
+        requires new { retry.past ≡ nothing_yet retry.past.driver None }
         ensures number { IfOk result (λ job. job ≡ self.old.jobs) }
         ensures open { OnOk result ((self.old.claims ≡ None) × (self.old.jobs < 4096)) }
         ensures added { OnOk result (self.new ≡ record self.old { jobs = self.old.jobs + 1 }) }

@@ -1,5 +1,6 @@
 -- A job keeps its ending through polls and cancels, and what it shows is so.
-use Rattle.std.proofs.Common.{◌≡◌, ◌<◌, ◌||◌, ℕ, Bool, true, List, [], ◌∷◌, length, Option, Some, None, is_some, IfSome, refl, sym, ap, ◌∙◌, subst, arith}
+use Rattle.std.proofs.Common.{◌≡◌, ◌<◌, ◌||◌, ℕ, Bool, true, List, [], ◌∷◌, length, Option, Some, None, is_some, IfSome}
+use Rattle.std.proofs.Common.{refl, sym, ap, ◌∙◌, subst, arith}
 use Rattle.sched_time.specs.declared.numbers.Tick.{Tick}
 use Rattle.sched_plan.specs.Schedule.{Schedule}
 use Rattle.sched_plan.specs.declared.history.Event.{Event}
@@ -10,8 +11,9 @@ use Rattle.sched_ticket.specs.Held.{Name}
 use Rattle.sched_ticket_draws.specs.Grants.{Grants}
 use Rattle.sched_ticket_draws.specs.Budgets.{OfBudget, budget_grants}
 use Rattle.sched_task_law.specs.Kind.{Kind, retry}
-use Rattle.sched_task_law.specs.Past.{Past, is_under_way, waits_for}
-use Rattle.sched_task_law.specs.Poll.{Happened, stays, cannot_begin, runs_on, cannot_run, ends, breaks, stops_done, stops_denied, recurs, asks, cannot_ask, falls, May, after}
+use Rattle.sched_task_law.specs.Past.{Past, is_under_way, waits_by}
+use Rattle.sched_task_law.specs.Poll.{Happened, stays, cannot_begin, runs_on, cannot_run, ends, breaks, stops_done}
+use Rattle.sched_task_law.specs.Poll.{stops_denied, recurs, times_out, May, after}
 use Rattle.sched_task_law.specs.Law.{Law}
 use Rattle.sched_task_law.proofs.Law.{or_false}
 use Rattle.sched_task_law.proofs.Events.{denied_is}
@@ -25,25 +27,25 @@ none_is : (o : Option How) → o ≡ None → is_some o ≡ true → ⊥
 none_is o none some = let bad = rw none at some in cc
 
 -- what is over stays as it is
-stays_over : (kind : Kind) (v : Past) (t : Tick) (h : Happened) → May kind v t h → is_some v.over ≡ true → after kind v t h ≡ v
+stays_over : (kind : Kind) (v : Past) (t : Tick) (h : Happened) → May kind v t h → is_some v.over ≡ true →
+    after kind v t h ≡ v
 stays_over kind v t stays may over = refl
-stays_over kind v t cannot_begin may over = absurd (none_is v.over may.0.unended over)
-stays_over kind v t runs_on may over = absurd (none_is v.over may.unended over)
-stays_over kind v t cannot_run may over = absurd (none_is v.over may.unended over)
-stays_over kind v t (ends r) may over = absurd (none_is v.over may.0.unended over)
-stays_over kind v t (breaks r fault) may over = absurd (none_is v.over may.0.unended over)
-stays_over kind v t (stops_done r) may over = absurd (none_is v.over may.0.can.unended over)
-stays_over kind v t (stops_denied r) may over = absurd (none_is v.over may.0.can.unended over)
-stays_over kind v t (recurs r) may over = absurd (none_is v.over may.0.can.unended over)
-stays_over kind v t asks may over = absurd (none_is v.over may.unended over)
-stays_over kind v t cannot_ask may over = absurd (none_is v.over may.unended over)
-stays_over kind v t falls may over = absurd (none_is v.over may.unended over)
+stays_over kind v t cannot_begin may over = absurd (none_is v.over may.0.is_due.unended over)
+stays_over kind v t runs_on may over = absurd (none_is v.over may.is_due.unended over)
+stays_over kind v t cannot_run may over = absurd (none_is v.over may.is_due.unended over)
+stays_over kind v t (ends r) may over = absurd (none_is v.over may.0.is_due.unended over)
+stays_over kind v t (breaks r fault) may over = absurd (none_is v.over may.0.is_due.unended over)
+stays_over kind v t (stops_done r) may over = absurd (none_is v.over may.0.can.is_due.unended over)
+stays_over kind v t (stops_denied r) may over = absurd (none_is v.over may.0.can.is_due.unended over)
+stays_over kind v t (recurs r) may over = absurd (none_is v.over may.0.can.is_due.unended over)
+stays_over kind v t times_out may over = absurd (none_is v.over may.0.unended over)
 
 -- a retry whose ending was not taken keeps it in a poll
 pub polled_untaken : {D : Type 0} (grants : Grants D) (v u : Retrying D) (t : Tick) (ready : Bool) →
     v.untaken ≡ is_some v.past.over → RetryPoll grants retry v t ready u → u.untaken ≡ is_some u.past.over
 polled_untaken grants v u t ready untaken poll = by_test (is_some v.past.over)
-    (λ yes. poll.untaken ∙ rw yes (untaken ∙ ap (λ (w : Past). is_some w.over) (sym (poll.poll.leaves ∙ stays_over retry v.past t poll.poll.happened poll.poll.may yes))))
+    (λ yes. poll.untaken ∙ rw yes (untaken ∙ ap (λ (w : Past). is_some w.over)
+    (sym (poll.poll.leaves ∙ stays_over retry v.past t poll.poll.happened poll.poll.may yes))))
     (λ no. poll.untaken ∙ rw no poll.poll.ready_is)
 
 pub polled : (b : Name) (v u : Retrying OfBudget) (t : Tick) (ready : Bool) →
@@ -71,17 +73,31 @@ planned : (plan : Schedule) (journal : List Event) (P : Type 0) → (0 < length 
 planned plan [] P f = tt
 planned plan (e ∷ h) P f = some_of _ P (f (omega arith))
 
-pub waits_unended : (v : Past) → IfSome (waits_for v) (λ _. (v.over ≡ None) × (0 < length v.driver.journal))
+pub waits_unended : (v : Past) →
+    IfSome (waits_by (next_start_of v.driver) v) (λ _. (v.over ≡ None) × (0 < length v.driver.journal))
 waits_unended v = by_test (is_some v.over || (is_under_way v.runs v.begun || v.denied)) (λ yes. rw yes tt)
-    (λ no. rw no (planned v.driver.plan v.driver.journal _ (λ some. (none_of v.over (or_false (is_some v.over) _ no).0, some))))
+    (λ no. rw no (planned v.driver.plan v.driver.journal _ (λ some. (
+      none_of v.over (or_false (is_some v.over) _ no).0,
+      some,
+    ))))
 
 -- what is left of a retry says what it has done
-pub end_is : (v : Past) → Law retry v → ended v.driver v.runs v.begun v.over v.granted ≡ v
-end_is v law = ap (λ b. record v { denied = b }) (sym (denied_is retry refl v v.over law.ended))
+pub end_is : (v : Past) → Law retry v → v.deadline ≡ None → ended v.driver v.runs v.begun v.over v.granted ≡ v
+end_is v law none i = record {
+  driver = v.driver;
+  deadline = sym none i;
+  runs = v.runs;
+  begun = v.begun;
+  over = v.over;
+  denied = sym (denied_is retry v v.over law.ended) i;
+  granted = v.granted;
+}
 
 -- and keeps its law
-pub law_left : (v : Past) (driver : Driven) (runs : List Ran) (begun : List ℕ) (over : Option How) (granted : ℕ) → Law retry v →
-    driver ≡ v.driver → runs ≡ v.runs → begun ≡ v.begun → over ≡ v.over → granted ≡ v.granted →
+pub law_left : (v : Past) (driver : Driven) (runs : List Ran) (begun : List ℕ) (over : Option How) (granted : ℕ) →
+    Law retry v →
+    v.deadline ≡ None → driver ≡ v.driver → runs ≡ v.runs → begun ≡ v.begun → over ≡ v.over → granted ≡ v.granted →
     Law retry (ended driver runs begun over granted)
-law_left v driver runs begun over granted law is_driver is_runs is_begun is_over is_granted =
-    rw (is_driver, is_runs, is_begun, is_over, is_granted) (subst (λ (p : Past). Law retry p) (sym (end_is v law)) law)
+law_left v driver runs begun over granted law none is_driver is_runs is_begun is_over is_granted =
+    rw (is_driver, is_runs, is_begun, is_over, is_granted) (subst (λ (p : Past). Law retry p) (sym (end_is v law none))
+    law)

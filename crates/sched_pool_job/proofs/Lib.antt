@@ -1,2 +1,3 @@
+-- The lemmas that the proofs of jobs cite.
 pub mod Kept
 pub mod Sends

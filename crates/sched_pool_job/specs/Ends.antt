@@ -1,5 +1,5 @@
 -- What is left of a job once it is taken back.
-use Rattle.std.specs.Prelude.{◌≡◌, ℕ, ◌<◌, true, List, length, Option}
+use Rattle.std.specs.Prelude.{◌≡◌, ℕ, ◌<◌, true, List, length, Option, None}
 use Rattle.sched_driver.specs.Driven.{Driven}
 use Rattle.sched_effect.specs.declared.ran.Ran.{Ran}
 use Rattle.sched_task.specs.declared.endings.How.{How}
@@ -11,6 +11,7 @@ pub use Rattle.sched_task_law.specs.Law.{is_refused}
 abbrev pub ended : Driven → List Ran → List ℕ → Option How → ℕ → Past
 ended driver runs begun how granted = record {
   driver = driver;
+  deadline = None;
   runs = runs;
   begun = begun;
   over = how;

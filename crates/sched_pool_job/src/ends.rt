@@ -30,13 +30,14 @@ impl<X: Effect> Model for JobEnd<X> {
     ghost use Rattle.sched_task_law.specs.Kind.{retry};
     ghost use Rattle.sched_task_law.specs.Past.{Past};
     ghost use Rattle.sched_task_law.specs.Law.{Law};
+    ghost use Rattle.sched_driver.specs.Driven.{coded_driven};
     ghost use Rattle.sched_task_law.specs.Codes.{coded_past};
     ghost use Rattle.sched_retry.specs.Ending.{EndingFits};
     ghost use Rattle.sched_pool_job.specs.Ends.{ended};
 
     ghost Value = { Past };
 
-    ghost coded = { coded_past };
+    ghost coded = { coded_past coded_driven };
 
     ghost view = { λ j. ended j.driver (X.finished j.effect) j.begun.items j.how j.granted };
 

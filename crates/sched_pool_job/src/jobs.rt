@@ -2,7 +2,8 @@
 ghost use Rattle.std.specs.Prelude.{◌≡◌, length, is_some};
 ghost use Rattle.sched_ticket.specs.Held.{IsOf};
 ghost use Rattle.sched_task_law.specs.Kind.{retry};
-ghost use Rattle.sched_task_law.specs.Past.{waits_for};
+ghost use Rattle.sched_driver.specs.Driven.{next_start_of};
+ghost use Rattle.sched_task_law.specs.Past.{waits_by};
 ghost use Rattle.sched_task_law.specs.Law.{Law};
 ghost use Rattle.sched_pool_job.specs.Jobs.{IsSeen};
 ghost use Rattle.sched_pool_job.specs.Ends.{IsRefusedBy};
@@ -28,12 +29,13 @@ pub struct Job<'a, X: Effect, N: Naming> {
 
 impl<'a, X: Effect, N: Naming> Model for Job<'a, X, N> {
     ghost use Rattle.sched_ticket_draws.specs.Budgets.{OfBudget};
+    ghost use Rattle.sched_driver.specs.Driven.{coded_driven};
     ghost use Rattle.sched_run_machine.specs.Retrying.{Retrying, coded_retrying};
     ghost use Rattle.sched_pool_job.specs.Jobs.{IsJob, coded_of_budget};
 
     ghost Value = { Retrying OfBudget };
 
-    ghost coded = { coded_retrying coded_of_budget };
+    ghost coded = { coded_retrying coded_driven coded_of_budget };
 
     ghost view = { λ j. j.retry };
 
@@ -57,7 +59,7 @@ impl<'a, X: Effect, N: Naming> Job<'a, X, N> {
     /// What it shows now.
     pub fn seen(&self) -> Seen
         ensures over { result.over ≡ self.now.past.over }
-        ensures due { result.due ≡ waits_for self.now.past }
+        ensures due { result.due ≡ waits_by (next_start_of self.now.past.driver) self.now.past }
         ensures events { result.events ≡ length self.now.past.driver.journal }
         ensures granted { result.granted ≡ self.now.past.granted }
         ensures law { IsSeen result }
@@ -89,19 +91,20 @@ impl<'a, X: Effect, N: Naming> Job<'a, X, N> {
 impl<'a, X: Effect, N: Naming> Task for Job<'a, X, N> {
     ghost use Rattle.std.specs.Prelude.{◌≡◌};
     ghost use Rattle.sched_task_law.specs.Kind.{retry};
-    ghost use Rattle.sched_task_law.specs.Past.{waits_for as start_of, waits_for-over};
+    ghost use Rattle.sched_driver.specs.Driven.{next_start_of};
+    ghost use Rattle.sched_task_law.specs.Past.{waits_by, waits_by-over};
     ghost use Rattle.sched_ticket_draws.specs.Budgets.{budget_grants};
     ghost use Rattle.sched_run_machine.specs.Retrying.{RetryPoll, gives_up as given_up};
 
     ghost ended = { λ v. v.past.over };
 
-    ghost waits_for = { λ v. start_of v.past };
+    ghost waits_for = { λ v. waits_by (next_start_of v.past.driver) v.past };
 
     ghost one_poll = { RetryPoll budget_grants retry };
 
     ghost gives_up = { λ v u. u ≡ given_up v };
 
-    ghost rests = { λ v over. waits_for-over v.past over };
+    ghost rests = { λ v over. waits_by-over (next_start_of v.past.driver) v.past over };
 
     fn poll_at(&mut self, alloc: Global, tick: &Tick, cx: &mut Context<'_>) -> Poll<()> {
         self.retry.poll_at(alloc, tick, cx)

@@ -6,15 +6,17 @@ use Rattle.sched_time.specs.declared.numbers.Tick.{Tick}
 use Rattle.sched_task.specs.declared.endings.How.{How}
 use Rattle.sched_task_law.specs.Kind.{retry}
 use Rattle.sched_task_law.specs.Poll.{Happened, stays, cannot_begin, runs_on, cannot_run, ends, breaks, stops_done}
-use Rattle.sched_task_law.specs.Poll.{stops_denied, recurs, asks, cannot_ask, falls}
+use Rattle.sched_task_law.specs.Poll.{stops_denied, recurs, times_out}
 use Rattle.sched_wheel.specs.Polled.{Standing, Poll, polled, ArePolls}
 use Rattle.sched_ticket.specs.Lists.{Each}
 use Rattle.sched_ticket_quota.specs.Windows.{window_of}
 use Rattle.sched_ticket_quota.specs.Held.{Name}
 use Rattle.sched_ticket_draws.specs.Quotas.{OfQuota, quota_grants}
-use Rattle.sched_run_machine.specs.Retrying.{Retrying, DrawsIn, RetryPoll}
+use Rattle.sched_run_machine.specs.Drives.{by_driver}
+use Rattle.sched_run_machine.specs.Retrying.{Retrying, DrawsIn, TaskPoll}
+use Rattle.sched_run_machine.proofs.Driven.{driven_poll}
 use Rattle.sched_pool_job.proofs.Kept.{polled_untaken}
-use Rattle.sched_pool_scripted.specs.Driven.{IsDriven}
+use Rattle.sched_pool_scripted.specs.Driven.{IsOnQuota}
 use Rattle.sched_pool_scripted.proofs.Passes.{kept_of, drew_kept, drew_none_kept}
 
 module _ {T C : Type 0} (ended : T → Option How) (waits_for : T → Option ℕ) (one_poll : T → Tick → Bool → T → Type 0)
@@ -44,13 +46,11 @@ draws_kept cannot_run now d e same = ap (λ (d : OfQuota). kept_of d.pass.has) s
 draws_kept (ends r) now d e same = ap (λ (d : OfQuota). kept_of d.pass.has) same
 draws_kept (breaks r fault) now d e same = ap (λ (d : OfQuota). kept_of d.pass.has) same
 draws_kept (stops_done r) now d e same = ap (λ (d : OfQuota). kept_of d.pass.has) same
-draws_kept asks now d e same = ap (λ (d : OfQuota). kept_of d.pass.has) same
-draws_kept cannot_ask now d e same = ap (λ (d : OfQuota). kept_of d.pass.has) same
-draws_kept falls now d e same = ap (λ (d : OfQuota). kept_of d.pass.has) same
+draws_kept times_out now d e same = ap (λ (d : OfQuota). kept_of d.pass.has) same
 
 pub stays_driven : (quota : Name) (v : Retrying OfQuota) (t : Tick) (ready : Bool) (u : Retrying OfQuota) →
-    IsDriven quota v → RetryPoll quota_grants retry v t ready u → IsDriven quota u
-stays_driven quota v t ready u was poll = record {
+    IsOnQuota quota v → TaskPoll by_driver quota_grants retry v t ready u → IsOnQuota quota u
+stays_driven quota v t ready u was polled = let poll = driven_poll quota_grants retry v t ready u polled in record {
   of = poll.budget ∙ was.of;
   had = poll.had ∙ was.had;
   untaken = polled_untaken quota_grants v u t ready was.untaken poll;

@@ -3,7 +3,7 @@
 -- a share of a third. Two jobs draw the two tickets of the window 0, the third fails there and is refused, and the
 -- first
 -- draws the reserves of the windows 1 and 2.
-use Rattle.std.proofs.Common.{ℕ, [], ◌∷◌, true, Some, refl, arith}
+use Rattle.std.proofs.Common.{ℕ, [], ◌∷◌, true, Some, None, refl, arith}
 use Rattle.sched_plan.specs.Datum.{num}
 use Rattle.sched_plan.specs.Schedule.{leaf}
 use Rattle.sched_plan.specs.declared.leaves.Leaf.TheVariants.{Forever}
@@ -29,6 +29,7 @@ failed_at now = record {
     plan = leaf Forever;
     journal = record { now = now; words = 0 ∷ 0 ∷ 0 ∷ 0 ∷ []; input = num 9 } ∷ [];
   };
+  deadline = None;
   runs = ran.Lost 9 ∷ [];
   begun = 0 ∷ [];
   over = Some BudgetRefused;

@@ -16,7 +16,7 @@ pub record IsUnused (v : View) : Type 0 where
 
 -- a retry on this quota, with a pass that had no ticket before it, has counted one request, in the window 0, and set no
 -- terms; its ending is there where it is over
-pub record IsDriven (quota : Name) (v : Retrying OfQuota) : Type 0 where
+pub record IsOnQuota (quota : Name) (v : Retrying OfQuota) : Type 0 where
   pub of : v.drawing.quota ≡ quota
   pub had : v.had ≡ 0
   pub untaken : v.untaken ≡ is_some v.past.over

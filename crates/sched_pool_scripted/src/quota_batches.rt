@@ -4,7 +4,7 @@ ghost use Rattle.std.specs.List.Sorted.{IsSorted};
 ghost use Rattle.std.specs.Ordering.{nat_cmp};
 ghost use Rattle.sched_ticket_quota.specs.Held.{AreTerms, IsOf, Name};
 ghost use Rattle.sched_ticket_quota.specs.Whole.{IsWhole};
-ghost use Rattle.sched_pool_scripted.specs.Driven.{IsDriven, IsUnused};
+ghost use Rattle.sched_pool_scripted.specs.Driven.{IsOnQuota, IsUnused};
 ghost use Rattle.sched_pool_scripted.specs.QuotaBatch.{AreRunOnQuota, AreTaken};
 ghost use Rattle.sched_pool_scripted.specs.Windows.{HasDistinct};
 
@@ -70,7 +70,7 @@ impl TakenBack {
     // With one retry more, which is taken apart.
     fn with(self, retry: QuotaRetry<'_>, quota: &Quota) -> Result<TakenBack, QuotaBatchFault>
         requires taken { AreTaken quota.now self.ends.items self.pass self.windows.items }
-        requires driven { IsDriven quota.now retry }
+        requires driven { IsOnQuota quota.now retry }
         ensures { IfOk result (λ back. AreTaken quota.now back.ends.items back.pass back.windows.items) }
     {
         let TakenBack {
@@ -186,7 +186,7 @@ fn drive<R>(
 ) -> Result<(), QuotaBatchFault>
 where
     R: Wait + RandomSource + AllocGlobal,
-    ensures { (quota : Name) → All (IsDriven quota) retries.old → All (IsDriven quota) retries.new }
+    ensures { (quota : Name) → All (IsOnQuota quota) retries.old → All (IsOnQuota quota) retries.new }
 {
     let mut clock = VirtualClock::at(start);
     match WheelLoop::run(rt, retries, &mut clock, &mut MidWords, turns) {
@@ -202,7 +202,7 @@ fn take_back(
     quota: &Quota,
     pass: Pass,
 ) -> Result<TakenBack, QuotaBatchFault>
-    requires driven { All (IsDriven quota.now) retries.items }
+    requires driven { All (IsOnQuota quota.now) retries.items }
     requires of { IsOf quota.now pass }
     requires unused { IsUnused pass.has }
     ensures { IfOk result (λ back. AreTaken quota.now back.ends.items back.pass back.windows.items) }

@@ -1,7 +1,7 @@
 //! The jobs as retries on a quota.
 ghost use Rattle.std.specs.Prelude.{◌≡◌, [], All, IfOk};
 ghost use Rattle.sched_ticket_quota.specs.Held.{IsOf};
-ghost use Rattle.sched_pool_scripted.specs.Driven.{IsDriven, IsUnused};
+ghost use Rattle.sched_pool_scripted.specs.Driven.{IsOnQuota, IsUnused};
 
 use crate::quota_batches::QuotaBatchFault;
 use crate::retries::retry_of;
@@ -27,7 +27,7 @@ pub(crate) fn retries_of<'a>(
 ) -> Result<Vec<QuotaRetry<'a>>, QuotaBatchFault>
     requires of { IsOf quota.now pass.old }
     requires unused { IsUnused pass.old.has }
-    ensures retries { IfOk result (λ retries. All (IsDriven quota.entry.now) retries.items) }
+    ensures retries { IfOk result (λ retries. All (IsOnQuota quota.entry.now) retries.items) }
     ensures of { IsOf quota.entry.now pass.new }
     ensures unused { IsUnused pass.new.has }
 {
@@ -50,7 +50,7 @@ fn requested<'a>(
 ) -> Result<QuotaRetry<'a>, QuotaBatchFault>
     requires of { IsOf quota.now pass.old }
     requires unused { IsUnused pass.old.has }
-    ensures retry { IfOk result (IsDriven quota.entry.now) }
+    ensures retry { IfOk result (IsOnQuota quota.entry.now) }
     ensures of { IsOf quota.entry.now pass.new }
     ensures unused { IsUnused pass.new.has }
 {

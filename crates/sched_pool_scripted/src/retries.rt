@@ -1,6 +1,6 @@
 //! A job that was read as a retry.
 ghost use Rattle.std.specs.Prelude.{◌≡◌, false, IfOk};
-ghost use Rattle.sched_task_law.specs.Past.{nothing_yet};
+ghost use Rattle.sched_task_law.specs.Past.{nothing_until};
 
 use sched_driver::Driver;
 use sched_effect::Scripted;
@@ -17,7 +17,7 @@ pub(crate) fn retry_of<D: Draws>(
     job: &JobRead,
     drawing: D,
 ) -> Result<Retry<Scripted, D>, NoMemory>
-    ensures past { IfOk result (λ retry. retry.past ≡ nothing_yet job.now.plan) }
+    ensures past { IfOk result (λ retry. retry.past ≡ nothing_until job.now.plan None) }
     ensures drawing { IfOk result (λ retry. retry.drawing ≡ drawing) }
     ensures had { IfOk result (λ retry. retry.had ≡ D.grants.granted drawing) }
     ensures untaken { IfOk result (λ retry. retry.untaken ≡ false) }

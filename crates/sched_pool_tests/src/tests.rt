@@ -32,7 +32,7 @@ fn retrying<'a, X: Effect>(
     ensures of { IsOf budget.now pass.new }
     ensures budget { result.drawing.budget ≡ budget.entry.now }
     ensures had { result.had ≡ 0 }
-    ensures new { result.past ≡ nothing_yet result.past.driver.plan }
+    ensures new { result.past ≡ nothing_yet result.past.driver None }
 {
     let plan = plan.expect(rt, "the plan is built");
     let driver = Driver::new(alloc, plan).expect(rt, "there is memory");

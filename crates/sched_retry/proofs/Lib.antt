@@ -1,1 +1,2 @@
+-- The lemmas that the proofs of retries and repeats cite.
 pub mod Polls

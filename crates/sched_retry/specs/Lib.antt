@@ -1,1 +1,2 @@
+-- What a retry or a repeat hands out.
 pub mod Ending

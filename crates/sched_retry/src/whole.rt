@@ -3,17 +3,18 @@
 use crate::endings::Ending;
 use sched_driver::Driver;
 use sched_effect::Effect;
+use sched_run_machine::Drives;
 use sched_task::How;
 use sched_ticket_draws::Draws;
 use sched_time::Moment;
 
 /// All that a retry had.
 #[derive(Drop)]
-pub struct Whole<X: Effect, D: Draws> {
+pub struct Whole<X: Effect, D: Draws, R: Drives = Driver> {
     /// The effect, with its finished runs.
     pub effect: X,
-    /// The driver, with the journal of the failures.
-    pub driver: Driver,
+    /// The driver, with what it keeps of the failures.
+    pub driver: R,
     /// The moments at which runs were begun.
     pub begun: Vec<Moment>,
     /// How it ended, or `None` where it was not over.

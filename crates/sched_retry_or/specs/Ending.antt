@@ -8,7 +8,8 @@ use Rattle.sched_task.specs.declared.endings.How.TheVariants as how
 use Rattle.sched_task_law.specs.Lists.{last_element}
 use Rattle.sched_task_law.specs.Law.{is_stop}
 use Rattle.sched_retry_or.specs.declared.endings.RetryOrEnding.{RetryOrEnding}
-use Rattle.sched_retry_or.specs.declared.endings.RetryOrEnding.TheVariants.{Won, Fallen, Cancelled, Broken}
+use Rattle.sched_retry_or.specs.declared.endings.RetryOrEnding.TheVariants.{Won, Fallen, DeadlinePassed, Cancelled}
+use Rattle.sched_retry_or.specs.declared.endings.RetryOrEnding.TheVariants.{Broken}
 
 module _ {I F : Type 0} (item_code : I → ℕ) (fault_code : F → ℕ) where
   -- an ending says how the task is over; a success has the code of the last run, and what the fallback gave is its
@@ -18,5 +19,6 @@ module _ {I F : Type 0} (item_code : I → ℕ) (fault_code : F → ℕ) where
       (over ≡ Some how.Won) × (last_element runs ≡ Some (ran.Won (item_code item)))
   RetryOrFits over runs answered (Fallen run) =
       (is_stop over ≡ true) × (answered ≡ Some (ran_by item_code fault_code run))
+  RetryOrFits over runs answered DeadlinePassed = over ≡ Some how.DeadlinePassed
   RetryOrFits over runs answered Cancelled = over ≡ Some how.Cancelled
   RetryOrFits over runs answered (Broken fault) = over ≡ Some (how.Broken fault)

@@ -1,95 +1,132 @@
 -- What contracts see of a retry with a fallback, what is true of it between any two polls, and one poll of it.
-use Rattle.std.specs.Prelude.{◌≡◌, ℕ, Bool, true, Option, Some, None, is_some, IsSome, IfSome, refl}
-use Rattle.std.specs.Coded.{Coded, code_by, coded×, coded_ℕ, coded_option}
+use Rattle.std.specs.Prelude.{◌≡◌, ℕ, Bool, true, false, if◌then◌else◌, Option, Some, None, is_some, IsSome, IfSome}
+use Rattle.std.specs.Prelude.{refl}
+use mathlib.Core.Path.{ap}
+use Rattle.std.specs.Coded.{Coded, code_by, coded×, coded_ℕ, coded_bool, coded_option}
 use Rattle.sched_time.specs.declared.numbers.Tick.{Tick}
 use Rattle.sched_plan.specs.Datum.{Datum}
 use Rattle.sched_plan.specs.DatumCode.{coded_datum}
 use Rattle.sched_ticket_draws.specs.Grants.{Grants}
-use Rattle.sched_driver.specs.Driven.{last_output}
 use Rattle.sched_effect.specs.declared.ran.Ran.{Ran}
 use Rattle.sched_effect.specs.declared.ran.Ran.TheVariants.{Lost}
 use Rattle.sched_task.specs.declared.endings.How.{How}
-use Rattle.sched_task_law.specs.Kind.{retry_or}
+use Rattle.sched_task.specs.declared.endings.How.TheVariants as how
+use Rattle.sched_task.specs.declared.endings.RunFault.TheVariants.{NoMemory}
+use Rattle.sched_task_law.specs.Kind.{a_retry}
 use Rattle.sched_task_law.specs.Lists.{last_element}
-use Rattle.sched_task_law.specs.Past.{Past, is_stopped}
-use Rattle.sched_task_law.specs.Poll.{Happened, asks, cannot_ask, falls, stopped_by}
+use Rattle.sched_task_law.specs.Past.{waits_by}
 use Rattle.sched_task_law.specs.Law.{is_stop}
-use Rattle.sched_task_law.specs.Codes.{coded_ran}
-use Rattle.sched_run_machine.specs.Retrying.{Retrying, coded_retrying, RetryLaw, RetryPoll, gives_up as retry_gives_up}
+use Rattle.sched_task_law.specs.Codes.{coded_ran, coded_how}
+use Rattle.sched_run_machine.specs.Drives.{Driving}
+use Rattle.sched_run_machine.specs.Retrying.{RetryingOf, coded_retrying, KeepsLaw, TaskPoll, gives_up as retry_gives_up}
 use Rattle.sched_retry_or.specs.Ending.{RetryOrFits}
+use Rattle.sched_retry_or.specs.Stops.{unless_stop}
 use Rattle.sched_retry_or.specs.declared.endings.RetryOrEnding.{RetryOrEnding}
-use Rattle.sched_retry_or.specs.declared.stopped.Stopped.{Stopped}
 
-pub record Falling (D : Type 0) : Type 0 where
-  pub retrying : Retrying D
+-- A retry with a fallback, which is driven by a value of R and draws its tickets by one of D.
+pub record Falling (R D : Type 0) : Type 0 where
+  -- the retry beneath, which is over where it has stopped
+  pub retrying : RetryingOf R D
+  -- how it is over: as the retry beneath, or, where that has stopped, as its fallback lets it
+  pub over : Option How
+  -- its ending was not taken yet
+  pub untaken : Bool
   -- what the fallback was asked with last, and its answer
   pub asked : Option (ℕ × Datum)
   pub answered : Option Ran
 
-abbrev pub coded_falling : {D : Type 0} → Coded D → Coded (Falling D)
-coded_falling {D} coded_drawing =
-    code_by (Retrying D × (Option (ℕ × Datum) × Option Ran))
-    (coded× (coded_retrying coded_drawing)
-    (coded× (coded_option (coded× coded_ℕ coded_datum)) (coded_option coded_ran)))
-    (λ v. (v.retrying, (v.asked, v.answered)))
-    (λ p. record { retrying = p.0; asked = p.1.0; answered = p.1.1 }) (λ _. refl)
+abbrev pub coded_falling : {R D : Type 0} → Coded R → Coded D → Coded (Falling R D)
+coded_falling {R} {D} coded_driver coded_drawing =
+    code_by (RetryingOf R D × (Option How × (Bool × (Option (ℕ × Datum) × Option Ran))))
+    (coded× (coded_retrying coded_driver coded_drawing) (coded× (coded_option coded_how) (coded× coded_bool
+    (coded× (coded_option (coded× coded_ℕ coded_datum)) (coded_option coded_ran)))))
+    (λ v. (v.retrying, (v.over, (v.untaken, (v.asked, v.answered)))))
+    (λ p. record { retrying = p.0; over = p.1.0; untaken = p.1.1.0; asked = p.1.1.1.0; answered = p.1.1.1.1 })
+    (λ _. refl)
 
--- the fallback was asked with the code of the last run and the driver's last output
-pub record IsAsked (v : Past) (asked : Option (ℕ × Datum)) : Type 0 where
-  pub code : ℕ
-  pub output : Datum
-  pub last : last_element v.runs ≡ Some (Lost code)
-  pub given : last_output v.driver ≡ Some output
-  pub asked_is : asked ≡ Some (code, output)
+-- the moment that it waits for: that of the retry beneath, where it is not over
+abbrev pub falls_due : {R D : Type 0} → Driving R → Falling R D → Option ℕ
+falls_due driving v =
+    if is_some v.over then None else waits_by (driving.starts v.retrying.past.driver) v.retrying.past
 
--- and it has answered
-pub record HasFallen (v : Past) (asked : Option (ℕ × Datum)) (answered : Option Ran) : Type 0 where
-  pub ask : IsAsked v asked
-  pub some : IsSome answered
+pub falls_due-over : {R D : Type 0} (driving : Driving R) (v : Falling R D) → is_some v.over ≡ true →
+    falls_due driving v ≡ None
+falls_due-over driving v over =
+    ap (λ b. if b then None else waits_by (driving.starts v.retrying.past.driver) v.retrying.past) over
 
--- What a poll does to the fallback: it is asked where no run is, and then alone.
-abbrev pub Asks : {D : Type 0} → Past → Happened → Falling D → Falling D → Type 0
-Asks p asks v u = IsAsked p u.asked × (u.answered ≡ None)
-Asks p cannot_ask v u = Unit {0}
-Asks p falls v u = HasFallen p u.asked u.answered
-Asks p _ v u = (u.asked ≡ v.asked) × (u.answered ≡ v.answered)
+module _ {R D : Type 0} (driving : Driving R) (outputs : R → Option Datum) (grants : Grants D) where
+  -- the fallback was asked with the code of the last run and the driver's last output
+  pub record IsAsked (v : RetryingOf R D) (asked : Option (ℕ × Datum)) : Type 0 where
+    pub code : ℕ
+    pub output : Datum
+    pub last : last_element v.past.runs ≡ Some (Lost code)
+    pub given : outputs v.past.driver ≡ Some output
+    pub asked_is : asked ≡ Some (code, output)
 
-module _ {D : Type 0} (grants : Grants D) where
-  -- The law of a retry, which ends at a stop only once its fallback has answered.
-  pub record FallingLaw (v : Falling D) : Type 0 where
-    pub law : RetryLaw grants retry_or v.retrying
-    pub fallen : is_stop v.retrying.past.over ≡ true → HasFallen v.retrying.past v.asked v.answered
+  -- and it has answered
+  pub record HasFallen (v : RetryingOf R D) (asked : Option (ℕ × Datum)) (answered : Option Ran) : Type 0 where
+    pub ask : IsAsked v asked
+    pub some : IsSome answered
+
+  -- The law of a retry with a fallback: the retry beneath keeps its own.
+  pub record FallingLaw (v : Falling R D) : Type 0 where
+    pub law : KeepsLaw driving grants (a_retry driving.keeps) v.retrying
+    -- it is over as the retry beneath, where that has not stopped
+    pub as_beneath : is_stop v.retrying.past.over ≡ false → v.over ≡ v.retrying.past.over
+    -- it ends at a stop of the retry beneath only once its fallback has answered
+    pub fallen : is_stop v.over ≡ true →
+        (v.over ≡ v.retrying.past.over) × HasFallen v.retrying v.asked v.answered
+    -- there is an ending to take only where it is over
+    pub untaken : v.untaken ≡ true → is_some v.over ≡ true
+
+  -- A poll of the retry beneath, whose ending is taken: the fallback is not asked.
+  pub record PollsBeneath (v : Falling R D) (t : Tick) (u : Falling R D) : Type 0 where
+    pub polled : RetryingOf R D
+    pub poll : TaskPoll driving grants (a_retry driving.keeps) v.retrying t (is_some polled.past.over) polled
+    pub leaves : u ≡ record {
+      retrying = record polled { untaken = false };
+      over = unless_stop polled.past.over;
+      untaken = is_some (unless_stop polled.past.over);
+      asked = v.asked;
+      answered = v.answered;
+    }
+
+  -- What the fallback comes to that a poll asks, where the retry beneath has stopped: it has no answer yet; memory is
+  -- refused to it; or it has answered, and the retry ends as it had stopped.
+  abbrev pub ComesTo : Option How → Falling R D → Falling R D → Type 0
+  ComesTo None v u = IsAsked v.retrying u.asked × (u.answered ≡ None) × (u.untaken ≡ v.untaken)
+  ComesTo (Some (how.Broken fault)) v u = (fault ≡ NoMemory) × (u.untaken ≡ true)
+  ComesTo (Some how) v u =
+      (v.retrying.past.over ≡ Some how) × HasFallen v.retrying u.asked u.answered × (u.untaken ≡ true)
+
+  -- What a poll does by how it is over and whether the retry beneath has stopped.
+  abbrev pub PollsAs : Option How → Bool → Falling R D → Tick → Falling R D → Type 0
+  PollsAs (Some how) stopped v t u = u ≡ v
+  PollsAs None false v t u = PollsBeneath v t u
+  PollsAs None true v t u = (u.retrying ≡ v.retrying) × ComesTo u.over v u
 
   -- One poll of a retry with a fallback, exactly.
-  pub record FallingPoll (v : Falling D) (t : Tick) (ready : Bool) (u : Falling D) : Type 0 where
-    pub poll : RetryPoll grants retry_or v.retrying t ready u.retrying
-    pub fallback : Asks v.retrying.past poll.poll.happened v u
+  pub record FallingPoll (v : Falling R D) (t : Tick) (ready : Bool) (u : Falling R D) : Type 0 where
+    pub poll : PollsAs v.over (is_stop v.retrying.past.over) v t u
+    pub ready_is : ready ≡ is_some u.over
 
--- one that is not over is cancelled
-abbrev pub gives_up : {D : Type 0} → Falling D → Falling D
-gives_up v = record v { retrying = retry_gives_up v.retrying }
+-- one that is not over is cancelled, and so is the retry beneath
+abbrev pub gives_up : {R D : Type 0} → Falling R D → Falling R D
+gives_up v = record v {
+  retrying = if is_some v.over then v.retrying else retry_gives_up v.retrying;
+  over = if is_some v.over then v.over else Some how.Cancelled;
+  untaken = if is_some v.over then v.untaken else true;
+}
 
--- a retry seen as one that is over so, and with what its fallback was asked and has answered
-abbrev pub as_over : {D : Type 0} → Retrying D → Option How → Bool → Retrying D
-as_over v over untaken = record v { past = record v.past { over = over }; untaken = untaken }
+-- The failure at which the retry beneath has stopped is kept, with which the fallback is asked; elsewhere none is.
+abbrev pub KeepsStop : {R D F : Type 0} → (F → ℕ) → RetryingOf R D → Option F → Type 0
+KeepsStop code v None = is_stop v.past.over ≡ false
+KeepsStop code v (Some fault) = (is_stop v.past.over ≡ true) × (last_element v.past.runs ≡ Some (Lost (code fault)))
 
-abbrev pub falling : {D : Type 0} → Retrying D → Option How → Bool → Option (ℕ × Datum) → Option Ran → Falling D
-falling v over untaken asked answered = record { retrying = as_over v over untaken; asked = asked; answered = answered }
-
--- why a retry stopped, with the fault of its last run, with which the fallback is asked
-abbrev pub IsWhy : {F : Type 0} → (F → ℕ) → Past → Stopped F → Type 0
-IsWhy code v stopped =
-    (is_stopped v ≡ true) × (last_element v.runs ≡ Some (Lost (code stopped.fault))) × (stopped.how ≡ stopped_by v)
-
--- It is over as the retry beneath, unless that stopped; then it is kept why.
-abbrev pub KeepsStop : {F : Type 0} → (F → ℕ) → Past → Option How → Option (Stopped F) → Type 0
-KeepsStop code v over None = over ≡ v.over
-KeepsStop code v over (Some stopped) = (v.over ≡ Some stopped.how) × IsWhy code v stopped
-
--- What is true of a retry with a fallback, of the retry beneath, how it is over, and what it keeps.
-pub record IsFalling {D I F : Type 0} (grants : Grants D) (item_code : I → ℕ) (fault_code : F → ℕ) (v : Retrying D)
-    (over : Option How) (stopped : Option (Stopped F)) (ending : Option (RetryOrEnding I F))
-    (asked : Option (ℕ × Datum)) (answered : Option Ran) : Type 0 where
-  pub law : FallingLaw grants (falling v over (is_some ending) asked answered)
-  pub fits : IfSome ending (RetryOrFits item_code fault_code over v.past.runs answered)
-  pub keeps : KeepsStop fault_code v.past over stopped
+-- What is true of a retry with a fallback, its ending, and the failure that it keeps.
+pub record IsFalling {R D I F : Type 0} (driving : Driving R) (outputs : R → Option Datum) (grants : Grants D)
+    (item_code : I → ℕ) (fault_code : F → ℕ) (v : Falling R D) (stopped : Option F)
+    (ending : Option (RetryOrEnding I F)) : Type 0 where
+  pub law : FallingLaw driving outputs grants v
+  pub fits : IfSome ending (RetryOrFits item_code fault_code v.over v.retrying.past.runs v.answered)
+  pub keeps : KeepsStop fault_code v.retrying stopped

@@ -9,6 +9,8 @@ pub enum RetryOrEnding<I: Drop, F: Drop> {
     Won(I),
     /// What the fallback gave instead of the last failure.
     Fallen(Result<I, F>),
+    /// Its next run would have begun past its deadline.
+    DeadlinePassed,
     /// It was cancelled.
     Cancelled,
     /// It could not go on.

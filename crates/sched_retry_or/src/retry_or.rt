@@ -1,20 +1,19 @@
 //! Retries with a fallback.
-ghost use Rattle.std.specs.Prelude.{◌≡◌, ◌+◌, false, [], is_some, IfSome};
+ghost use Rattle.std.specs.Prelude.{◌≡◌, ◌+◌, false, is_some, IfSome};
 ghost use Rattle.futures.specs.Task.{Keeps};
 ghost use Rattle.sched_task.specs.Polls.{is_ready};
-ghost use Rattle.sched_task_law.specs.Past.{nothing_yet, waits_for};
-ghost use Rattle.sched_retry_or.specs.Falling.{FallingLaw, FallingPoll, gives_up};
+ghost use Rattle.sched_task_law.specs.Past.{nothing_yet};
+ghost use Rattle.sched_retry_or.specs.Falling.{falls_due, FallingLaw, FallingPoll, gives_up};
 ghost use Rattle.sched_retry_or.specs.Ending.{RetryOrFits};
 
 use crate::endings::RetryOrEnding;
-use crate::stopped::Stopped;
-use crate::stops::{ask, or_stopped, unless_stop};
+use crate::stops::{last_output, or_stopped, unless_stop};
 use futures::task::{Context, Poll};
 use sched_driver::Driver;
 use sched_effect::{Coded, Effect, Fallback};
 use sched_retry::Retry;
-use sched_run_machine::ready_where;
-use sched_task::{How, Task};
+use sched_run_machine::{GivesOutput, ready_where};
+use sched_task::{How, RunFault, Task};
 use sched_ticket_draws::Draws;
 use sched_time::{Moment, Tick};
 use std::alloc::Global;
@@ -22,43 +21,48 @@ use std::marker::Model;
 
 /// A retry that asks a fallback where its schedule is done or it is refused a ticket, and answers what that gives.
 #[derive(Drop)]
-pub struct RetryOr<X: Effect, D: Draws, F: Fallback<X>> {
-    retry: Retry<X, D>,
+pub struct RetryOr<X: Effect, D: Draws, F: Fallback<X>, R: GivesOutput = Driver> {
+    retry: Retry<X, D, R>,
     over: Option<How>,
-    stopped: Option<Stopped<X::Fault>>,
+    stopped: Option<X::Fault>,
     ending: Option<RetryOrEnding<X::Item, X::Fault>>,
     fallback: F,
 }
 
-impl<X: Effect, D: Draws, F: Fallback<X>> Model for RetryOr<X, D, F> {
+impl<X: Effect, D: Draws, F: Fallback<X>, R: GivesOutput> Model for RetryOr<X, D, F, R> {
     ghost use Rattle.std.specs.Prelude.{is_some};
-    ghost use Rattle.sched_retry_or.specs.Falling.{Falling, coded_falling, falling, IsFalling};
+    ghost use Rattle.sched_retry_or.specs.Falling.{Falling, coded_falling, IsFalling};
 
-    ghost Value = { Falling D };
+    ghost Value = { Falling R D };
 
-    ghost coded = { coded_falling D.code };
+    ghost coded = { coded_falling R.code D.code };
 
-    ghost view = { λ r. falling r.retry r.over (is_some r.ending) (F.asked r.fallback) (F.answered r.fallback) };
+    ghost view = { λ r. record {
+      retrying = r.retry;
+      over = r.over;
+      untaken = is_some r.ending;
+      asked = F.asked r.fallback;
+      answered = F.answered r.fallback;
+    } };
 
-    ghost invariant = { λ r. IsFalling D.grants X.Item.coded X.Fault.coded
-        r.retry r.over r.stopped r.ending (F.asked r.fallback) (F.answered r.fallback) };
+    ghost invariant = { λ r. IsFalling R.driving R.outputs D.grants X.Item.coded X.Fault.coded record {
+      retrying = r.retry;
+      over = r.over;
+      untaken = is_some r.ending;
+      asked = F.asked r.fallback;
+      answered = F.answered r.fallback;
+    } r.stopped r.ending };
 }
 
-impl<X: Effect, D: Draws, F: Fallback<X>> RetryOr<X, D, F> {
+impl<X: Effect, D: Draws, F: Fallback<X>, R: GivesOutput> RetryOr<X, D, F, R> {
     /// A retry that has not begun, that draws its tickets by this value, with its fallback. It takes no memory.
-    pub fn new(
-        alloc: Global,
-        effect: X,
-        driver: Driver,
-        drawing: D,
-        fallback: F,
-    ) -> RetryOr<X, D, F>
-        requires journal { driver.journal ≡ [] }
+    pub fn new(alloc: Global, effect: X, driver: R, drawing: D, fallback: F) -> RetryOr<X, D, F, R>
+        requires driver { R.driving.fresh driver }
         requires effect { X.fresh effect }
-        ensures past { result.retrying.past ≡ nothing_yet driver.plan }
+        ensures past { result.retrying.past ≡ nothing_yet driver (R.driving.ends driver) }
         ensures drawing { result.retrying.drawing ≡ drawing }
         ensures had { result.retrying.had ≡ D.grants.granted drawing }
-        ensures untaken { result.retrying.untaken ≡ false }
+        ensures untaken { result.untaken ≡ false }
         ensures asked { result.asked ≡ F.asked fallback }
         ensures answered { result.answered ≡ F.answered fallback }
     {
@@ -79,19 +83,26 @@ impl<X: Effect, D: Draws, F: Fallback<X>> RetryOr<X, D, F> {
     /// then each later poll asks the fallback once, with the last failure and the driver's last output, until it
     /// answers.
     pub fn poll_at(&mut self, alloc: Global, tick: &Tick, cx: &mut Context<'_>) -> Poll<()>
-        ensures poll { FallingPoll D.grants self.old tick.entry.now (is_ready result) self.new }
-        ensures answers { is_ready result ≡ is_some self.new.retrying.past.over }
+        ensures poll { FallingPoll R.driving R.outputs D.grants self.old tick.entry.now (is_ready result) self.new }
+        ensures answers { is_ready result ≡ is_some self.new.over }
         ensures kept { Keeps cx.old cx.new }
     {
         if self.over.is_some() {
             return Poll::Ready(());
         }
-        if let Some(stopped) = &self.stopped {
-            return match ask(&self.retry, stopped, &mut self.fallback, cx) {
-                None => Poll::Pending,
-                Some((how, ending)) => {
-                    self.over = Some(how);
-                    self.ending = Some(ending);
+        if let Some(fault) = &self.stopped {
+            let output = last_output(self.retry.driver());
+            return match self.fallback.poll_fallback(fault, output, cx) {
+                Poll::Pending => Poll::Pending,
+                Poll::Ready(Err(_)) => {
+                    let cause = RunFault::NoMemory;
+                    self.over = Some(How::Broken(cause));
+                    self.ending = Some(RetryOrEnding::Broken(cause));
+                    Poll::Ready(())
+                }
+                Poll::Ready(Ok(run)) => {
+                    self.over = self.retry.over();
+                    self.ending = Some(RetryOrEnding::Fallen(run));
                     Poll::Ready(())
                 }
             };
@@ -107,15 +118,15 @@ impl<X: Effect, D: Draws, F: Fallback<X>> RetryOr<X, D, F> {
 
     /// The moment that it waits for, or `None` where it waits for none, as while its fallback is asked.
     pub fn due(&self) -> Option<Moment>
-        ensures { result ≡ waits_for self.now.retrying.past }
+        ensures { result ≡ falls_due R.driving self.now }
     {
         self.retry.due()
     }
 
     /// How it ended, or `None` where it is not over. Whenever it is asked, the law of a retry holds.
     pub fn over(&self) -> Option<How>
-        ensures over { result ≡ self.now.retrying.past.over }
-        ensures law { FallingLaw D.grants self.now }
+        ensures over { result ≡ self.now.over }
+        ensures law { FallingLaw R.driving R.outputs D.grants self.now }
     {
         self.over
     }
@@ -134,16 +145,16 @@ impl<X: Effect, D: Draws, F: Fallback<X>> RetryOr<X, D, F> {
 
     /// The ending, once, where the retry is over; `None` before that and after it was taken.
     pub fn take_ending(&mut self) -> Option<RetryOrEnding<X::Item, X::Fault>>
-        ensures once { is_some result ≡ self.old.retrying.untaken }
-        ensures taken { self.new ≡ record self.old { retrying = record self.old.retrying { untaken = false } } }
+        ensures once { is_some result ≡ self.old.untaken }
+        ensures taken { self.new ≡ record self.old { untaken = false } }
         ensures fits { IfSome result (RetryOrFits X.Item.coded X.Fault.coded
-            self.old.retrying.past.over self.old.retrying.past.runs self.old.answered) }
+            self.old.over self.old.retrying.past.runs self.old.answered) }
     {
         self.ending.take()
     }
 
-    /// The driver, with the journal of the failures.
-    pub fn driver(&self) -> &Driver
+    /// The driver, with what it keeps of the failures.
+    pub fn driver(&self) -> &R
         ensures { result.now ≡ self.now.retrying.past.driver }
     {
         self.retry.driver()
@@ -172,7 +183,7 @@ impl<X: Effect, D: Draws, F: Fallback<X>> RetryOr<X, D, F> {
     }
 
     /// The effect, the driver, what it drew by, with all its tickets, and the fallback.
-    pub fn into_parts(self) -> (X, Driver, D, F)
+    pub fn into_parts(self) -> (X, R, D, F)
         ensures runs { X.finished result.0 ≡ self.retrying.past.runs }
         ensures driver { result.1 ≡ self.retrying.past.driver }
         ensures drawing { result.2 ≡ self.retrying.drawing }
@@ -192,20 +203,19 @@ impl<X: Effect, D: Draws, F: Fallback<X>> RetryOr<X, D, F> {
     }
 }
 
-impl<X: Effect, D: Draws, F: Fallback<X>> Task for RetryOr<X, D, F> {
+impl<X: Effect, D: Draws, F: Fallback<X>, R: GivesOutput> Task for RetryOr<X, D, F, R> {
     ghost use Rattle.std.specs.Prelude.{◌≡◌};
-    ghost use Rattle.sched_task_law.specs.Past.{waits_for as start_of, waits_for-over};
-    ghost use Rattle.sched_retry_or.specs.Falling.{FallingPoll, gives_up as given_up};
+    ghost use Rattle.sched_retry_or.specs.Falling.{falls_due, falls_due-over, FallingPoll, gives_up as given_up};
 
-    ghost ended = { λ v. v.retrying.past.over };
+    ghost ended = { λ v. v.over };
 
-    ghost waits_for = { λ v. start_of v.retrying.past };
+    ghost waits_for = { falls_due R.driving };
 
-    ghost one_poll = { FallingPoll D.grants };
+    ghost one_poll = { FallingPoll R.driving R.outputs D.grants };
 
     ghost gives_up = { λ v u. u ≡ given_up v };
 
-    ghost rests = { λ v over. waits_for-over v.retrying.past over };
+    ghost rests = { falls_due-over R.driving };
 
     fn poll_at(&mut self, alloc: Global, tick: &Tick, cx: &mut Context<'_>) -> Poll<()> {
         RetryOr::poll_at(self, alloc, tick, cx)

@@ -1,3 +1,4 @@
+-- The definitions that callers of tasks cite.
 pub use Rattle.sched_time.specs.Capped
 pub use Rattle.sched_time.specs.Decision
 pub use Rattle.sched_plan.specs.Datum
@@ -21,12 +22,12 @@ pub use Rattle.sched_task.specs.Words
 pub use Rattle.sched_task.specs.System
 pub use Rattle.sched_effect.specs.Runs
 pub use Rattle.sched_effect.specs.Called
+pub use Rattle.sched_task_law.specs.Deadline
 pub use Rattle.sched_task_law.specs.Kind
 pub use Rattle.sched_task_law.specs.Past
 pub use Rattle.sched_task_law.specs.Law
+pub use Rattle.sched_run_machine.specs.Drives
 pub use Rattle.sched_run_machine.specs.Retrying
 pub use Rattle.sched_retry.specs.Ending
 pub use Rattle.sched_retry_or.specs.Falling
 pub use Rattle.sched_retry_or.specs.Ending as FallbackEnding
-pub use Rattle.sched_repeat.specs.Repeating
-pub use Rattle.sched_repeat.specs.Ending as RepeatEnding

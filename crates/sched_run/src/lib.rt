@@ -1,12 +1,14 @@
 //! Effects that are retried and repeated as a schedule says: the tasks, with what they are made of and what drives
-//! them.
+//! them. Each name keeps the clauses of the crate that it comes from. It stands on `sched_closure`, `sched_retry`,
+//! `sched_retry_or` and what those stand on.
 //!
-//! `retry_call` calls a closure until it succeeds, again after each failure as its driver's schedule says, with a ticket
-//! for each retry: of a budget or a quota that others share (`OnBudget`, `OnQuota`), or of no budget (`Unlimited`). It
-//! blocks until that is over. What drives it is a `Machine`, which is made at the first failure: by a `Stepper`, which
-//! keeps nothing of the runs and has no last event, or by a `Driver`, which keeps a journal of 65,536 events; round either
-//! an `Until` sets a deadline. A program that makes its runs itself polls the machine, and reports how each run went.
-//! `repeat_call` calls a closure again after each success, by the machine of a repeat (`RepeatMachine`).
+//! `retry_call` calls a closure until it succeeds, again after each failure as its driver's schedule says, with a
+//! ticket for each retry: of a budget or a quota that others share (`OnBudget`, `OnQuota`), or of no budget
+//! (`Unlimited`). It blocks until that is over. What drives it is a `Machine`, which is made at the first failure: by a
+//! `Stepper`, which keeps nothing of the runs and has no last event, or by a `Driver`, which keeps a journal of 65,536
+//! events; round either an `Until` sets a deadline. A program that makes its runs itself polls the machine, and reports
+//! how each run went. `repeat_call` calls a closure again after each success, by the machine of a repeat
+//! (`RepeatMachine`).
 //!
 //! A `Retry` does the same with an effect, as a task that is polled. A `RetryOr` asks a fallback in the end, and a
 //! `Repeat` runs again after each success. Each is polled by hand with `poll_at`, or is a future by `Timed`, which
@@ -29,10 +31,11 @@ pub use sched_effect::{
     Action, Call, Code, Coded, Effect, Fallback, FutureAction, FutureCall, Ran, Scripted, Tagged,
 };
 pub use sched_plan::{Fold, Plan, PlanFault, SharedPlan, Side, Test, Val};
-pub use sched_repeat::{Repeat, RepeatEnding};
-pub use sched_retry::{Ending, Retry};
+pub use sched_retry::{Ending, Repeat, Rerun, Retry};
 pub use sched_retry_or::{RetryOr, RetryOrEnding};
-pub use sched_run_machine::{Aims, Drives, Machine, Next, RepeatMachine, Repeats, Retries, Until};
+pub use sched_run_machine::{
+    Aims, Drives, GivesOutput, Machine, Next, RepeatMachine, Repeats, Retries, Until,
+};
 pub use sched_task::{
     Clock, How, MidWords, RunFault, SystemClock, SystemWords, Task, TimeSource, Timed,
     VirtualClock, four_words,

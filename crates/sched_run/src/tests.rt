@@ -16,6 +16,7 @@ use std::sync::Wait;
 
 mod answers;
 mod calls;
+mod deadlines;
 mod draws;
 mod endings;
 mod guide;

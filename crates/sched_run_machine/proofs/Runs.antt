@@ -1,19 +1,22 @@
 -- What the polls of a task leave of its runs and their beginnings.
-use Rattle.std.proofs.Common.{◌≡◌, ℕ, ◌<◌, ◌≤◌, ◌⊎◌, inl, inr, Bool, true, false, ◌||◌, if◌then◌else◌, List, [], ◌∷◌, ◌++◌, length, Option, Some, None, is_some, IfSome, IsSomeAnd, Result, refl, sym, ap, ◌∙◌, subst, arith}
+use Rattle.std.proofs.Common.{◌≡◌, ℕ, ◌<◌, ◌≤◌, ◌⊎◌, inl, inr, Bool, true, false, ◌||◌, if◌then◌else◌, List, [], ◌∷◌}
+use Rattle.std.proofs.Common.{◌++◌, length, Option, Some, None, is_some, IfSome, IsSomeAnd, Result, refl, sym, ap, ◌∙◌}
+use Rattle.std.proofs.Common.{subst, arith}
 use Rattle.std.proofs.lemmas.List.{append-nil, append_cancel_left}
 use Rattle.sched_time.specs.declared.numbers.Tick.{Tick}
 use Rattle.sched_effect.specs.Runs.{ran_by}
 use Rattle.sched_effect.specs.declared.ran.Ran.{Ran}
-use Rattle.sched_task_law.specs.Kind.{Kind, falls_back}
+use Rattle.sched_task_law.specs.Kind.{Kind}
 use Rattle.sched_task_law.specs.Past.{Past, is_under_way, waits_for}
-use Rattle.sched_task_law.specs.Poll.{Happened, stays, cannot_begin, runs_on, cannot_run, ends, breaks, stops_done, stops_denied, recurs, asks, cannot_ask, falls, begun_by, after, CanRun, May, OnePoll}
+use Rattle.sched_task_law.specs.Poll.{Happened, stays, cannot_begin, runs_on, cannot_run, ends, breaks, stops_done}
+use Rattle.sched_task_law.specs.Poll.{stops_denied, recurs, times_out, begun_by, after, IsDue, May, OnePoll}
 use Rattle.sched_task_law.specs.Law.{HasOneMore}
 use Rattle.sched_run_machine.specs.declared.runner.Polled.{Polled}
 use Rattle.sched_run_machine.specs.declared.runner.Polled.TheVariants.{CannotBegin, Pending, CannotRun, Finished}
 use Rattle.sched_task_law.specs.Lists.{last_element}
 use Rattle.sched_task_law.proofs.Lists.{last_element-push}
-use Rattle.sched_task_law.proofs.Law.{under_way_then, finished_then}
-use Rattle.sched_run_machine.specs.Runner.{Runs, begun_with, polls_run, leaves_run, given_by, told_by, Polls}
+use Rattle.sched_task_law.proofs.Law.{under_way_then, finished_then, late_after}
+use Rattle.sched_run_machine.specs.Runner.{Runs, begun_with, polls_run, leaves_run, given_by, told_by, RunPolls}
 
 -- whether runs finish
 abbrev pub finishes : List Ran → Bool
@@ -24,11 +27,11 @@ later_not : (due : Option ℕ) (now : ℕ) → IsSomeAnd due (λ m. now < m) →
 later_not None now later due = later
 later_not (Some m) now later due = omega (arith, later, due)
 
--- a task that can be polled does not stay as it is
-pub not_stays : (kind : Kind) (v : Past) (t : Tick) → CanRun v t → May kind v t stays → ⊥
-not_stays kind v t can may = elim may [
-  | inl over ↦ (let bad : false ≡ true = ap is_some (sym can.unended) ∙ over in cc)
-  | inr waits ↦ later_not (waits_for v) t.now waits can.due
+-- a task that is due does not stay as it is
+not_stays : (kind : Kind) (v : Past) (t : Tick) → IsDue v t → May kind v t stays → ⊥
+not_stays kind v t due may = elim may [
+  | inl over ↦ (let bad : false ≡ true = ap is_some (sym due.unended) ∙ over in cc)
+  | inr waits ↦ later_not (waits_for v) t.now waits due.due
 ]
 
 nothing_told : (runs told : List Ran) → runs ≡ runs ++ told → told ≡ []
@@ -38,8 +41,9 @@ told_is : (runs : List Ran) (r : Ran) (told : List Ran) → runs ++ r ∷ [] ≡
 told_is runs r told grown = sym (append_cancel_left runs (r ∷ []) told grown)
 
 -- The beginnings after a poll: a run was begun where one is under way, or finished, that was not under way before.
-module _ (kind : Kind) (v : Past) (t : Tick) (counted : (length v.begun ≡ length v.runs) ⊎ HasOneMore v) (can : CanRun v t)
-    (no_fallback : falls_back kind ≡ false) (told : List Ran) where
+module _ (kind : Kind) (v : Past) (t : Tick) (counted : (length v.begun ≡ length v.runs)
+    ⊎ HasOneMore v) (due : IsDue v t)
+    (told : List Ran) where
   abbrev Begins : Past → Type 0
   Begins u = u.begun ≡ (if is_under_way u.runs u.begun || finishes told then begun_by v t else v.begun)
 
@@ -47,11 +51,8 @@ module _ (kind : Kind) (v : Past) (t : Tick) (counted : (length v.begun ≡ leng
       begun_by v t ≡ (if is_under_way (v.runs ++ r ∷ []) (begun_by v t) || finishes told then begun_by v t else v.begun)
   finished_so r grown = rw (told_is v.runs r told grown, finished_then v t r counted) refl
 
-  asks_none : falls_back kind ≡ true → {P : Type 0} → P
-  asks_none has = absurd (let bad : false ≡ true = sym no_fallback ∙ has in cc)
-
   begun_after : (h : Happened) → May kind v t h → (after kind v t h).runs ≡ v.runs ++ told → Begins (after kind v t h)
-  begun_after stays may grown = absurd (not_stays kind v t can may)
+  begun_after stays may grown = absurd (not_stays kind v t due may)
   begun_after cannot_begin may grown = rw (nothing_told v.runs told grown, may.1) refl
   begun_after runs_on may grown = rw (under_way_then v t counted) refl
   begun_after cannot_run may grown = rw (under_way_then v t counted) refl
@@ -60,13 +61,12 @@ module _ (kind : Kind) (v : Past) (t : Tick) (counted : (length v.begun ≡ leng
   begun_after (stops_done r) may grown = finished_so r grown
   begun_after (stops_denied r) may grown = finished_so r grown
   begun_after (recurs r) may grown = finished_so r grown
-  begun_after asks may grown = asks_none may.has_fallback
-  begun_after cannot_ask may grown = asks_none may.has_fallback
-  begun_after falls may grown = asks_none may.has_fallback
+  begun_after times_out may grown = rw (nothing_told v.runs told grown, (late_after v t.now may.1).2) refl
 
   pub begun_then : (u : Past) (ready : Bool) → OnePoll kind v t ready u → u.runs ≡ v.runs ++ told → Begins u
   begun_then u ready poll grown =
-      subst (λ (u : Past). (u.runs ≡ v.runs ++ told) → Begins u) (sym poll.leaves) (begun_after poll.happened poll.may) grown
+      subst (λ (u : Past). (u.runs ≡ v.runs ++ told) → Begins u) (sym poll.leaves) (begun_after poll.happened poll.may)
+      grown
 
 -- What a poll of the run under way left, in which these runs finished; `running` says whether one is under way then.
 pub record Grows (r s : Runs) (t : Tick) (told : List Ran) (running : Bool) : Type 0 where
@@ -74,7 +74,7 @@ pub record Grows (r s : Runs) (t : Tick) (told : List Ran) (running : Bool) : Ty
   pub begun : s.begun ≡ (if running || finishes told then begun_with r t else r.begun)
 
 module _ {I F : Type 0} (item_code : I → ℕ) (fault_code : F → ℕ) (r s : Runs) (t : Tick) where
-  pub grows : (polled : Polled I F) → Polls item_code fault_code r t polled s →
+  pub grows : (polled : Polled I F) → RunPolls item_code fault_code r t polled s →
       Grows r s t (told_by item_code fault_code polled) (leaves_run polled)
   grows CannotBegin polls = record {
     runs = ap (λ (s : Runs). s.runs) polls.1 ∙ sym (append-nil r.runs);
@@ -94,7 +94,7 @@ module _ {I F : Type 0} (item_code : I → ℕ) (fault_code : F → ℕ) (r s : 
   }
 
   -- nothing is polled only where no run is under way
-  pub idle_by : (polled : Polled I F) → Polls item_code fault_code r t polled s → polls_run polled ≡ false →
+  pub idle_by : (polled : Polled I F) → RunPolls item_code fault_code r t polled s → polls_run polled ≡ false →
       is_under_way r.runs r.begun ≡ false
   idle_by CannotBegin polls none = polls.0
   idle_by Pending polls none = absurd cc

@@ -1,10 +1,12 @@
 -- What a poll of a retry or a repeat does keeps its law, whatever happens in it.
-use Rattle.std.proofs.Common.{◌≡◌, ◌+◌, Bool, true, false, if◌then◌else◌, None, is_some, refl, sym, ap, ◌∙◌, subst, arith}
+use Rattle.std.proofs.Common.{◌≡◌, ◌+◌, Bool, true, false, if◌then◌else◌, None, is_some, refl, sym, ap, ◌∙◌, subst}
+use Rattle.std.proofs.Common.{arith}
 use Rattle.sched_time.specs.declared.numbers.Tick.{Tick}
 use Rattle.sched_ticket_draws.specs.Grants.{Grants, Lawful}
 use Rattle.sched_task_law.specs.Kind.{Kind, draws}
 use Rattle.sched_task_law.specs.Past.{Past, is_stopped}
-use Rattle.sched_task_law.specs.Poll.{Happened, stays, cannot_begin, runs_on, cannot_run, ends, breaks, stops_done, stops_denied, recurs, asks, cannot_ask, falls, after, May}
+use Rattle.sched_task_law.specs.Poll.{Happened, stays, cannot_begin, runs_on, cannot_run, ends, breaks, stops_done}
+use Rattle.sched_task_law.specs.Poll.{stops_denied, recurs, times_out, after, May}
 use Rattle.sched_task_law.proofs.Lists.{by_test}
 use Rattle.sched_task_law.proofs.Fields.{none_of}
 use Rattle.sched_task_law.proofs.Law.{law_after}
@@ -40,15 +42,16 @@ module _ {D : Type 0} (grants : Grants D) (lawful : Lawful grants) where
       let one = lawful.counts v.drawing t.now true q (rw drawn at drew) in
       rw drawn (rw (one, was) (omega arith)))
       (λ free. rw free (same_granted v.drawing q (rw free at drew) ∙ was))
-  granted_after kind v t asks q was drew = same_granted v.drawing q drew ∙ was
-  granted_after kind v t cannot_ask q was drew = same_granted v.drawing q drew ∙ was
-  granted_after kind v t falls q was drew = same_granted v.drawing q drew ∙ was
+  granted_after kind v t times_out q was drew = same_granted v.drawing q drew ∙ was
 
-  same_refused : (denied : Bool) (p q : D) → (denied ≡ true → grants.refused p) → q ≡ p → denied ≡ true → grants.refused q
+  same_refused : (denied : Bool) (p q : D) → (denied ≡ true → grants.refused p) → q ≡ p → denied ≡ true →
+      grants.refused q
   same_refused denied p q was same is = subst grants.refused (sym same) (was is)
 
-  denied_after : (kind : Kind) (v : Retrying D) (t : Tick) (h : Happened) (q : D) → (v.past.denied ≡ true → grants.refused v.drawing) →
-      May kind v.past t h → DrawsIn grants (draws kind) h t.now v.drawing q → (after kind v.past t h).denied ≡ true → grants.refused q
+  denied_after : (kind : Kind) (v : Retrying D) (t : Tick) (h : Happened) (q : D) →
+      (v.past.denied ≡ true → grants.refused v.drawing) →
+      May kind v.past t h → DrawsIn grants (draws kind) h t.now v.drawing q → (after kind v.past t h).denied ≡ true →
+      grants.refused q
   denied_after kind v t stays q was may drew = same_refused v.past.denied v.drawing q was drew
   denied_after kind v t cannot_begin q was may drew = same_refused v.past.denied v.drawing q was drew
   denied_after kind v t runs_on q was may drew = same_refused v.past.denied v.drawing q was drew
@@ -57,16 +60,15 @@ module _ {D : Type 0} (grants : Grants D) (lawful : Lawful grants) where
   denied_after kind v t (breaks r fault) q was may drew = same_refused v.past.denied v.drawing q was drew
   denied_after kind v t (stops_done r) q was may drew = same_refused v.past.denied v.drawing q was drew
   denied_after kind v t (stops_denied r) q was may drew = λ yes. lawful.denies v.drawing t.now q drew
-  denied_after kind v t (recurs r) q was may drew = λ is. absurd (denied_stops v.past is may.0.can.unstopped)
-  denied_after kind v t asks q was may drew = same_refused v.past.denied v.drawing q was drew
-  denied_after kind v t cannot_ask q was may drew = same_refused v.past.denied v.drawing q was drew
-  denied_after kind v t falls q was may drew = same_refused v.past.denied v.drawing q was drew
+  denied_after kind v t (recurs r) q was may drew = λ is. absurd (denied_stops v.past is may.0.can.is_due.unstopped)
+  denied_after kind v t times_out q was may drew = same_refused v.past.denied v.drawing q was drew
 
   same_name : (p q : D) → q ≡ p → grants.name q ≡ grants.name p
   same_name p q same = ap (λ (d : D). grants.name d) same
 
   -- every poll draws on the same budget
-  named_after : (kind : Kind) (t : Tick) (h : Happened) (p q : D) → DrawsIn grants (draws kind) h t.now p q → grants.name q ≡ grants.name p
+  named_after : (kind : Kind) (t : Tick) (h : Happened) (p q : D) → DrawsIn grants (draws kind) h t.now p q →
+      grants.name q ≡ grants.name p
   named_after kind t stays p q drew = same_name p q drew
   named_after kind t cannot_begin p q drew = same_name p q drew
   named_after kind t runs_on p q drew = same_name p q drew
@@ -76,10 +78,9 @@ module _ {D : Type 0} (grants : Grants D) (lawful : Lawful grants) where
   named_after kind t (stops_done r) p q drew = same_name p q drew
   named_after kind t (stops_denied r) p q drew = lawful.keeps p t.now false q drew
   named_after kind t (recurs r) p q drew =
-      by_test (draws kind) (λ drawn. lawful.keeps p t.now true q (rw drawn at drew)) (λ free. same_name p q (rw free at drew))
-  named_after kind t asks p q drew = same_name p q drew
-  named_after kind t cannot_ask p q drew = same_name p q drew
-  named_after kind t falls p q drew = same_name p q drew
+      by_test (draws kind) (λ drawn. lawful.keeps p t.now true q (rw drawn at drew))
+      (λ free. same_name p q (rw free at drew))
+  named_after kind t times_out p q drew = same_name p q drew
 
   -- the task after a poll in which this happened
   abbrev pub next : Kind → Retrying D → Tick → Happened → D → Retrying D
@@ -122,7 +123,8 @@ module _ {D : Type 0} (grants : Grants D) (lawful : Lawful grants) where
       (λ isnt. rw isnt (untaken_false kind v law (none_of v.past.over isnt) ∙ sym (is ∙ isnt)))
 
   -- one that is over, or waits for a later moment, stays as it is
-  pub rests : (kind : Kind) (v : Retrying D) (t : Tick) (ready : Bool) → ready ≡ is_some v.past.over → RetryLaw grants kind v →
+  pub rests : (kind : Kind) (v : Retrying D) (t : Tick) (ready : Bool) → ready ≡ is_some v.past.over →
+      RetryLaw grants kind v →
       May kind v.past t stays → RetryPoll grants kind v t ready v
   rests kind v t ready is law may = record {
     poll = record { happened = stays; may = may; leaves = refl; ready_is = is };

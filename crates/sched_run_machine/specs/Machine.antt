@@ -1,24 +1,23 @@
 -- What contracts see of a machine, and which retries or repeats it may stand for.
-use Rattle.std.specs.Prelude.{◌≡◌, ℕ, ◌⊎◌, Bool, true, false, not, ◌&&◌, if◌then◌else◌, nat_lt, List, length, min, Option, Some, None, is_some, refl}
+use Rattle.std.specs.Prelude.{◌≡◌, ℕ, ◌⊎◌, Bool, true, false, not, ◌&&◌, if◌then◌else◌, nat_lt, List, length, min}
+use Rattle.std.specs.Prelude.{Option, Some, None, is_some, refl}
 use Rattle.std.specs.Bool.{MatchBool}
 use Rattle.std.specs.Coded.{Coded, code_by, coded×, coded_ℕ, coded_bool, coded_option}
 use Rattle.sched_time.specs.declared.numbers.Tick.{Tick}
 use Rattle.sched_plan.specs.Schedule.{Schedule}
-use Rattle.sched_driver.specs.Driven.{Driven}
 use Rattle.sched_ticket_draws.specs.Grants.{Grants}
 use Rattle.sched_effect.specs.Runs.{code_of}
 use Rattle.sched_effect.specs.declared.ran.Ran.{Ran}
 use Rattle.sched_task.specs.declared.endings.How.{How}
 use Rattle.sched_task.specs.declared.endings.How.TheVariants as how
 use Rattle.sched_task.specs.declared.endings.RunFault.TheVariants.{NoMemory}
-use Rattle.sched_task_law.specs.Kind.{Kind, keeps, draws, calls, final}
-use Rattle.sched_task_law.specs.Past.{nothing_yet, is_under_way}
-use Rattle.sched_task_law.specs.Poll.{stays, CanRun, May}
+use Rattle.sched_task_law.specs.Deadline.{is_past}
+use Rattle.sched_task_law.specs.Kind.{Kind, draws, calls, final}
+use Rattle.sched_task_law.specs.Past.{nothing_until, is_under_way}
+use Rattle.sched_task_law.specs.Poll.{stays, IsDue, May}
 use Rattle.sched_task_law.specs.Codes.{coded_how}
-use Rattle.sched_run_machine.specs.Retrying.{Retrying, RetryLaw, Drawn}
-use Rattle.sched_run_machine.specs.Deadline.{is_past}
-use Rattle.sched_run_machine.specs.Drives.{Stepped, Refused}
-use Rattle.sched_run_machine.specs.Next.{HostPoll, HostPollUntil}
+use Rattle.sched_run_machine.specs.Drives.{Driving, Stepped, Refused}
+use Rattle.sched_run_machine.specs.Retrying.{Retrying, RetryLaw, Drawn, HostPoll}
 use Rattle.sched_run_machine.specs.declared.next.Next.{Next}
 use Rattle.sched_run_machine.specs.declared.next.Next.TheVariants.{Wait}
 
@@ -59,9 +58,9 @@ abbrev pub WaitsInTime : Option ℕ → Next → Type 0
 WaitsInTime deadline (Wait start) = is_past deadline start ≡ false
 WaitsInTime deadline _ = Unit {0}
 
--- Another run would begin past the deadline: none is under way, and one was reported.
-abbrev pub is_too_late : {R D : Type 0} → Option ℕ → Machine R D → ℕ → Bool
-is_too_late deadline m now = is_past deadline now && (nat_lt 0 m.told && not m.under_way)
+-- another run would begin past the deadline: none is under way, and one was reported
+abbrev pub would_be_late : {R D : Type 0} → Option ℕ → Machine R D → ℕ → Bool
+would_be_late deadline m now = is_past deadline now && (nat_lt 0 m.told && not m.under_way)
 
 -- one that its deadline ends
 abbrev pub timed_out : {R D : Type 0} → Machine R D → Machine R D
@@ -71,8 +70,8 @@ timed_out m = record m { over = Some how.DeadlinePassed }
 -- late; or, where that would begin too late, the machine ended by its deadline.
 abbrev pub PollsInTime : {R D : Type 0} → Option ℕ → Machine R D → ℕ → Machine R D → Type 0
 PollsInTime deadline m now n =
-    (n ≡ m) ⊎ (((is_too_late deadline m now ≡ false) × (n ≡ record m { under_way = true }))
-    ⊎ ((m.over ≡ None) × (is_too_late deadline m now ≡ true) × (n ≡ timed_out m)))
+    (n ≡ m) ⊎ (((would_be_late deadline m now ≡ false) × (n ≡ record m { under_way = true }))
+    ⊎ ((m.over ≡ None) × (would_be_late deadline m now ≡ true) × (n ≡ timed_out m)))
 
 -- one to whose run, or to the beginning of it, memory is refused
 abbrev pub breaks_off : {R D : Type 0} → Bool → Machine R D → Machine R D
@@ -94,60 +93,56 @@ module _ {D : Type 0} (grants : Grants D) where
     told = 0;
   }
 
-  abbrev pub unbegun : Schedule → D → Retrying D
-  unbegun plan drawing =
-      record { past = nothing_yet plan; drawing = drawing; had = grants.granted drawing; untaken = false }
+  abbrev pub unbegun : Schedule → Option ℕ → D → Retrying D
+  unbegun plan deadline drawing = record {
+    past = nothing_until plan deadline;
+    drawing = drawing;
+    had = grants.granted drawing;
+    untaken = false;
+  }
 
-module _ {R D : Type 0} (stands : R → Driven → Type 0) (kind : Kind) (grants : Grants D) where
-  -- The machine is that of this task, which keeps its law: its driver may stand for the task's journal, and a run is
-  -- under way in both or in neither.
-  pub record StandsFor (m : Machine R D) (v : Retrying D) : Type 0 where
+module _ {R D : Type 0} (driving : Driving R) (kind : Kind) (grants : Grants D) where
+  -- The machine is that of this task, which keeps its law: its driver may stand for the task's journal and has its
+  -- deadline, and a run is under way in both or in neither.
+  pub record IsMachineOf (m : Machine R D) (v : Retrying D) : Type 0 where
     pub law : RetryLaw grants kind v
-    pub driver : stands m.driver v.past.driver
+    pub driver : driving.stands m.driver v.past.driver
+    pub deadline : driving.ends m.driver ≡ v.past.deadline
     pub under_way : m.under_way ≡ is_under_way v.past.runs v.past.begun
     pub over : m.over ≡ v.past.over
     pub drawing : m.drawing ≡ v.drawing
     pub had : m.had ≡ v.had
     pub told : m.told ≡ min (length v.past.runs) 18446744073709551615
 
-  -- what a look before a poll tells of each task that it may stand for: it stays as it is, or a run can be polled
-  abbrev pub Looks : Machine R D → Tick → Bool → Type 0
-  Looks m t true = (v : Retrying D) → StandsFor m v → May kind v.past t stays
-  Looks m t false = (v : Retrying D) → StandsFor m v → CanRun v.past t
-
-module _ {R D : Type 0} (stands : R → Driven → Type 0) (kind : Kind) (goes_by : R → Schedule → Type 0)
-    (grants : Grants D) where
-  -- By each schedule that its driver may go by there is a task that the machine may stand for.
+  -- there is a task that it may stand for
   abbrev pub IsMachine : Machine R D → Type 0
-  IsMachine m = (s : Schedule) → goes_by m.driver s →
-      (v : Retrying D) × (v.past.driver.plan ≡ s) × StandsFor stands kind grants m v
+  IsMachine m = (v : Retrying D) × IsMachineOf m v
 
-  -- The machine after a poll goes by no other schedules than before. Of each task that the machine may stand for, by a
-  -- schedule that it may go by after the poll, it was one poll, in which the runs that finished are those told; and it
-  -- may stand for the task after it.
-  pub record Polls (m : Machine R D) (t : Tick) (told : List Ran) (n : Machine R D) : Type 0 where
-    pub narrows : (s : Schedule) → goes_by n.driver s → goes_by m.driver s
-    pub leads : (v : Retrying D) → StandsFor stands kind grants m v → goes_by n.driver v.past.driver.plan →
-        (u : Retrying D) × HostPoll grants kind v t told u × StandsFor stands kind grants n u
+  -- what a look before a poll tells of each task that it may stand for: it stays as it is, or is due
+  abbrev pub Looks : Machine R D → Tick → Bool → Type 0
+  Looks m t true = (v : Retrying D) → IsMachineOf m v → May kind v.past t stays
+  Looks m t false = (v : Retrying D) → IsMachineOf m v → IsDue v.past t
 
-  -- A poll of a machine whose driver has a deadline or none: of each such task it was one poll, or the end by its
-  -- deadline.
-  pub record PollsUntil (ends : R → Option ℕ) (m : Machine R D) (t : Tick) (told : List Ran) (n : Machine R D)
-      : Type 0 where
-    pub narrows : (s : Schedule) → goes_by n.driver s → goes_by m.driver s
-    pub deadline : ends n.driver ≡ ends m.driver
-    pub leads : (v : Retrying D) → StandsFor stands kind grants m v → goes_by n.driver v.past.driver.plan →
-        (u : Retrying D) × HostPollUntil grants kind (ends m.driver) v t told u × StandsFor stands kind grants n u
+  -- each task that the machine may stand for comes by one poll, in which these runs finish, to one that it may stand
+  -- for
+  -- then
+  abbrev pub LeadsEach : Machine R D → Tick → List Ran → Machine R D → Type 0
+  LeadsEach m t told n = (v : Retrying D) → IsMachineOf m v →
+      (u : Retrying D) × HostPoll grants kind v t told u × IsMachineOf n u
+
+  -- One poll of each task that the machine may stand for, in which the runs that finished are those told.
+  pub record PollsEach (m : Machine R D) (t : Tick) (told : List Ran) (n : Machine R D) : Type 0 where
+    pub leads : LeadsEach m t told n
 
   -- What the step comes to that a run of this code calls for: the driver r and what draws, p, become s and q. It draws
   -- where the schedule goes on, if a ticket is needed, and nowhere else.
   abbrev pub Stops : R → D → Tick → ℕ → Option How → R → D → Type 0
   Stops r p t code None s q =
-      Stepped stands (keeps kind) goes_by r t code false s × Drawn grants (draws kind) t.now p q
-  Stops r p t code (Some how.ScheduleDone) s q = Stepped stands (keeps kind) goes_by r t code true s × (q ≡ p)
+      Stepped driving r t code false s × Drawn grants (draws kind) t.now p q
+  Stops r p t code (Some how.ScheduleDone) s q = Stepped driving r t code true s × (q ≡ p)
   Stops r p t code (Some how.BudgetRefused) s q =
-      (draws kind ≡ true) × Stepped stands (keeps kind) goes_by r t code false s × grants.drew p t.now false q
-  Stops r p t code (Some (how.Broken fault)) s q = Refused stands (keeps kind) r t fault × (s ≡ r) × (q ≡ p)
+      (draws kind ≡ true) × Stepped driving r t code false s × grants.drew p t.now false q
+  Stops r p t code (Some (how.Broken fault)) s q = Refused driving r t fault × (s ≡ r) × (q ≡ p)
   Stops r p t code _ s q = ⊥
 
   -- what the end of a run comes to: where it calls for no step, it ends the task

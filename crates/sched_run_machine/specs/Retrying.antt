@@ -1,18 +1,23 @@
 -- What contracts see of a retry or a repeat, what is true of it between any two polls, and one poll of it.
-use Rattle.std.specs.Prelude.{◌≡◌, ℕ, ◌+◌, Bool, true, false, if◌then◌else◌, is_some, refl}
+use Rattle.std.specs.Prelude.{◌≡◌, ℕ, ◌+◌, Bool, true, false, if◌then◌else◌, List, ◌++◌, is_some, refl}
 use Rattle.std.specs.Coded.{Coded, code_by, coded×, coded_ℕ, coded_bool}
 use Rattle.sched_time.specs.declared.numbers.Tick.{Tick}
+use Rattle.sched_driver.specs.Driven.{Driven}
+use Rattle.sched_effect.specs.declared.ran.Ran.{Ran}
 use Rattle.sched_ticket_draws.specs.Grants.{Grants}
 use Rattle.sched_task_law.specs.Kind.{Kind, draws}
-use Rattle.sched_task_law.specs.Past.{Past}
-use Rattle.sched_task_law.specs.Poll.{Happened, stops_denied, recurs, OnePoll, cancelled, timed_out}
+use Rattle.sched_task_law.specs.Past.{PastOf}
+use Rattle.sched_task_law.specs.Poll.{Happened, stops_denied, recurs, OnePoll, cancelled}
 use Rattle.sched_task_law.specs.Law.{Law}
 use Rattle.sched_task_law.specs.Codes.{coded_past}
+use Rattle.sched_run_machine.specs.Drives.{Driving}
 
--- A retry that draws its tickets by a value of D, or a repeat, which has such a value and draws none.
-pub record Retrying (D : Type 0) : Type 0 where
+-- A retry that is driven by a value of R and draws its tickets by one of D, or a repeat, which has such a value and
+-- draws
+-- none.
+pub record RetryingOf (R D : Type 0) : Type 0 where
   -- what it has done so far
-  pub past : Past
+  pub past : PastOf R
   -- what it draws by
   pub drawing : D
   -- how many tickets that had been granted before
@@ -20,9 +25,14 @@ pub record Retrying (D : Type 0) : Type 0 where
   -- its ending was not taken yet
   pub untaken : Bool
 
-abbrev pub coded_retrying : {D : Type 0} → Coded D → Coded (Retrying D)
-coded_retrying {D} coded_drawing =
-    code_by (Past × (D × (ℕ × Bool))) (coded× coded_past (coded× coded_drawing (coded× coded_ℕ coded_bool)))
+-- where its journal is known
+abbrev pub Retrying : Type 0 → Type 0
+Retrying D = RetryingOf Driven D
+
+abbrev pub coded_retrying : {R D : Type 0} → Coded R → Coded D → Coded (RetryingOf R D)
+coded_retrying {R} {D} coded_driver coded_drawing =
+    code_by (PastOf R × (D × (ℕ × Bool)))
+    (coded× (coded_past coded_driver) (coded× coded_drawing (coded× coded_ℕ coded_bool)))
     (λ v. (v.past, (v.drawing, (v.had, v.untaken))))
     (λ p. record { past = p.0; drawing = p.1.0; had = p.1.1.0; untaken = p.1.1.1 }) (λ _. refl)
 
@@ -60,13 +70,48 @@ module _ {D : Type 0} (grants : Grants D) where
     -- where it ends in this poll, its ending can be taken
     pub untaken : u.untaken ≡ (if is_some v.past.over then v.untaken else ready)
 
+  -- One poll, in which the runs that finish are those that the host told.
+  pub record HostPoll (kind : Kind) (v : Retrying D) (t : Tick) (told : List Ran) (u : Retrying D) : Type 0 where
+    pub poll : RetryPoll kind v t (is_some u.past.over) u
+    pub runs : u.past.runs ≡ v.past.runs ++ told
+
+-- the task by this journal
+abbrev pub along : {R D : Type 0} → RetryingOf R D → Driven → Retrying D
+along v d = record {
+  past = record {
+    driver = d;
+    deadline = v.past.deadline;
+    runs = v.past.runs;
+    begun = v.past.begun;
+    over = v.past.over;
+    denied = v.past.denied;
+    granted = v.past.granted;
+  };
+  drawing = v.drawing;
+  had = v.had;
+  untaken = v.untaken;
+}
+
+module _ {R D : Type 0} (driving : Driving R) (grants : Grants D) (kind : Kind) where
+  -- Its driver may stand for this journal, by which it keeps its law, and has its deadline.
+  pub record IsAlong (v : RetryingOf R D) (d : Driven) : Type 0 where
+    pub stands : driving.stands v.past.driver d
+    pub law : RetryLaw grants kind (along v d)
+    pub deadline : driving.ends v.past.driver ≡ v.past.deadline
+
+  -- what is true of it between any two polls: there is such a journal
+  abbrev pub KeepsLaw : RetryingOf R D → Type 0
+  KeepsLaw v = (d : Driven) × IsAlong v d
+
+  -- One poll of it: one of the task by each journal that its driver may stand for.
+  pub record TaskPoll (v : RetryingOf R D) (t : Tick) (ready : Bool) (u : RetryingOf R D) : Type 0 where
+    pub keeps : KeepsLaw v
+    pub leads : (d : Driven) → IsAlong v d →
+        (e : Driven) × RetryPoll grants kind (along v d) t ready (along u e) × IsAlong u e
+
 -- one that is not over is cancelled
-abbrev pub gives_up : {D : Type 0} → Retrying D → Retrying D
+abbrev pub gives_up : {R D : Type 0} → RetryingOf R D → RetryingOf R D
 gives_up v = record v {
   past = cancelled v.past;
   untaken = if is_some v.past.over then v.untaken else true;
 }
-
--- one that its deadline ends
-abbrev pub expires : {D : Type 0} → Retrying D → Retrying D
-expires v = record v { past = timed_out v.past; untaken = true }

@@ -1,6 +1,5 @@
 -- What an effect and the beginnings of its runs are after a poll.
-use Rattle.std.specs.Prelude.{◌≡◌, ℕ, Bool, true, false, if◌then◌else◌, List, [], ◌∷◌, ◌++◌, Option, Some, None, Result, refl}
-use Rattle.std.specs.Coded.{Coded, code_by, coded×, coded_ℕ, coded_list}
+use Rattle.std.specs.Prelude.{◌≡◌, ℕ, Bool, true, false, if◌then◌else◌, List, [], ◌∷◌, ◌++◌, Option, Some, None, Result}
 use Rattle.sched_time.specs.declared.numbers.Tick.{Tick}
 use Rattle.sched_effect.specs.Runs.{ran_by}
 use Rattle.sched_effect.specs.declared.ran.Ran.{Ran}
@@ -8,7 +7,6 @@ use Rattle.sched_task.specs.declared.endings.How.{How}
 use Rattle.sched_task.specs.declared.endings.How.TheVariants.{Broken}
 use Rattle.sched_task.specs.declared.endings.RunFault.TheVariants.{NoMemory}
 use Rattle.sched_task_law.specs.Past.{is_under_way}
-use Rattle.sched_task_law.specs.Codes.{coded_ran}
 use Rattle.sched_run_machine.specs.Aims.{EndsAs}
 use Rattle.sched_run_machine.specs.declared.runner.Polled.{Polled}
 use Rattle.sched_run_machine.specs.declared.runner.Polled.TheVariants.{CannotBegin, Pending, CannotRun, Finished}
@@ -17,11 +15,6 @@ use Rattle.sched_run_machine.specs.declared.runner.Polled.TheVariants.{CannotBeg
 pub record Runs : Type 0 where
   pub runs : List Ran
   pub begun : List ℕ
-
-abbrev pub coded_runs : Coded Runs
-coded_runs =
-    code_by (List Ran × List ℕ) (coded× (coded_list coded_ran) (coded_list coded_ℕ))
-    (λ r. (r.runs, r.begun)) (λ p. record { runs = p.0; begun = p.1 }) (λ _. refl)
 
 -- the beginnings, once a run is under way: it begins at the tick where none was
 abbrev pub begun_with : Runs → Tick → List ℕ
@@ -56,9 +49,9 @@ module _ {I F : Type 0} (item_code : I → ℕ) (fault_code : F → ℕ) where
   IsOver repeats polled over = over ≡ Some (Broken NoMemory)
 
   -- what a poll of the run under way leaves, by its answer
-  abbrev pub Polls : Runs → Tick → Polled I F → Runs → Type 0
-  Polls old t CannotBegin new = (is_under_way old.runs old.begun ≡ false) × (new ≡ old)
-  Polls old t Pending new = new ≡ record old { begun = begun_with old t }
-  Polls old t CannotRun new = new ≡ record old { begun = begun_with old t }
-  Polls old t (Finished run) new =
+  abbrev pub RunPolls : Runs → Tick → Polled I F → Runs → Type 0
+  RunPolls old t CannotBegin new = (is_under_way old.runs old.begun ≡ false) × (new ≡ old)
+  RunPolls old t Pending new = new ≡ record old { begun = begun_with old t }
+  RunPolls old t CannotRun new = new ≡ record old { begun = begun_with old t }
+  RunPolls old t (Finished run) new =
       new ≡ record { begun = begun_with old t; runs = old.runs ++ ran_by item_code fault_code run ∷ [] }

@@ -1,6 +1,6 @@
 //! What machines are for.
-ghost use Rattle.std.specs.Prelude.{◌≡◌, Bool, false};
-ghost use Rattle.sched_task_law.specs.Kind.{Kind, keeps, draws, falls_back};
+ghost use Rattle.std.specs.Prelude.{◌≡◌, Bool};
+ghost use Rattle.sched_task_law.specs.Kind.{Kind, keeps, draws};
 ghost use Rattle.sched_run_machine.specs.Aims.{Calls};
 
 use sched_effect::Ran;
@@ -20,10 +20,7 @@ pub trait Aims: Drop {
     fn draws() -> bool
         ensures { (kept : Bool) → result ≡ draws (kind kept) };
 
-    // It asks no fallback.
-    ghost alone: { (kept : Bool) → falls_back (kind kept) ≡ false };
-
-    // And its journal is kept where that is said.
+    // Its journal is kept where that is said.
     ghost as_kept: { (kept : Bool) → keeps (kind kept) ≡ kept };
 }
 
@@ -40,8 +37,6 @@ impl Aims for Retries {
     ghost use Rattle.sched_task_law.specs.Kind.{a_retry};
 
     ghost kind = { a_retry };
-
-    ghost alone = { λ _. refl };
 
     ghost as_kept = { λ _. refl };
 
@@ -62,8 +57,6 @@ impl Aims for Repeats {
     ghost use Rattle.sched_task_law.specs.Kind.{a_repeat};
 
     ghost kind = { a_repeat };
-
-    ghost alone = { λ _. refl };
 
     ghost as_kept = { λ _. refl };
 

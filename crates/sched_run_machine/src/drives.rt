@@ -1,9 +1,10 @@
 //! Drivers of machines.
-ghost use Rattle.std.specs.Prelude.{◌≡◌, ℕ, Bool, true, false, Option, is_none, IfSome, IfOk, IfErr};
-ghost use Rattle.sched_driver.specs.Driven.{Driven, next_start_of};
-ghost use Rattle.sched_plan.specs.Schedule.{Schedule};
-ghost use Rattle.sched_run_machine.specs.Deadline.{is_past};
-ghost use Rattle.sched_run_machine.specs.Drives.{unstepped, Stepped, Refused};
+ghost use Rattle.std.specs.Prelude.{◌≡◌, false, Option, is_none, option_copied, IfSome, IfOk, IfErr};
+ghost use Rattle.sched_plan.specs.Datum.{Datum};
+ghost use Rattle.sched_driver.specs.Driven.{Driven, last_output};
+ghost use Rattle.sched_task_law.specs.Deadline.{is_past};
+ghost use Rattle.sched_task_law.specs.Past.{unstepped, next_start_by};
+ghost use Rattle.sched_run_machine.specs.Drives.{Driving, Stepped, Refused};
 
 use sched_driver::{DriveFault, Driver};
 use sched_driver_stepper::{StepFault, Stepper};
@@ -12,73 +13,62 @@ use sched_task::RunFault;
 use sched_time::{Millis, Moment, Tick};
 use std::alloc::Global;
 
-/// What says when the next run may begin: a plan that is stepped with the code of each run that calls for a step.
+/// What says when the next run may begin: a plan that is stepped with the code of each run that calls for a step, and a
+/// deadline or none.
 pub trait Drives: Drop {
-    // Whether it keeps its journal, which then has room for 65,536 events.
-    ghost keeps: { Bool };
-
-    // Whether it may stand for this schedule and this journal of its steps.
-    ghost stands: { Self → Driven → Type 0 };
-
-    // Whether it may go by this schedule. A step leaves fewer where the schedule depends on the step's moment.
-    ghost goes_by: { Self → Schedule → Type 0 };
-
-    // One that it may go by.
-    ghost plan: { Self → Schedule };
-
-    // Whether it has made no step.
-    ghost fresh: { Self → Type 0 };
-
-    // The moment past which it plans no start, if there is one.
-    ghost ends: { Self → Option ℕ };
+    // What contracts see of it.
+    ghost driving: { Driving Self };
 
     /// Its deadline: the moment past which it plans no start, and its machine begins no run but the first. `None` where
     /// it has none.
     fn deadline(&self) -> Option<Moment>
-        ensures deadline { result ≡ ends self.now };
+        ensures deadline { result ≡ driving.ends self.now };
 
     /// The start planned last, or `None` where there was no step or the plan was done.
     fn next_start(&self) -> Option<Moment>
-        ensures start { (d : Driven) → stands self.now d → result ≡ next_start_of d }
-        ensures in_time { IfSome result (λ start. is_past (ends self.now) start ≡ false) };
+        ensures start { result ≡ driving.starts self.now }
+        ensures in_time { IfSome result (λ start. is_past (driving.ends self.now) start ≡ false) };
 
     /// Steps the plan with a run's code. Answers `None` where the plan is done, and a start where it goes on; what it
     /// waits for is `next_start`. A refused step changes nothing.
     fn step(&mut self, alloc: Global, tick: &Tick, code: Millis) -> Result<Option<Moment>, RunFault>
         ensures stepped { IfOk result (λ start.
-            Stepped stands keeps goes_by self.old tick.entry.now code (is_none start) self.new) }
-        ensures narrows { (s : Schedule) → goes_by self.new s → goes_by self.old s }
-        ensures deadline { ends self.new ≡ ends self.old }
-        ensures refused { IfErr result (λ fault. Refused stands keeps self.old tick.entry.now fault) }
+            Stepped driving self.old tick.entry.now code (is_none start) self.new) }
+        ensures deadline { driving.ends self.new ≡ driving.ends self.old }
+        ensures refused { IfErr result (λ fault. Refused driving self.old tick.entry.now fault) }
         ensures unchanged { IfErr result (λ _. self.new ≡ self.old) };
 
-    // What has made no step stands for no step of each schedule that it may go by.
-    ghost begins: { (driver : Self) → fresh driver →
-        (s : Schedule) → goes_by driver s → stands driver (unstepped s) };
+    // What has made no step stands for no step of its plan.
+    ghost begins: { (driver : Self) → driving.fresh driver → driving.stands driver (unstepped (driving.plan driver)) };
 
-    // It always may go by one.
-    ghost goes: { (driver : Self) → goes_by driver (plan driver) };
+    // The start planned last is that of its plan by its deadline.
+    ghost plans: { (driver : Self) (d : Driven) → driving.stands driver d →
+        driving.starts driver ≡ next_start_by (driving.ends driver) d };
+}
+
+/// A driver that keeps the output that its plan gave last, with which a retry asks its fallback.
+pub trait GivesOutput: Drives {
+    // The output that it gave last.
+    ghost outputs: { Self → Option Datum };
+
+    /// The output that it gave last, or `None` before the first step.
+    fn last(&self) -> Option<&Val>
+        ensures { option_copied result ≡ outputs self.now };
+
+    // It is that of its plan, by each journal that it may stand for.
+    ghost gives: { (driver : Self) (d : Driven) → Self.driving.stands driver d → outputs driver ≡ last_output d };
 }
 
 impl Drives for Driver {
-    ghost use Rattle.std.specs.Prelude.{◌≡◌, [], true, None, refl};
-    ghost use Rattle.sched_run_machine.specs.Drives.{IsDriven, PlanIs, unstepped_driver};
+    ghost use mathlib.Core.Path.{ap};
+    ghost use Rattle.sched_driver.specs.Driven.{next_start_of};
+    ghost use Rattle.sched_run_machine.specs.Drives.{by_driver, unstepped_driver};
 
-    ghost keeps = { true };
-
-    ghost stands = { IsDriven };
-
-    ghost goes_by = { PlanIs };
-
-    ghost plan = { λ v. v.plan };
-
-    ghost fresh = { λ v. v.journal ≡ [] };
-
-    ghost ends = { λ _. None };
+    ghost driving = { by_driver };
 
     ghost begins = { unstepped_driver };
 
-    ghost goes = { λ _. refl };
+    ghost plans = { λ _ _ same. ap next_start_of same };
 
     fn deadline(&self) -> Option<Moment> {
         None
@@ -103,26 +93,28 @@ impl Drives for Driver {
     }
 }
 
+impl GivesOutput for Driver {
+    ghost use mathlib.Core.Path.{ap};
+    ghost use Rattle.sched_driver.specs.Driven.{last_output as output_of};
+
+    ghost outputs = { output_of };
+
+    ghost gives = { λ _ _ same. ap output_of same };
+
+    fn last(&self) -> Option<&Val> {
+        Driver::last(self)
+    }
+}
+
 impl Drives for Stepper {
-    ghost use Rattle.std.specs.Prelude.{◌≡◌, [], false, None, refl};
-    ghost use Rattle.sched_driver_stepper.specs.Standing.{standing_after};
-    ghost use Rattle.sched_run_machine.specs.Drives.{IsStepped, GoesByPlan};
+    ghost use Rattle.std.specs.Prelude.{refl};
+    ghost use Rattle.sched_run_machine.specs.Drives.{by_stepper, start_stepped};
 
-    ghost keeps = { false };
+    ghost driving = { by_stepper };
 
-    ghost stands = { IsStepped };
+    ghost begins = { λ _ fresh. (refl, record { in_order = tt; is = fresh }) };
 
-    ghost goes_by = { GoesByPlan };
-
-    ghost plan = { λ v. v.plan };
-
-    ghost fresh = { λ v. v ≡ standing_after v.plan [] };
-
-    ghost ends = { λ _. None };
-
-    ghost begins = { λ v fresh _ by. (by, record { in_order = tt; is = fresh }) };
-
-    ghost goes = { λ _. refl };
+    ghost plans = { start_stepped };
 
     fn deadline(&self) -> Option<Moment> {
         None

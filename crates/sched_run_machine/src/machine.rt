@@ -1,8 +1,9 @@
 //! The machine of a retry or of a repeat.
 ghost use Rattle.std.specs.Prelude.{◌≡◌, ◌+◌, [], ◌∷◌, true, false, None};
-ghost use Rattle.sched_plan.specs.Schedule.{Schedule};
 ghost use Rattle.sched_run_machine.specs.Retrying.{Retrying, gives_up};
-ghost use Rattle.sched_run_machine.specs.Machine.{begins, unbegun, is_told, is_too_late, breaks_off, cancelled, StandsFor, Looks, IsMachine, Polls, PollsUntil, PollsInTime, WaitsInTime, Ends};
+ghost use Rattle.sched_run_machine.specs.Machine.{begins, unbegun, is_told, would_be_late, timed_out, breaks_off};
+ghost use Rattle.sched_run_machine.specs.Machine.{cancelled, IsMachineOf, Looks, IsMachine, PollsEach, PollsInTime};
+ghost use Rattle.sched_run_machine.specs.Machine.{WaitsInTime, Ends};
 ghost use Rattle.sched_run_machine.specs.Aims.{EndsAs};
 ghost use Rattle.sched_task_law.specs.Kind.{a_retry, a_repeat, repeats};
 ghost use Rattle.sched_ticket_draws.specs.Freely.{free_grants};
@@ -19,7 +20,8 @@ use sched_time::{Moment, Tick};
 use std::alloc::Global;
 use std::marker::{Model, PhantomData};
 
-/// What makes a call that is run again and again, as its driver's schedule says: a retry until it succeeds, with a ticket
+/// What makes a call that is run again and again, as its driver's schedule says: a retry until it succeeds, with a
+/// ticket
 /// for each run after a failure, or a repeat until it fails, without tickets. It says when to run the call and when to
 /// wait, and is told how each run went.
 ///
@@ -55,7 +57,7 @@ impl<R: Drives, D: Draws, A: Aims> Model for Machine<R, D, A> {
       told = m.told;
     } };
 
-    ghost invariant = { λ m. IsMachine R.stands (A.kind R.keeps) R.goes_by D.grants record {
+    ghost invariant = { λ m. IsMachine R.driving (A.kind R.driving.keeps) D.grants record {
       driver = m.driver;
       under_way = m.under_way;
       over = m.over;
@@ -68,10 +70,10 @@ impl<R: Drives, D: Draws, A: Aims> Model for Machine<R, D, A> {
 impl<R: Drives, D: Draws> Machine<R, D, Retries> {
     /// The machine of a retry that has not begun, and that draws its tickets by this value. It takes no memory.
     pub fn new(driver: R, drawing: D) -> Machine<R, D>
-        requires fresh { R.fresh driver }
+        requires fresh { R.driving.fresh driver }
         ensures begins { result ≡ begins D.grants driver drawing }
-        ensures stands { (s : Schedule) → R.goes_by driver s →
-            StandsFor R.stands (a_retry R.keeps) D.grants result (unbegun D.grants s drawing) }
+        ensures stands { IsMachineOf R.driving (a_retry R.driving.keeps) D.grants result
+            (unbegun D.grants (R.driving.plan driver) (R.driving.ends driver) drawing) }
     {
         Machine::unbegun(driver, drawing)
     }
@@ -80,10 +82,10 @@ impl<R: Drives, D: Draws> Machine<R, D, Retries> {
 impl<R: Drives> Machine<R, Unlimited, Repeats> {
     /// The machine of a repeat that has not begun. It takes no memory.
     pub fn repeating(driver: R) -> RepeatMachine<R>
-        requires fresh { R.fresh driver }
+        requires fresh { R.driving.fresh driver }
         ensures begins { result ≡ begins free_grants driver 0 }
-        ensures stands { (s : Schedule) → R.goes_by driver s →
-            StandsFor R.stands (a_repeat R.keeps) free_grants result (unbegun free_grants s 0) }
+        ensures stands { IsMachineOf R.driving (a_repeat R.driving.keeps) free_grants result
+            (unbegun free_grants (R.driving.plan driver) (R.driving.ends driver) 0) }
     {
         Machine::unbegun(driver, Unlimited::new())
     }
@@ -92,10 +94,10 @@ impl<R: Drives> Machine<R, Unlimited, Repeats> {
 impl<R: Drives, D: Draws, A: Aims> Machine<R, D, A> {
     // A machine that has not begun.
     fn unbegun(driver: R, drawing: D) -> Machine<R, D, A>
-        requires fresh { R.fresh driver }
+        requires fresh { R.driving.fresh driver }
         ensures begins { result ≡ begins D.grants driver drawing }
-        ensures stands { (s : Schedule) → R.goes_by driver s →
-            StandsFor R.stands (A.kind R.keeps) D.grants result (unbegun D.grants s drawing) }
+        ensures stands { IsMachineOf R.driving (A.kind R.driving.keeps) D.grants result
+            (unbegun D.grants (R.driving.plan driver) (R.driving.ends driver) drawing) }
     {
         let had = drawing.granted();
         Machine {
@@ -109,28 +111,40 @@ impl<R: Drives, D: Draws, A: Aims> Machine<R, D, A> {
         }
     }
 
-    /// Begins a run at the tick, where none is under way, it is not over and waits for no later moment. Where its driver
-    /// has a deadline and the tick is past that, it ends as `DeadlinePassed` and begins none, unless no run was made yet.
+    /// Begins a run at the tick, where none is under way, it is not over and waits for no later moment. Where its
+    /// driver
+    /// has a deadline and the tick is past that, it ends as `DeadlinePassed` and begins none, unless no run was made
+    /// yet.
     pub fn poll(&mut self, tick: &Tick)
-        ensures polls { PollsUntil R.stands (A.kind R.keeps) R.goes_by D.grants R.ends
-            self.old tick.entry.now [] self.new }
-        ensures in_time { PollsInTime (R.ends self.old.driver) self.old tick.entry.now.now self.new }
+        ensures polls { PollsEach R.driving (A.kind R.driving.keeps) D.grants self.old tick.entry.now [] self.new }
+        ensures in_time { PollsInTime (R.driving.ends self.old.driver) self.old tick.entry.now.now self.new }
+        ensures deadline { R.driving.ends self.new.driver ≡ R.driving.ends self.old.driver }
     {
         if self.stays(tick) {
             return;
         }
         if self.is_too_late(tick.now) {
-            self.over = Some(How::DeadlinePassed);
+            self.time_out(tick);
             return;
         }
         self.begin(tick);
     }
 
+    /// Ends it as `DeadlinePassed`, where it would begin another run past its deadline.
+    pub fn time_out(&mut self, _tick: &Tick)
+        requires looks { Looks R.driving (A.kind R.driving.keeps) D.grants self.old _tick.now false }
+        requires late { would_be_late (R.driving.ends self.old.driver) self.old _tick.now.now ≡ true }
+        ensures polls { PollsEach R.driving (A.kind R.driving.keeps) D.grants self.old _tick.entry.now [] self.new }
+        ensures ends { self.new ≡ timed_out self.old }
+    {
+        self.over = Some(How::DeadlinePassed);
+    }
+
     /// Begins a run at the tick, where none is under way.
     pub fn begin(&mut self, _tick: &Tick)
-        requires looks { Looks R.stands (A.kind R.keeps) D.grants self.old _tick.now false }
-        requires in_time { is_too_late (R.ends self.old.driver) self.old _tick.now.now ≡ false }
-        ensures polls { Polls R.stands (A.kind R.keeps) R.goes_by D.grants self.old _tick.entry.now [] self.new }
+        requires looks { Looks R.driving (A.kind R.driving.keeps) D.grants self.old _tick.now false }
+        requires in_time { would_be_late (R.driving.ends self.old.driver) self.old _tick.now.now ≡ false }
+        ensures polls { PollsEach R.driving (A.kind R.driving.keeps) D.grants self.old _tick.entry.now [] self.new }
         ensures begins { self.new ≡ record self.old { under_way = true } }
     {
         self.under_way = true;
@@ -139,14 +153,15 @@ impl<R: Drives, D: Draws, A: Aims> Machine<R, D, A> {
     /// Ends the run under way as it went, and answers whether there was one: of a machine that is over, or has no run
     /// under way, nothing changes.
     ///
-    /// A success ends a retry, and a failure a repeat. Another run steps the schedule; where that goes on, a retry draws a
+    /// A success ends a retry, and a failure a repeat. Another run steps the schedule; where that goes on, a retry
+    /// draws a
     /// ticket, and with one it waits for the start planned, as a repeat does. A refused step ends either as `Broken`.
     pub fn report(&mut self, alloc: Global, tick: &Tick, ran: Ran) -> bool
         ensures heard { result ≡ is_told self.old }
         ensures told { result ≡ true →
-            Polls R.stands (A.kind R.keeps) R.goes_by D.grants self.old tick.entry.now (ran ∷ []) self.new }
-        ensures ends { result ≡ true → EndsAs (repeats (A.kind R.keeps)) ran self.new.over }
-        ensures deadline { R.ends self.new.driver ≡ R.ends self.old.driver }
+            PollsEach R.driving (A.kind R.driving.keeps) D.grants self.old tick.entry.now (ran ∷ []) self.new }
+        ensures ends { result ≡ true → EndsAs (repeats (A.kind R.driving.keeps)) ran self.new.over }
+        ensures deadline { R.driving.ends self.new.driver ≡ R.driving.ends self.old.driver }
         ensures unchanged { result ≡ false → self.new ≡ self.old }
     {
         if self.over.is_some() {
@@ -161,13 +176,13 @@ impl<R: Drives, D: Draws, A: Aims> Machine<R, D, A> {
 
     /// Ends the run under way as it went, or one that began at the tick, as `report` does.
     pub fn finish(&mut self, alloc: Global, tick: &Tick, ran: Ran)
-        requires looks { Looks R.stands (A.kind R.keeps) D.grants self.old tick.now false }
-        requires in_time { is_too_late (R.ends self.old.driver) self.old tick.now.now ≡ false }
-        ensures polls { Polls R.stands (A.kind R.keeps) R.goes_by D.grants
+        requires looks { Looks R.driving (A.kind R.driving.keeps) D.grants self.old tick.now false }
+        requires in_time { would_be_late (R.driving.ends self.old.driver) self.old tick.now.now ≡ false }
+        ensures polls { PollsEach R.driving (A.kind R.driving.keeps) D.grants
             self.old tick.entry.now (ran ∷ []) self.new }
-        ensures ends { EndsAs (repeats (A.kind R.keeps)) ran self.new.over }
+        ensures ends { EndsAs (repeats (A.kind R.driving.keeps)) ran self.new.over }
         ensures idle { self.new.under_way ≡ false }
-        ensures deadline { R.ends self.new.driver ≡ R.ends self.old.driver }
+        ensures deadline { R.driving.ends self.new.driver ≡ R.driving.ends self.old.driver }
     {
         let driver = &mut self.driver;
         let drawing = &mut self.drawing;
@@ -179,10 +194,10 @@ impl<R: Drives, D: Draws, A: Aims> Machine<R, D, A> {
     /// Ends it as `Broken(NoMemory)`: memory is refused to the run under way or to one that begins at the tick,
     /// or, where no run has begun, to its beginning.
     pub fn break_off(&mut self, _tick: &Tick, begun: bool)
-        requires looks { Looks R.stands (A.kind R.keeps) D.grants self.old _tick.now false }
-        requires in_time { is_too_late (R.ends self.old.driver) self.old _tick.now.now ≡ false }
+        requires looks { Looks R.driving (A.kind R.driving.keeps) D.grants self.old _tick.now false }
+        requires in_time { would_be_late (R.driving.ends self.old.driver) self.old _tick.now.now ≡ false }
         requires begun { self.old.under_way ≡ true → begun ≡ true }
-        ensures polls { Polls R.stands (A.kind R.keeps) R.goes_by D.grants self.old _tick.entry.now [] self.new }
+        ensures polls { PollsEach R.driving (A.kind R.driving.keeps) D.grants self.old _tick.entry.now [] self.new }
         ensures breaks_off { self.new ≡ breaks_off begun self.old }
     {
         self.under_way = begun;
@@ -191,7 +206,7 @@ impl<R: Drives, D: Draws, A: Aims> Machine<R, D, A> {
 
     /// Whether a poll leaves it as it is: it is over, or waits for a later moment.
     pub fn stays(&self, tick: &Tick) -> bool
-        ensures looks { Looks R.stands (A.kind R.keeps) D.grants self.now tick.entry.now result }
+        ensures looks { Looks R.driving (A.kind R.driving.keeps) D.grants self.now tick.entry.now result }
         ensures unended { result ≡ false → self.now.over ≡ None }
     {
         if self.over.is_some() {
@@ -202,14 +217,14 @@ impl<R: Drives, D: Draws, A: Aims> Machine<R, D, A> {
 
     /// Whether another run would begin past the deadline at this moment: none is under way, and one was reported.
     pub fn is_too_late(&self, now: Moment) -> bool
-        ensures { result ≡ is_too_late (R.ends self.now.driver) self.now now }
+        ensures { result ≡ would_be_late (R.driving.ends self.now.driver) self.now now }
     {
         is_past(self.driver.deadline(), now) && 0 < self.told && !self.under_way
     }
 
     /// The moment that it waits for, or `None` where it waits for none.
     pub fn due(&self) -> Option<Moment>
-        ensures { (v : Retrying D) → StandsFor R.stands (A.kind R.keeps) D.grants self.now v →
+        ensures { (v : Retrying D) → IsMachineOf R.driving (A.kind R.driving.keeps) D.grants self.now v →
             result ≡ waits_for v.past }
     {
         self.next().start()
@@ -218,8 +233,8 @@ impl<R: Drives, D: Draws, A: Aims> Machine<R, D, A> {
     /// What the host is to do. It waits for no moment past the deadline of its driver, where that has one.
     pub fn next(&self) -> Next
         ensures finds { Finds self.now.over self.now.under_way result }
-        ensures in_time { WaitsInTime (R.ends self.now.driver) result }
-        ensures next { (v : Retrying D) → StandsFor R.stands (A.kind R.keeps) D.grants self.now v →
+        ensures in_time { WaitsInTime (R.driving.ends self.now.driver) result }
+        ensures next { (v : Retrying D) → IsMachineOf R.driving (A.kind R.driving.keeps) D.grants self.now v →
             result ≡ next_of v.past }
     {
         if let Some(how) = self.over {
@@ -244,8 +259,8 @@ impl<R: Drives, D: Draws, A: Aims> Machine<R, D, A> {
     /// Ends a machine that is not over as `Cancelled`; one that is over stays as it is.
     pub fn cancel(&mut self)
         ensures cancelled { self.new ≡ cancelled self.old }
-        ensures stands { (v : Retrying D) → StandsFor R.stands (A.kind R.keeps) D.grants self.old v →
-            StandsFor R.stands (A.kind R.keeps) D.grants self.new (gives_up v) }
+        ensures stands { (v : Retrying D) → IsMachineOf R.driving (A.kind R.driving.keeps) D.grants self.old v →
+            IsMachineOf R.driving (A.kind R.driving.keeps) D.grants self.new (gives_up v) }
     {
         if self.over.is_some() {
             return;
@@ -253,11 +268,10 @@ impl<R: Drives, D: Draws, A: Aims> Machine<R, D, A> {
         self.over = Some(How::Cancelled);
     }
 
-    /// How many tickets it was granted, without those of earlier retries. There is always a task that it stands for, by
-    /// each schedule that its driver may go by.
+    /// How many tickets it was granted, without those of earlier retries. There is always a task that it stands for.
     pub fn granted(&self) -> u64
-        ensures stands { IsMachine R.stands (A.kind R.keeps) R.goes_by D.grants self.now }
-        ensures granted { (v : Retrying D) → StandsFor R.stands (A.kind R.keeps) D.grants self.now v →
+        ensures stands { IsMachine R.driving (A.kind R.driving.keeps) D.grants self.now }
+        ensures granted { (v : Retrying D) → IsMachineOf R.driving (A.kind R.driving.keeps) D.grants self.now v →
             result ≡ v.past.granted }
         ensures tickets { self.now.had + result ≡ D.grants.granted self.now.drawing }
     {
@@ -322,9 +336,8 @@ fn end_run<R: Drives, D: Draws, A: Aims>(
 ) -> Option<How>
     requires stands { D.grants.stands drawing.old }
     ensures stands { D.grants.stands drawing.new }
-    ensures narrows { (s : Schedule) → R.goes_by driver.new s → R.goes_by driver.old s }
-    ensures deadline { R.ends driver.new ≡ R.ends driver.old }
-    ensures ends { Ends R.stands (A.kind R.keeps) R.goes_by D.grants
+    ensures deadline { R.driving.ends driver.new ≡ R.driving.ends driver.old }
+    ensures ends { Ends R.driving (A.kind R.driving.keeps) D.grants
         driver.old drawing.old tick.entry.now ran result driver.new drawing.new }
 {
     let code = match A::called(ran) {

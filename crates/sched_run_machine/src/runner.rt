@@ -3,7 +3,7 @@ ghost use Rattle.std.specs.Prelude.{◌≡◌, [], is_some};
 ghost use Rattle.futures.specs.Task.{Keeps};
 ghost use Rattle.sched_task.specs.Polls.{is_ready};
 ghost use Rattle.sched_task_law.specs.Past.{is_under_way};
-ghost use Rattle.sched_run_machine.specs.Runner.{Polls};
+ghost use Rattle.sched_run_machine.specs.Runner.{RunPolls};
 
 use futures::task::{Context, Poll};
 use sched_effect::Effect;
@@ -33,11 +33,9 @@ pub struct Runner<X: Effect> {
 }
 
 impl<X: Effect> Model for Runner<X> {
-    ghost use Rattle.sched_run_machine.specs.Runner.{Runs, coded_runs};
+    ghost use Rattle.sched_run_machine.specs.Runner.{Runs};
 
     ghost Value = { Runs };
-
-    ghost coded = { coded_runs };
 
     ghost view = { λ r. record { runs = X.finished r.effect; begun = r.begun.items } };
 }
@@ -84,9 +82,12 @@ impl<X: Effect> Runner<X> {
         self.effect.runs().len() < self.begun.len()
     }
 
-    /// Polls the run under way once. Where none is, it first notes the tick's moment as the beginning of one.
+    /// Polls the run under way. Where none is, it first notes the tick's moment as the beginning of one.
+    ///
+    /// A run that finishes is the one that the effect lists. No clause says how often a run that is pending was polled:
+    /// a poll leaves no trace in an effect that a contract could name.
     pub fn poll_run(&mut self, tick: &Tick, cx: &mut Context<'_>) -> Polled<X::Item, X::Fault>
-        ensures polls { Polls X.Item.coded X.Fault.coded self.old tick.entry.now result self.new }
+        ensures polls { RunPolls X.Item.coded X.Fault.coded self.old tick.entry.now result self.new }
         ensures kept { Keeps cx.old cx.new }
     {
         if !self.is_under_way() && self.begun.push(tick.now).is_err() {

@@ -1,12 +1,12 @@
 //! Drivers with a deadline.
-ghost use Rattle.std.specs.Prelude.{◌≡◌, ◌-◌, ◌≤◌, false, ◌||◌, Some, is_some, IfSome, option_map, unwrap_or};
-ghost use Rattle.sched_time.specs.declared.numbers.TheConstants.{FAR};
-ghost use Rattle.sched_driver.specs.Driven.{Driven, next_start_of};
-ghost use Rattle.sched_task_law.specs.Past.{schedule_is_done};
-ghost use Rattle.sched_run_machine.specs.Deadline.{is_past, in_time, late};
-ghost use Rattle.sched_run_machine.specs.Until.{unstepped_until, beneath, StandsUntil, FreshUntil};
+ghost use Rattle.std.specs.Prelude.{◌≡◌, ◌-◌, false, ◌||◌, is_some, IfSome, option_map};
+ghost use Rattle.sched_driver.specs.Driven.{Driven};
+ghost use Rattle.sched_task_law.specs.Deadline.{is_past, in_time, late, earlier};
+ghost use Rattle.sched_task_law.specs.Past.{schedule_is_done, next_start_by};
+ghost use Rattle.sched_run_machine.specs.Drives.{by_until};
 
-use crate::drives::Drives;
+use crate::drives::{Drives, GivesOutput};
+use sched_plan::Val;
 use sched_task::RunFault;
 use sched_time::{Millis, Moment, Tick};
 use std::alloc::Global;
@@ -16,36 +16,31 @@ use std::marker::Model;
 /// A start at the deadline is in time.
 ///
 /// The first run, which no step plans, is made even where the deadline is past already. Every later one begins by the
-/// deadline: where its machine is polled only past that, as after a wait that took too long, the machine ends.
+/// deadline: where its machine is polled only past that, as after a wait that took too long, the machine ends. Of two
+/// deadlines, one round the other, the earlier one counts.
 #[derive(Drop)]
 pub struct Until<R: Drives> {
     driver: R,
     deadline: Option<Moment>,
-    first: Option<Moment>,
 }
 
 impl<R: Drives> Model for Until<R> {
-    ghost use Rattle.sched_run_machine.specs.Until.{Until as Timed, coded_until};
+    ghost use Rattle.sched_run_machine.specs.Drives.{Until as Timed, coded_until};
 
     ghost Value = { Timed R };
 
     ghost coded = { coded_until R.code };
 
-    ghost view = { λ u. record { driver = u.driver; deadline = u.deadline; first = u.first } };
+    ghost view = { λ u. record { driver = u.driver; deadline = u.deadline } };
 }
 
 impl<R: Drives> Until<R> {
-    /// The driver with this deadline, before its first step. Where that is `None`, it is what the driver is alone.
+    /// The driver with this deadline. Where that is `None`, it is what the driver is alone.
     pub fn new(driver: R, deadline: Option<Moment>) -> Until<R>
-        requires fresh { R.fresh driver }
-        ensures begins { result ≡ unstepped_until driver deadline }
-        ensures fresh { FreshUntil R.fresh result }
+        ensures driver { result.driver ≡ driver }
+        ensures deadline { result.deadline ≡ deadline }
     {
-        Until {
-            driver,
-            deadline,
-            first: None,
-        }
+        Until { driver, deadline }
     }
 
     /// The deadline, if there is one.
@@ -68,10 +63,11 @@ impl<R: Drives> Until<R> {
     /// The start that the plan has past the deadline, where the deadline ended it; `None` where it goes on, where its
     /// plan is done, and before the first step.
     pub fn late_start(&self) -> Option<Moment>
-        ensures late { (d : Driven) → StandsUntil R.stands self.now d →
-            result ≡ late self.now.deadline (next_start_of (beneath self.now.deadline d)) }
-        ensures done { (d : Driven) → StandsUntil R.stands self.now d →
-            schedule_is_done d ≡ (schedule_is_done (beneath self.now.deadline d) || is_some result) }
+        ensures late { (d : Driven) → R.driving.stands self.now.driver d →
+            result ≡ late self.now.deadline (next_start_by (R.driving.ends self.now.driver) d) }
+        ensures done { (d : Driven) → R.driving.stands self.now.driver d →
+            schedule_is_done (earlier self.now.deadline (R.driving.ends self.now.driver)) d
+            ≡ (schedule_is_done (R.driving.ends self.now.driver) d || is_some result) }
     {
         starts_late(self.deadline, self.driver.next_start())
     }
@@ -90,33 +86,24 @@ impl<R: Drives> Until<R> {
         let Until {
             driver,
             deadline: _,
-            first: _,
         } = self;
         driver
     }
 }
 
 impl<R: Drives> Drives for Until<R> {
-    ghost use Rattle.sched_run_machine.specs.Until.{StandsUntil, FreshUntil, GoesUntil, schedule_until, begins_until, goes_until};
+    ghost use mathlib.Core.Path.{ap, ◌∙◌};
+    ghost use Rattle.sched_task_law.proofs.Journals.{start_by_both};
 
-    ghost keeps = { R.keeps };
+    ghost driving = { by_until R.driving };
 
-    ghost stands = { StandsUntil R.stands };
+    ghost begins = { λ v fresh. R.begins v.driver fresh };
 
-    ghost goes_by = { GoesUntil R.goes_by };
-
-    ghost plan = { λ v. schedule_until v (R.plan v.driver) };
-
-    ghost fresh = { FreshUntil R.fresh };
-
-    ghost ends = { λ v. v.deadline };
-
-    ghost begins = { begins_until R.stands R.goes_by R.fresh R.begins };
-
-    ghost goes = { λ v. goes_until R.goes_by v (R.plan v.driver) (R.goes v.driver) };
+    ghost plans = { λ v d st. ap (in_time v.deadline) (R.plans v.driver d st)
+        ∙ start_by_both v.deadline (R.driving.ends v.driver) d };
 
     fn deadline(&self) -> Option<Moment> {
-        self.deadline
+        the_earlier(self.deadline, self.driver.deadline())
     }
 
     fn next_start(&self) -> Option<Moment> {
@@ -129,13 +116,37 @@ impl<R: Drives> Drives for Until<R> {
         tick: &Tick,
         code: Millis,
     ) -> Result<Option<Moment>, RunFault> {
-        match self.driver.step(alloc, tick, code) {
-            Ok(_) => {
-                self.first = Some(first_step(self.first, tick.now));
-                Ok(starts_in_time(self.deadline, self.driver.next_start()))
+        self.driver.step(alloc, tick, code)?;
+        Ok(starts_in_time(self.deadline, self.driver.next_start()))
+    }
+}
+
+impl<R: GivesOutput> GivesOutput for Until<R> {
+    ghost outputs = { λ v. R.outputs v.driver };
+
+    ghost gives = { λ v. R.gives v.driver };
+
+    fn last(&self) -> Option<&Val> {
+        self.driver.last()
+    }
+}
+
+// The earlier of two deadlines, where there are two.
+fn the_earlier(one: Option<Moment>, other: Option<Moment>) -> Option<Moment>
+    ensures { result ≡ earlier one other }
+{
+    match other {
+        None => one,
+        Some(second) => match one {
+            None => other,
+            Some(first) => {
+                if first.get() <= second.get() {
+                    one
+                } else {
+                    other
+                }
             }
-            Err(cause) => Err(cause),
-        }
+        },
     }
 }
 
@@ -143,7 +154,6 @@ impl<R: Drives> Drives for Until<R> {
 fn starts_in_time(deadline: Option<Moment>, start: Option<Moment>) -> Option<Moment>
     ensures in_time { result ≡ in_time deadline start }
     ensures none_past { IfSome result (λ moment. is_past deadline moment ≡ false) }
-    ensures in_range { IfSome deadline (λ moment. moment ≤ FAR) }
 {
     match deadline {
         None => start,
@@ -165,8 +175,7 @@ fn starts_in_time(deadline: Option<Moment>, start: Option<Moment>) -> Option<Mom
 
 // The start planned, where it is past the deadline.
 fn starts_late(deadline: Option<Moment>, start: Option<Moment>) -> Option<Moment>
-    ensures late { result ≡ late deadline start }
-    ensures in_range { IfSome deadline (λ moment. moment ≤ FAR) }
+    ensures { result ≡ late deadline start }
 {
     match deadline {
         None => None,
@@ -184,15 +193,6 @@ fn starts_late(deadline: Option<Moment>, start: Option<Moment>) -> Option<Moment
             }
         }
     }
-}
-
-// The moment of the first step, where a step is made now.
-fn first_step(first: Option<Moment>, now: Moment) -> Moment
-    ensures first { result ≡ unwrap_or first now }
-    ensures in_range { now ≤ FAR }
-{
-    let _in_range = now.get();
-    first.unwrap_or(now)
 }
 
 // How long it is from `now` to the deadline, 0 where that is past.

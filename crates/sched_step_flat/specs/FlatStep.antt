@@ -1,12 +1,11 @@
 -- One step as the code makes it, on words alone. That it meets the definition over whole histories is what
 -- `Record::advance` ensures.
-use Rattle.std.specs.Prelude.{◌≡◌, ℕ, Bool, true, false, cond, if◌then◌else◌, nat_eq, List, [], ◌∷◌, ◌++◌, take, drop}
+use Rattle.std.specs.Prelude.{◌≡◌, ℕ, if◌then◌else◌, nat_eq, List, ◌∷◌, ◌++◌, take, drop}
 use Rattle.std.specs.Prelude.{slice_index, Option, Some, None}
 use Rattle.sched_time.specs.declared.starts.Decision.{Decision}
-use Rattle.sched_plan.specs.Datum.{Datum, as_number}
 use Rattle.sched_plan.specs.Schedule.{Schedule, leaf, one, two}
 use Rattle.sched_plan.specs.Outputs.{with_input}
-use Rattle.sched_plan.specs.Answer.{meet_decisions, join_decisions, is_done, answer}
+use Rattle.sched_plan.specs.Answer.{meet_decisions, join_decisions, is_done}
 use Rattle.sched_plan.specs.declared.leaves.Leaf.{Leaf}
 use Rattle.sched_plan.specs.declared.nodes.Side.TheVariants.{Output}
 use Rattle.sched_plan.specs.declared.nodes.Fold.TheVariants.{Sum, Count, Max, List as Listing}
@@ -16,12 +15,12 @@ use Rattle.sched_plan.specs.declared.nodes.Two.{Two}
 use Rattle.sched_plan.specs.declared.nodes.Two.TheVariants.{Meet, Join, Follow, Feed}
 use Rattle.sched_plan.specs.declared.history.Event.{Event}
 use Rattle.sched_plan.specs.declared.history.Answer.{Answer}
-use Rattle.sched_step.specs.Progress.{Kept, Progress}
-use Rattle.sched_step.specs.StateOf.{state_of, event_of}
+use Rattle.sched_step.specs.Progress.{Kept}
+use Rattle.sched_step.specs.StateOf.{event_of}
 use Rattle.sched_step.specs.Step.{answered, leaf_next, leaf_gives, leaf_decides, total_of, begins, one_next}
 use Rattle.sched_step.specs.Step.{one_answers}
 use Rattle.sched_step_flat.specs.Words.{one_width, two_width, width_of, leaf_words, leaf_from, kept_words, kept_from}
-use Rattle.sched_step_flat.specs.Words.{words_of, blank}
+use Rattle.sched_step_flat.specs.Words.{blank}
 use Rattle.sched_step_flat.specs.Parts.{wanted, number_datum, if_whole, under, first_wants, second_wants}
 use Rattle.sched_step_flat.specs.declared.parts.Part.{Part}
 use Rattle.sched_step_flat.specs.declared.parts.Part.TheVariants.{Unread, Whole, FirstOf, SecondOf}
@@ -118,6 +117,14 @@ flat_step (two k a b) part ws e =
     flat_two k part (flat_step a (first_wants k part)) (flat_step b (second_wants k part)) (take (two_width k) ws)
     (take (width_of a) (drop (two_width k) ws)) (drop (width_of a) (drop (two_width k) ws)) e
 
+-- a reply of which nothing but the decision is read
+abbrev pub unread : Decision → Reply
+unread decision = record { number = None; decision = decision }
+
 -- the words and the reply are these after one more event
 abbrev pub FlatSteps : Schedule → Part → List ℕ → Event → List ℕ → Reply → Type 0
 FlatSteps s part ws e next reply = (next, reply) ≡ flat_step s part ws e
+
+-- where nothing is read of the output, they are these words and this decision
+abbrev pub Decides : Schedule → List ℕ → Event → List ℕ → Decision → Type 0
+Decides s ws e next decision = FlatSteps s Unread ws e next (unread decision)

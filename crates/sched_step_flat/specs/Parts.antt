@@ -4,8 +4,7 @@ use Rattle.sched_plan.specs.Datum.{Datum, unit, num, as_number, first_part, seco
 use Rattle.sched_plan.specs.Schedule.{Schedule, leaf, one, two}
 use Rattle.sched_plan.specs.declared.leaves.Leaf.{Leaf}
 use Rattle.sched_plan.specs.declared.leaves.Leaf.TheVariants.{Identity}
-use Rattle.sched_plan.specs.declared.nodes.Side.{Side}
-use Rattle.sched_plan.specs.declared.nodes.Side.TheVariants.{Input, Output}
+use Rattle.sched_plan.specs.declared.nodes.Side.TheVariants.{Output}
 use Rattle.sched_plan.specs.declared.nodes.Fold.TheVariants.{Sum, Count, Max, List as Listing}
 use Rattle.sched_plan.specs.declared.nodes.One.{One}
 use Rattle.sched_plan.specs.declared.nodes.One.TheVariants.{Gate, Gather, AddOut, First, Second, Nothing}
@@ -48,6 +47,14 @@ under First part = picking FirstOf part
 under Second part = picking SecondOf part
 under Nothing part = Unread
 under k part = part
+
+-- whether a node reads the output of the schedule under it, where nothing is read of the node's
+abbrev pub reads_output : One → Bool
+reads_output (Gate Output want test bound) = true
+reads_output (Gather Sum) = true
+reads_output (Gather Max) = true
+reads_output AddOut = true
+reads_output k = false
 
 -- what is read of a pair's first output, where this is read of the pair
 abbrev pub of_first : Part → Part

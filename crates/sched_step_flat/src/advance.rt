@@ -1,14 +1,14 @@
-ghost use Rattle.std.specs.Prelude.{◌≡◌, ◌+◌, if◌then◌else◌, length, IsTrue};
+ghost use Rattle.std.specs.Prelude.{◌≡◌, ◌+◌, if◌then◌else◌, None, length, IsTrue};
 ghost use Rattle.sched_plan.specs.Schedule.{is_valid, one as one_schedule, two as two_schedule};
 ghost use Rattle.sched_step.specs.Progress.{is_beside};
 ghost use Rattle.sched_step.specs.Step.{begins};
 ghost use Rattle.sched_step_flat.specs.Words.{blank, kept_from, width_of, one_width};
-ghost use Rattle.sched_step_flat.specs.FlatStep.{cued, pair_number, FlatSteps};
+ghost use Rattle.sched_step_flat.specs.FlatStep.{cued, pair_number, Decides, FlatSteps};
 
 use crate::cues::{Cue, Reply};
 use crate::leaves::step_leaf;
 use crate::ones::{begins, keep, reply};
-use crate::parts::{Part, of_first, of_second, under};
+use crate::parts::{Part, of_first, of_second, reads_output, under};
 use crate::puts::{first_word, put_one};
 use crate::resets::reset;
 use crate::widths::{one_width, width};
@@ -16,12 +16,120 @@ use sched_plan::{One, Plan, PlanShape, Two};
 use sched_step::decisions::{join, meet};
 use sched_time::{Decision, Moment};
 
-/// Makes the words those after one more event, and gives what is read of the plan's answer to it.
+/// Makes the words those after one more event, and gives what the plan decides, where nothing is read of its output.
+///
+/// A plan of which nothing is read is stepped as `advance` steps it, with less to hand over at each node.
+#[cycle(decide)]
+#[inline(always)]
+pub(crate) fn decide(cue: &Cue, plan: &Plan, words: &mut [u64]) -> Decision
+    requires { length words.old ≡ width_of plan.now }
+    ensures { Decides plan.now words.old (cued cue.now) words.new result }
+{
+    match plan.shape() {
+        PlanShape::Leaf(leaf) => step_leaf(cue, leaf, Part::Unread, words).decision,
+        PlanShape::One(node, plan) => decide_one(cue, node, plan, words),
+        PlanShape::Two(node, plans) => match *node {
+            Two::Meet | Two::Join => decide_beside(cue, *node, plans, words),
+            Two::Follow => decide_follow(cue, plans, words),
+            Two::Feed => decide_feed(cue, plans, words),
+        },
+    }
+}
+
+// A node over one plan, of which it reads nothing, or else what `advance_one` does.
+#[cycle(decide)]
+#[inline(never)]
+#[tactic(auto, using(crate::proofs::Unread::unread_one, crate::proofs::Unread::unread_reader, crate::proofs::Unread::under_unread))]
+fn decide_one(cue: &Cue, node: &One, plan: &Plan, words: &mut [u64]) -> Decision
+    requires valid { IsTrue (is_valid (one_schedule node.now plan.now)) }
+    requires fits { length words.old ≡ one_width node.now + width_of plan.now }
+    ensures { Decides (one_schedule node.now plan.now) words.old (cued cue.now) words.new result }
+{
+    if reads_output(*node) {
+        return advance_one(cue, node, plan, Part::Unread, words).decision;
+    }
+    let (own, below) = words.split_at_mut(one_width(*node));
+    let word = first_word(own);
+    begin(node, word, cue.tick.now, plan, below);
+    let read = unread(decide(cue, plan, below));
+    keep(node, cue, &read, own);
+    reply(node, Part::Unread, word, cue, &read).decision
+}
+
+// A reply of which nothing but the decision is read.
+#[inline(always)]
+fn unread(decision: Decision) -> Reply
+    ensures { result ≡ record { number = None; decision = decision } }
+{
+    Reply {
+        number: None,
+        decision,
+    }
+}
+
+// Two plans side by side.
+#[cycle(decide)]
+#[inline(never)]
+fn decide_beside(cue: &Cue, node: Two, plans: &(Plan, Plan), words: &mut [u64]) -> Decision
+    requires beside { IsTrue (is_beside node) }
+    requires fits { length words.old ≡ width_of plans.now.0 + width_of plans.now.1 }
+    ensures { Decides (two_schedule node plans.now.0 plans.now.1) words.old (cued cue.now) words.new result }
+{
+    let (front, rest) = words.split_at_mut(width(&plans.0));
+    let first = decide(cue, &plans.0, front);
+    let second = decide(cue, &plans.1, rest);
+    match node {
+        Two::Meet => meet(first, second),
+        Two::Join => join(first, second),
+        Two::Follow | Two::Feed => unreachable!(),
+    }
+}
+
+// Two plans one through the other: the whole output of the first is read.
+#[cycle(decide)]
+#[inline(never)]
+fn decide_feed(cue: &Cue, plans: &(Plan, Plan), words: &mut [u64]) -> Decision
+    requires { length words.old ≡ width_of plans.now.0 + width_of plans.now.1 }
+    ensures { Decides (two_schedule Two.Feed plans.now.0 plans.now.1) words.old (cued cue.now) words.new result }
+{
+    let (front, rest) = words.split_at_mut(width(&plans.0));
+    let first = advance(cue, &plans.0, Part::Whole, front);
+    let through = Cue {
+        tick: cue.tick,
+        input: first.number,
+    };
+    let second = decide(&through, &plans.1, rest);
+    meet(first.decision, second)
+}
+
+// Two plans in turn.
+#[cycle(decide)]
+#[inline(never)]
+fn decide_follow(cue: &Cue, plans: &(Plan, Plan), words: &mut [u64]) -> Decision
+    requires { length words.old ≡ 1 + (width_of plans.now.0 + width_of plans.now.1) }
+    ensures { Decides (two_schedule Two.Follow plans.now.0 plans.now.1) words.old (cued cue.now) words.new result }
+{
+    let (own, both) = words.split_at_mut(1);
+    if own[0] != 0 {
+        let (_, rest) = both.split_at_mut(both.len() - width(&plans.1));
+        return decide(cue, &plans.1, rest);
+    }
+    let (front, rest) = both.split_at_mut(width(&plans.0));
+    let first = decide(cue, &plans.0, front);
+    if let Decision::Go(_) = first {
+        put_one(own, 0);
+        return first;
+    }
+    put_one(own, 1);
+    decide(cue, &plans.1, rest)
+}
+
+// Makes the words those after one more event, and gives what is read of the plan's answer to it.
 ///
 /// It is inlined where it is called, and the functions of the nodes are not: so a leaf takes no call that goes down.
 #[cycle(advance)]
 #[inline(always)]
-pub(crate) fn advance(cue: &Cue, plan: &Plan, part: Part, words: &mut [u64]) -> Reply
+fn advance(cue: &Cue, plan: &Plan, part: Part, words: &mut [u64]) -> Reply
     requires { length words.old ≡ width_of plan.now }
     ensures { FlatSteps plan.now part words.old (cued cue.now) words.new result }
 {

@@ -1,6 +1,7 @@
 ghost use Rattle.std.specs.Prelude.{◌≡◌, ◌&&◌, Some};
 ghost use Rattle.sched_plan.specs.Datum.{num};
-ghost use Rattle.sched_step_flat.specs.Parts.{wanted, number_datum, if_whole, picking, under, of_first, of_second};
+ghost use Rattle.sched_step_flat.specs.Parts.{wanted, number_datum, if_whole, picking, under};
+ghost use Rattle.sched_step_flat.specs.Parts.{reads_output, of_first, of_second};
 ghost use Rattle.sched_step_flat.specs.Parts.{is_undivided, leaf_is_flat, one_is_flat, is_flat};
 
 use sched_plan::{Fold, Leaf, One, Plan, PlanShape, Side, Two};
@@ -76,6 +77,21 @@ pub(crate) fn under(node: One, part: Part) -> Part
         One::Second => picking(Part::SecondOf, part),
         _ => part,
     }
+}
+
+/// Whether a node reads the output of the plan under it, where nothing is read of the node's.
+#[inline(always)]
+pub(crate) fn reads_output(node: One) -> bool
+    ensures { result ≡ reads_output node }
+{
+    matches!(
+        node,
+        One::Gate {
+            side: Side::Output,
+            ..
+        } | One::Gather(Fold::Sum | Fold::Max)
+            | One::AddOut
+    )
 }
 
 /// What is read of a pair's first output, where this part is read of the pair.

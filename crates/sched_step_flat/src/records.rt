@@ -7,7 +7,7 @@ ghost use Rattle.sched_step_flat.specs.Words.{width_of};
 ghost use Rattle.sched_step_flat.specs.Parts.{number_datum};
 ghost use Rattle.sched_step_flat.specs.FlatStep.{cued};
 
-use crate::advance::advance;
+use crate::advance::decide;
 use crate::cues::Cue;
 use crate::parts::{Part, is_flat};
 use crate::resets::reset;
@@ -54,6 +54,15 @@ impl Record {
         Ok(Record { words })
     }
 
+    /// The same words again. It takes memory only for more than 16 words, and fails only with `NoMemory`.
+    #[inline(always)]
+    pub fn copied(&self) -> Result<Record, NoMemory>
+        ensures { IfOk result (λ copy. copy ≡ self.now) }
+    {
+        let words = SmallVec::from_slice(*self.words.allocator(), self.words.as_slice())?;
+        Ok(Record { words })
+    }
+
     /// Steps the plan with one more event, in place, and gives what it decides. It takes no memory.
     pub fn advance(&mut self, plan: &Plan, tick: &Tick, input: &Val) -> Decision
         requires reads { IsTrue (has_record plan.now) }
@@ -67,7 +76,7 @@ impl Record {
         // Tells what the proof rests on: that the plan is valid.
         let _shape = plan.shape();
         let cue = cue_of(tick, input);
-        advance(&cue, plan, Part::Unread, self.words.as_mut_slice()).decision
+        decide(&cue, plan, self.words.as_mut_slice())
     }
 
     /// Whether it has as many words as the plan's state takes.

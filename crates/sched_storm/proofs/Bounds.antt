@@ -7,7 +7,8 @@ use Rattle.sched_ticket_quota.specs.declared.view.Terms.{Terms}
 use Rattle.sched_ticket_quota.specs.Held.{AreTerms}
 use Rattle.sched_ticket_quota.specs.Windows.{allowed}
 use Rattle.sched_storm.specs.Parameters.{AreDraws}
-use Rattle.sched_storm.specs.Tickets.{asked_of, given_of, turned, at_moment, with_request, counted, tickets_for, may_draw, with_ticket, draw_at}
+use Rattle.sched_storm.specs.Tickets.{asked_of, given_of, turned, at_moment, with_request, counted, tickets_for}
+use Rattle.sched_storm.specs.Tickets.{may_draw, with_ticket, draw_at}
 use Rattle.sched_storm.specs.Tickets.{tickets_of, most_before, last_window, IsLawful, most_tickets}
 use Rattle.sched_storm.specs.declared.parameters.Draws.{Draws}
 use Rattle.sched_storm.specs.declared.parameters.Draws.TheVariants.{Nothing, Budget, Quota}
@@ -20,7 +21,8 @@ quotient_rises k a b some h = le-div (a / k) b k some (omega (arith, div-mul-le_
 
 allowed_rises : (k : Terms) (n : ℕ) → allowed k n ≤ allowed k (n + 1)
 allowed_rises k n =
-    let more = quotient_rises 1000 (k.share * n) (k.share * (n + 1)) (omega arith) (mul-le k.share n k.share (n + 1) (omega arith) (omega arith)) in
+    let more = quotient_rises 1000 (k.share * n) (k.share * (n + 1)) (omega arith)
+    (mul-le k.share n k.share (n + 1) (omega arith) (omega arith)) in
     omega arith
 
 -- a window's tickets are at most its reserve and its requests' share
@@ -30,10 +32,16 @@ allowed-le k n = let whole = div-mul-le_self (k.share * n) 1000 in omega arith
 -- ---- sums
 
 turned_asked : (w : ℕ) (d : Drawn) → asked_of (turned w d) ≡ asked_of d
-turned_asked w d = elim (nat_lt d.window w) as (λ b. asked_of (cond b (record { window = w; asked_before = asked_of d; given_before = given_of d; asked = 0; given = 0 }) d) ≡ asked_of d) [ true ↦ omega arith | false ↦ refl ]
+turned_asked w d = elim (nat_lt d.window w) as
+    (λ b. asked_of (cond b
+    (record { window = w; asked_before = asked_of d; given_before = given_of d; asked = 0; given = 0 }) d)
+    ≡ asked_of d) [ true ↦ omega arith | false ↦ refl ]
 
 turned_given : (w : ℕ) (d : Drawn) → given_of (turned w d) ≡ given_of d
-turned_given w d = elim (nat_lt d.window w) as (λ b. given_of (cond b (record { window = w; asked_before = asked_of d; given_before = given_of d; asked = 0; given = 0 }) d) ≡ given_of d) [ true ↦ omega arith | false ↦ refl ]
+turned_given w d = elim (nat_lt d.window w) as
+    (λ b. given_of (cond b
+    (record { window = w; asked_before = asked_of d; given_before = given_of d; asked = 0; given = 0 }) d)
+    ≡ given_of d) [ true ↦ omega arith | false ↦ refl ]
 
 pub moment_asked : (draws : Draws) (t : ℕ) (d : Drawn) → asked_of (at_moment draws t d) ≡ asked_of d
 moment_asked Nothing t d = refl
@@ -57,7 +65,8 @@ ticket_asked (Budget limit) d = refl
 ticket_asked (Quota terms) d = refl
 
 -- a ticket more, where retries draw on anything
-ticket_given : (draws : Draws) (d : Drawn) (n : ℕ) → given_of d ≡ tickets_of draws n → given_of (with_ticket draws d) ≡ tickets_of draws (n + 1)
+ticket_given : (draws : Draws) (d : Drawn) (n : ℕ) → given_of d ≡ tickets_of draws n →
+    given_of (with_ticket draws d) ≡ tickets_of draws (n + 1)
 ticket_given Nothing d n h = h
 ticket_given (Budget limit) d n h = omega arith
 ticket_given (Quota terms) d n h = omega arith
@@ -70,24 +79,43 @@ drawn_asked draws t d =
       | false ↦ moment_asked draws t d
     ]
 
+one_given : (draws : Draws) (d : Drawn) → given_of (with_ticket draws d) ≤ given_of d + 1
+one_given Nothing d = omega arith
+one_given (Budget limit) d = omega arith
+one_given (Quota terms) d = omega arith
+
+pub drawn_given : (draws : Draws) (t : ℕ) (d : Drawn) → given_of (draw_at draws t d).1 ≤ given_of d + 1
+drawn_given draws t d =
+    let e = at_moment draws t d in
+    let same = moment_given draws t d in
+    let one = one_given draws e in
+    elim (may_draw draws e) as (λ b. given_of (cond b (with_ticket draws e) e) ≤ given_of d + 1) [
+      | true ↦ omega arith
+      | false ↦ omega arith
+    ]
+
 pub granted_given : (draws : Draws) (t : ℕ) (d : Drawn) (n : ℕ) → (draw_at draws t d).0 ≡ true →
     given_of d ≡ tickets_of draws n → given_of (draw_at draws t d).1 ≡ tickets_of draws (n + 1)
 granted_given draws t d n may h =
     let e = at_moment draws t d in
     rw may (ticket_given draws e n (moment_given draws t d ∙ h))
 
-pub refused_given : (draws : Draws) (t : ℕ) (d : Drawn) → (draw_at draws t d).0 ≡ false → given_of (draw_at draws t d).1 ≡ given_of d
+pub refused_given : (draws : Draws) (t : ℕ) (d : Drawn) → (draw_at draws t d).0 ≡ false →
+    given_of (draw_at draws t d).1 ≡ given_of d
 refused_given draws t d may = rw may (moment_given draws t d)
 
 -- ---- bounds
 
-lawful_turn : (k : Terms) (until t : ℕ) (d : Drawn) → AreTerms k → t ≤ until → d.window < t / k.period → IsLawful (Quota k) until d →
-    IsLawful (Quota k) until (record { window = t / k.period; asked_before = asked_of d; given_before = given_of d; asked = 0; given = 0 })
+lawful_turn : (k : Terms) (until t : ℕ) (d : Drawn) → AreTerms k → t ≤ until → d.window < t / k.period →
+    IsLawful (Quota k) until d →
+    IsLawful (Quota k) until
+    (record { window = t / k.period; asked_before = asked_of d; given_before = given_of d; asked = 0; given = 0 })
 lawful_turn k until t d terms by later law =
     let here = law.here in
     let before = law.before in
     let most = allowed-le k d.asked in
-    let share : k.share * (d.asked_before + d.asked) ≡ k.share * d.asked_before + k.share * d.asked = mul-add k.share d.asked_before d.asked in
+    let share : k.share * (d.asked_before + d.asked) ≡ k.share * d.asked_before + k.share * d.asked =
+    mul-add k.share d.asked_before d.asked in
     let one = mul-add k.reserve d.window 1 in
     let reserve = mul-le k.reserve (d.window + 1) k.reserve (t / k.period) (omega arith) (omega arith) in
     record {
@@ -98,16 +126,21 @@ lawful_turn k until t d terms by later law =
 
 lawful_turned : (k : Terms) (until t : ℕ) (d : Drawn) → AreTerms k → t ≤ until → IsLawful (Quota k) until d →
     (b : Bool) → nat_lt d.window (t / k.period) ≡ b →
-    IsLawful (Quota k) until (cond b (record { window = t / k.period; asked_before = asked_of d; given_before = given_of d; asked = 0; given = 0 }) d)
+    IsLawful (Quota k) until
+    (cond b
+    (record { window = t / k.period; asked_before = asked_of d; given_before = given_of d; asked = 0; given = 0 }) d)
 lawful_turned k until t d terms by law true e = lawful_turn k until t d terms by (ltb-true _ _ e) law
 lawful_turned k until t d terms by law false e = law
 
-lawful_at : (draws : Draws) (until t : ℕ) (d : Drawn) → AreDraws draws → t ≤ until → IsLawful draws until d → IsLawful draws until (at_moment draws t d)
+lawful_at : (draws : Draws) (until t : ℕ) (d : Drawn) → AreDraws draws → t ≤ until → IsLawful draws until d →
+    IsLawful draws until (at_moment draws t d)
 lawful_at Nothing until t d ok by law = law
 lawful_at (Budget limit) until t d ok by law = law
-lawful_at (Quota terms) until t d ok by law = lawful_turned terms until t d ok by law (nat_lt d.window (t / terms.period)) refl
+lawful_at (Quota terms) until t d ok by law = lawful_turned terms until t d ok by law
+    (nat_lt d.window (t / terms.period)) refl
 
-lawful_request : (draws : Draws) (until : ℕ) (d : Drawn) → IsLawful draws until d → IsLawful draws until (with_request d)
+lawful_request : (draws : Draws) (until : ℕ) (d : Drawn) → IsLawful draws until d →
+    IsLawful draws until (with_request d)
 lawful_request Nothing until d law = record { here = law.here; before = law.before; latest = law.latest }
 lawful_request (Budget limit) until d law = record { here = law.here; before = law.before; latest = law.latest }
 lawful_request (Quota terms) until d law =
@@ -115,28 +148,34 @@ lawful_request (Quota terms) until d law =
     let here = law.here in
     record { here = omega arith; before = law.before; latest = law.latest }
 
-pub lawful_counted : (draws : Draws) (until t : ℕ) (d : Drawn) → AreDraws draws → t ≤ until → IsLawful draws until d → IsLawful draws until (counted draws t d)
-lawful_counted draws until t d ok by law = lawful_request draws until (at_moment draws t d) (lawful_at draws until t d ok by law)
+pub lawful_counted : (draws : Draws) (until t : ℕ) (d : Drawn) → AreDraws draws → t ≤ until → IsLawful draws until d →
+    IsLawful draws until (counted draws t d)
+lawful_counted draws until t d ok by law = lawful_request draws until (at_moment draws t d)
+    (lawful_at draws until t d ok by law)
 
-lawful_ticket : (draws : Draws) (until : ℕ) (d : Drawn) → may_draw draws d ≡ true → IsLawful draws until d → IsLawful draws until (with_ticket draws d)
+lawful_ticket : (draws : Draws) (until : ℕ) (d : Drawn) → may_draw draws d ≡ true → IsLawful draws until d →
+    IsLawful draws until (with_ticket draws d)
 lawful_ticket Nothing until d may law = law
 lawful_ticket (Budget limit) until d may law =
     let room = ltb-true d.given limit may in record { here = omega arith; before = law.before; latest = law.latest }
 lawful_ticket (Quota terms) until d may law =
-    let room = ltb-true d.given (allowed terms d.asked) may in record { here = omega arith; before = law.before; latest = law.latest }
+    let room = ltb-true d.given (allowed terms d.asked) may in
+    record { here = omega arith; before = law.before; latest = law.latest }
 
 lawful_drawn_if : (draws : Draws) (until : ℕ) (d : Drawn) → IsLawful draws until d → (b : Bool) → may_draw draws d ≡ b →
     IsLawful draws until (cond b (with_ticket draws d) d)
 lawful_drawn_if draws until d law true may = lawful_ticket draws until d may law
 lawful_drawn_if draws until d law false may = law
 
-pub lawful_drawn : (draws : Draws) (until t : ℕ) (d : Drawn) → AreDraws draws → t ≤ until → IsLawful draws until d → IsLawful draws until (draw_at draws t d).1
+pub lawful_drawn : (draws : Draws) (until t : ℕ) (d : Drawn) → AreDraws draws → t ≤ until → IsLawful draws until d →
+    IsLawful draws until (draw_at draws t d).1
 lawful_drawn draws until t d ok by law =
     let e = at_moment draws t d in
     lawful_drawn_if draws until e (lawful_at draws until t d ok by law) (may_draw draws e) refl
 
 -- all tickets together
-pub tickets-le : (draws : Draws) (until : ℕ) (d : Drawn) → IsLawful draws until d → 1000 * given_of d ≤ most_tickets draws until (asked_of d)
+pub tickets-le : (draws : Draws) (until : ℕ) (d : Drawn) → IsLawful draws until d →
+    1000 * given_of d ≤ most_tickets draws until (asked_of d)
 tickets-le Nothing until d law = let here = law.here in let before = law.before in omega arith
 tickets-le (Budget limit) until d law = let here = law.here in let before = law.before in omega arith
 tickets-le (Quota k) until d law =
@@ -144,7 +183,8 @@ tickets-le (Quota k) until d law =
     let before = law.before in
     let latest = law.latest in
     let most = allowed-le k d.asked in
-    let share : k.share * (d.asked_before + d.asked) ≡ k.share * d.asked_before + k.share * d.asked = mul-add k.share d.asked_before d.asked in
+    let share : k.share * (d.asked_before + d.asked) ≡ k.share * d.asked_before + k.share * d.asked =
+    mul-add k.share d.asked_before d.asked in
     let one = mul-add k.reserve d.window 1 in
     let reserve = mul-le k.reserve (d.window + 1) k.reserve (until / k.period + 1) (omega arith) (omega arith) in
     omega arith

@@ -1,9 +1,20 @@
+-- Lemmas that the proofs of `sched_storm` cite.
 pub mod Peer
-pub mod Adds
+pub mod Called
+pub mod Keys
 pub mod Bounds
 pub mod Uses
-pub mod Sums
-pub mod Steps
-pub mod Reports
 pub mod Starts
-pub mod Told
+pub mod Played
+pub mod Steps
+pub mod Taken
+pub mod Storms
+pub mod Length
+pub mod Answered
+pub mod Ready
+pub mod Begins
+pub mod Reports
+pub mod OfKind
+pub mod Balances
+pub mod Lawful
+pub mod AddsUp

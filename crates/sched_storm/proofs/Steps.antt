@@ -1,294 +1,290 @@
--- Each event keeps what holds of a storm.
-use Rattle.std.proofs.Common.{◌≡◌, ℕ, ◌+◌, ◌<◌, ◌≤◌, Bool, true, false, refl, sym, ◌∙◌, arith}
-use Rattle.sched_storm.specs.Parameters.{all_requests, AreDraws}
-use Rattle.sched_storm.specs.Tally.{calls_in, failed_in, ended_in, with_failure, after_first, after_retry, after_win, after_failure, after_loss, after_denial, after_grant, AreBelow}
-use Rattle.sched_storm.specs.Tickets.{counted, draw_at, asked_of, given_of, tickets_of}
-use Rattle.sched_storm.specs.Pending.{Agenda}
-use Rattle.sched_storm.specs.Course.{IsSound, HasRoom}
-use Rattle.sched_storm.proofs.Bounds.{counted_asked, counted_given, lawful_counted, drawn_asked, granted_given, refused_given, lawful_drawn, tickets_of_le}
-use Rattle.sched_storm.specs.declared.calls.Failure.{Failure}
-use Rattle.sched_storm.specs.declared.calls.Failure.TheVariants.{Refused, Shed, Late}
+-- What is due is played: the course stands as one event more leaves it.
+use Rattle.std.proofs.Common.{◌≡◌, ◌≢◌, ℕ, ◌+◌, ◌*◌, ◌<◌, ◌≤◌, Bool, true, false, cond, eqb, eqb-true, eq-eqb, ltb}
+use Rattle.std.proofs.Common.{ltb-true, ltb-false, lt-ltb, le-ltb, List, [], ◌∷◌, ◌++◌, length, length-append, Option}
+use Rattle.std.proofs.Common.{Some, None, IsTrue, refl, sym, ◌∙◌, ap, subst, inl, inr, arith, rules, vec_len}
+use Rattle.std.proofs.lemmas.Bool.{false≢true, cases_lt}
+use Rattle.std.proofs.lemmas.List.Sums.{sum_by-append, sum_by-cons}
+use Rattle.std.specs.Prelude.{nat_le, nat_lt, count_by}
+use Rattle.sched_plan.specs.Schedule.{Schedule}
+use Rattle.sched_storm_trace.specs.Trace.{Due, Event, Answer, updated, NotAfter, IsBeginning, told_by}
+use Rattle.sched_storm_trace.proofs.Traces.{one_more, told_push}
+use Rattle.sched_storm_report.specs.Told.{AreTold}
+use Rattle.sched_storm_report.specs.declared.peer.Peer.{Peer}
+use Rattle.sched_storm_report.specs.declared.moments.Moment.{Moment}
+use Rattle.sched_storm.specs.Parameters.{all_requests, comes_at, peer_of}
+use Rattle.sched_storm.specs.Tickets.{asked_of, given_of}
+use Rattle.sched_storm.specs.Plays.{Stage, begins, retries, succeeds, fails, is_call, Shared, start_at, first, if_by}
+use Rattle.sched_storm.specs.Plays.{playing, played}
+use Rattle.sched_storm.specs.Turns.{kind_of, is_call_kind, turn_for, turn_if}
+use Rattle.sched_storm.specs.Keys.{Holds}
+use Rattle.sched_storm.specs.Storms.{calls_of}
+use Rattle.sched_storm.specs.Course.{shared_of, slot_of, Drives, HasAnswered, Rests, IsPlacedAt, IsPlacedBy, came}
+use Rattle.sched_storm.specs.Course.{AreCounted, IsCounted, keys_of, IsOther, IsTakenOut, IsOut, IsNear, Stands}
+use Rattle.sched_storm.specs.Course.{IsLeast, IsTurnOf, StandsAfter}
 use Rattle.sched_storm.specs.declared.parameters.Parameters.{Parameters}
-use Rattle.sched_storm.specs.declared.score.Counts.{Counts}
-use Rattle.sched_storm.specs.declared.score.Score.{Score}
-use Rattle.sched_storm.specs.declared.tickets.Drawn.{Drawn}
+use Rattle.sched_storm.specs.declared.turns.Kind.{Kind}
+use Rattle.sched_storm.specs.declared.turns.Kind.TheVariants.{Begins, Retries, Succeeds, Fails}
+use Rattle.sched_storm.specs.declared.turns.Turn.{Turn}
+use Rattle.sched_storm.specs.declared.course.Course.{Course}
+use Rattle.sched_storm.proofs.Played.{IsDueNext, due_next, played_asked, played_given, call_kind}
 
--- a failure more
-one_more : (f : Failure) (c : Counts) → failed_in (with_failure f c) ≡ failed_in c + 1
-one_more Refused c = omega arith
-one_more Shed c = omega arith
-one_more Late c = omega arith
+up : (a b c : ℕ) → a ≤ b → b ≤ c → a ≤ c
+up a b c h k = omega arith
 
-same_calls : (f : Failure) (c : Counts) → calls_in (with_failure f c) ≡ calls_in c
-same_calls Refused c = refl
-same_calls Shed c = refl
-same_calls Late c = refl
+counted_calls : (k : Kind) (old new : Course) → IsCounted k old new → new.calls ≡ old.calls + cond (is_call_kind k) 1 0
+counted_calls Begins old new h = h.calls_are
+counted_calls Retries old new h = h.calls_are
+counted_calls Succeeds old new h = h.calls_are
+counted_calls (Fails failure) old new h = h.calls_are
 
-same_requests : (f : Failure) (c : Counts) → (with_failure f c).requests ≡ c.requests
-same_requests Refused c = refl
-same_requests Shed c = refl
-same_requests Late c = refl
+counted_comes : (k : Kind) (old new : Course) → IsCounted k old new → old.comes ≡ comes_at old.storm old.requests →
+    new.comes ≡ comes_at old.storm new.requests
+counted_comes Begins old new h = h.comes
+counted_comes Retries old new h = h.comes
+counted_comes Succeeds old new h = h.comes
+counted_comes (Fails failure) old new h = h.comes
 
-same_retries : (f : Failure) (c : Counts) → (with_failure f c).retries ≡ c.retries
-same_retries Refused c = refl
-same_retries Shed c = refl
-same_retries Late c = refl
+counted_requests : (k : Kind) (old new : Course) → IsCounted k old new → new.requests ≡ old.requests + came k
+counted_requests Begins old new h = h.requests_are
+counted_requests Retries old new h = h.requests_are
+counted_requests Succeeds old new h = h.requests_are
+counted_requests (Fails failure) old new h = h.requests_are
 
-same_won : (f : Failure) (c : Counts) → (with_failure f c).won ≡ c.won
-same_won Refused c = refl
-same_won Shed c = refl
-same_won Late c = refl
+-- the request of a turn came by then, and another came only where it had
+came_by : (k : Kind) (r requests : ℕ) → IsPlacedAt k r requests → r < requests + came k
+came_by Begins r requests h = omega arith
+came_by Retries r requests h = omega arith
+came_by Succeeds r requests h = omega arith
+came_by (Fails failure) r requests h = omega arith
 
-same_succeeded : (f : Failure) (c : Counts) → (with_failure f c).succeeded ≡ c.succeeded
-same_succeeded Refused c = refl
-same_succeeded Shed c = refl
-same_succeeded Late c = refl
+few_came : (k : Kind) (r requests all : ℕ) → IsPlacedAt k r requests → r < all → requests ≤ all →
+    requests + came k ≤ all
+few_came Begins r requests all h few most = omega arith
+few_came Retries r requests all h few most = omega arith
+few_came Succeeds r requests all h few most = omega arith
+few_came (Fails failure) r requests all h few most = omega arith
 
-module _ (p : Parameters) (s : Score) (d : Drawn) (a : Agenda) (busy : ℕ) (k : IsSound p s d a busy) where
-  -- no count comes to its end
-  pub counts_below : AreBelow 9223372036854775808 s.all
-  counts_below =
-      let few = k.few_calls in
-      let endings = k.endings in
-      let successes = k.successes in
-      let under_way = k.under_way in
-      let calls = k.calls in
+other_came : (k : Kind) (r q requests : ℕ) → IsPlacedAt k r requests → q ≢ r → (b : Bool) → ltb q requests ≡ b →
+    ltb q (requests + came k) ≡ b
+other_came k r q requests h other true s = let less = ltb-true q requests s in
+    lt-ltb q (requests + came k) (omega arith)
+other_came Begins r q requests h other false s =
+    let more = ltb-false q requests s in
+    elim (cases_lt requests q) [
+      | inl k ↦ le-ltb q (requests + 1) (omega arith)
+      | inr k ↦ (let same : q ≡ r = omega arith in absurd (other same))
+    ]
+other_came Retries r q requests h other false s = let more = ltb-false q requests s in
+    le-ltb q (requests + 0) (omega arith)
+other_came Succeeds r q requests h other false s = let more = ltb-false q requests s in
+    le-ltb q (requests + 0) (omega arith)
+other_came (Fails failure) r q requests h other false s = let more = ltb-false q requests s in
+    le-ltb q (requests + 0) (omega arith)
+
+placed_later : (k l : Kind) (r q requests : ℕ) → IsPlacedAt k r requests → q ≢ r → IsPlacedBy l q requests →
+    IsPlacedBy l q (requests + came k)
+placed_later k Retries r q requests h other p = omega arith
+placed_later k Succeeds r q requests h other p = omega arith
+placed_later k (Fails failure) r q requests h other p = omega arith
+placed_later Begins Begins r q requests h other p =
+    elim (cases_lt requests q) [
+      | inl k ↦ omega arith
+      | inr k ↦ (let same : q ≡ r = omega arith in absurd (other same))
+    ]
+placed_later Retries Begins r q requests h other p = omega arith
+placed_later Succeeds Begins r q requests h other p = omega arith
+placed_later (Fails failure) Begins r q requests h other p = omega arith
+
+placed_by : (k : Kind) (r requests : ℕ) → IsPlacedAt k r requests → IsPlacedBy k r requests
+placed_by Begins r requests h = omega arith
+placed_by Retries r requests h = h
+placed_by Succeeds r requests h = h
+placed_by (Fails failure) r requests h = h
+
+few_calls_if : (b : Bool) (calls most : ℕ) → calls ≤ most → (IsTrue b → calls < most) → calls + cond b 1 0 ≤ most
+few_calls_if true calls most h room = let less = room refl in omega arith
+few_calls_if false calls most h room = omega arith
+
+module _ (old new : Course) (turn : Turn) (d : Due Stage) (next : Option Turn) (was : Stands old (Some turn))
+    (due_is : was.due turn.request ≡ Some d) (not_held : was.held turn.request ≡ None)
+    (placed : IsPlacedAt (kind_of d.what) turn.request old.requests)
+    (least : IsLeast was.due d.at turn.request)
+    (answered : HasAnswered (played old.storm old.plan (shared_of old) turn.request d) d.at turn.request old new next)
+    (rests : Rests d.at turn.request old new)
+    (counted : IsCounted (kind_of d.what) old new) (room : IsTrue (is_call_kind (kind_of d.what)) →
+    old.calls < old.storm.calls) where
+  abbrev r : ℕ
+  r = turn.request
+
+  abbrev after : Answer Stage Shared Moment
+  after = played old.storm old.plan (shared_of old) r d
+
+  abbrev event : Event Stage
+  event = record { request = r; due = d; next = after.next }
+
+  abbrev events : List (Event Stage)
+  events = was.events ++ event ∷ []
+
+  abbrev due : ℕ → Option (Due Stage)
+  due = updated was.due r after.next
+
+  near_here : IsNear old r d
+  near_here = was.near r d due_is
+
+  begun_old : IsBeginning (played old.storm old.plan) (first old.storm) (start_at old.storm) events due after.shared
+  begun_old = one_more (played old.storm old.plan) (first old.storm) (start_at old.storm) was.events was.due
+      (shared_of old) event was.begun due_is refl
+      least answered.later
+
+  begun_new : IsBeginning (played new.storm new.plan) (first new.storm) (start_at new.storm) events due (shared_of new)
+  begun_new =
+      subst (λ p. IsBeginning (played p new.plan) (first p) (start_at p) events due (shared_of new)) (sym rests.storm)
+      (subst (λ plan. IsBeginning (played old.storm plan) (first old.storm) (start_at old.storm) events due
+      (shared_of new)) (sym rests.plan)
+      (subst (λ s. IsBeginning (played old.storm old.plan) (first old.storm) (start_at old.storm) events due s)
+      (sym answered.shared_is) begun_old))
+
+  told_new : (peer : Peer) → peer ≡ peer_of new.storm →
+      AreTold peer (told_by (played new.storm new.plan) (start_at new.storm) events) new.tally
+  told_new peer is =
+      let is_old : peer ≡ peer_of old.storm = is ∙ ap peer_of rests.storm in
+      let told = answered.told peer (told_by (played old.storm old.plan) (start_at old.storm) was.events) is_old
+      (was.told peer is_old) in
+      let pushed = told_push (played old.storm old.plan) (start_at old.storm) was.events
+      (shared_of old) event was.begun.answers in
+      subst (λ p. AreTold peer (told_by (played p new.plan) (start_at p) events) new.tally) (sym rests.storm)
+      (subst (λ plan. AreTold peer (told_by (played old.storm plan) (start_at old.storm) events) new.tally)
+      (sym rests.plan)
+      (subst (λ ms. AreTold peer ms new.tally) (sym pushed) told))
+
+  requests_new : new.requests ≡ old.requests + came (kind_of d.what)
+  requests_new = counted_requests (kind_of d.what) old new counted
+
+  came_here : r < new.requests
+  came_here = let came = came_by (kind_of d.what) r old.requests placed in let more = requests_new in omega arith
+
+  out_if : (o : Option (Due Stage)) → after.next ≡ o → IsOut new.requests (updated was.due r o) was.held (turn_if r o)
+  out_if None at = tt
+  out_if (Some e) at = record {
+    call = e;
+    is_due = ap (λ b. cond b (Some e) (was.due r)) (eq-eqb r r refl);
+    turn_is = refl;
+    not_held = not_held;
+    placed = (due_next old.storm old.plan (shared_of old) r d.at d.what e at).placed r new.requests came_here;
+  }
+
+  other_if : (o : Option (Due Stage)) (q : ℕ) → IsOther (turn_if r o) q → (b : Bool) → eqb r q ≡ b →
+      cond b o (was.due q) ≡ cond (ltb q new.requests) (was.held q) (first new.storm q)
+  other_if None q other true s =
+      let same : r ≡ q = eqb-true r q s in
+      let came : ltb q new.requests ≡ true = lt-ltb q new.requests (let here = came_here in omega arith) in
+      rw came (sym not_held ∙ ap was.held same)
+  other_if (Some e) q other true s = absurd (other (sym (eqb-true r q s)))
+  other_if o q other false s =
+      let apart : q ≢ r = λ same. false≢true (sym s ∙ eq-eqb r q (sym same)) in
+      let before = was.others q apart in
+      let as_before : ltb q new.requests ≡ ltb q old.requests =
+      ap (λ n. ltb q n) requests_new ∙ other_came (kind_of d.what) r q old.requests placed apart
+      (ltb q old.requests) refl in
+      before ∙ (λ i. cond (sym as_before i) (was.held q) (first (sym rests.storm i) q))
+
+  near_if : (q : ℕ) (e : Due Stage) (b : Bool) → eqb r q ≡ b → cond b after.next (was.due q) ≡ Some e → IsNear new q e
+  near_if q e true s at =
+      let same : r ≡ q = eqb-true r q s in
+      let next_is = due_next old.storm old.plan (shared_of old) r d.at d.what e at in
+      let later = answered.later e at in
+      let by = next_is.by in
+      let begun = near_here.begun in
+      let from = rests.from in
+      subst (λ x. IsNear new x e) same (record {
+        by = rw rests.storm by;
+        number = rw rests.storm (near_here.number);
+        begun = rw rests.storm (up (comes_at old.storm r) d.at e.at begun later);
+        placed = placed_by (kind_of e.what) r new.requests (next_is.placed r new.requests came_here);
+        told = omega arith;
+        drives = subst (λ plan. Drives plan (slot_of new r) e.at e.what) (sym rests.plan) (answered.drives e at);
+      })
+  near_if q e false s at =
+      let apart : q ≢ r = λ same. false≢true (sym s ∙ eq-eqb r q (sym same)) in
+      let near = was.near q e at in
+      let order = (least q e at).moment in
+      let from = rests.from in
       record {
-        requests = omega arith;
-        won = omega arith;
-        retries = omega arith;
-        succeeded = omega arith;
-        refused = omega arith;
-        shed = omega arith;
-        late = omega arith;
+        by = rw rests.storm near.by;
+        number = rw rests.storm near.number;
+        begun = rw rests.storm near.begun;
+        placed = rw requests_new (placed_later (kind_of d.what)
+            (kind_of e.what) r q old.requests placed apart near.placed);
+        told = omega arith;
+        drives = subst (λ plan. Drives plan (slot_of new q) e.at e.what) (sym rests.plan)
+            (subst (λ o. Drives old.plan o e.at e.what) (sym (rests.others q apart)) near.drives);
       }
 
-  pub given_below : given_of d < 9223372036854775808
-  given_below =
-      let few = k.few_calls in
-      let most = tickets_of_le p.draws s.granted in
-      let tickets = k.tickets in
-      let failures = k.failures in
-      let under_way = k.under_way in
-      let calls = k.calls in
+  calls_more : calls_of events ≡ calls_of was.events + cond (is_call d.what) 1 0
+  calls_more =
+      let all = sum_by-append (λ (e : Event Stage). cond (is_call e.due.what) 1 0) was.events (event ∷ []) in
+      let one = sum_by-cons (λ (e : Event Stage). cond (is_call e.due.what) 1 0) event [] in
       omega arith
 
-  -- nor any other number
-  pub others_below :
-      (s.lost < 9223372036854775808) × (s.denied < 9223372036854775808) × (s.open < 9223372036854775808) × (s.granted < 9223372036854775808)
-  others_below =
-      let few = k.few_calls in
-      let endings = k.endings in
-      let failures = k.failures in
-      let under_way = k.under_way in
-      let calls = k.calls in
-      (omega arith, omega arith, omega arith, omega arith)
+  calls_new : new.calls ≡ old.calls + cond (is_call d.what) 1 0
+  calls_new = counted_calls (kind_of d.what) old new counted ∙ ap {B = ℕ} (λ b. old.calls + cond b 1 0)
+      (call_kind d.what)
 
-  pub sound_first : (t : ℕ) → AreDraws p.draws → t ≤ p.until → s.all.requests < all_requests p → calls_in s.all < p.calls →
-      IsSound p (after_first s) (counted p.draws t d) a busy
-  sound_first t ok by one room =
-      let asked = counted_asked p.draws t d in
-      record {
-        endings = let h = k.endings in omega arith;
-        successes = k.successes;
-        failures = k.failures;
-        under_way = let h = k.under_way in omega arith;
-        planned = k.planned;
-        pending = let h = k.pending in omega arith;
-        tickets = counted_given p.draws t d ∙ k.tickets;
-        asked = let h = k.asked in omega arith;
-        lawful = lawful_counted p.draws p.until t d ok by k.lawful;
-        requests = omega arith;
-        calls = omega arith;
-        until = k.until;
-        taken = k.taken;
-        few_calls = k.few_calls;
-        few_requests = k.few_requests;
-        near = k.near;
-      }
+  length_more : length events ≡ length was.events + 1
+  length_more = length-append was.events (event ∷ [])
 
-  -- there is room for the call that begins
-  pub room_first : HasRoom (after_first s) a
-  room_first = record {
-    under_way = let h = k.under_way in omega arith;
-    pending = let h = k.pending in omega arith;
+  pub stands_after : Stands new next
+  stands_after = record {
+    events = events;
+    due = due;
+    held = was.held;
+    begun = begun_new;
+    told = told_new;
+    holds = subst (λ a. Holds a (keys_of was.held)) (sym rests.agenda) was.holds;
+    out = subst (λ o. IsOut new.requests due was.held o) (sym answered.next_is) (out_if after.next refl);
+    others = λ q other. other_if after.next q (subst (λ o. IsOther o q) answered.next_is other) (eqb r q) refl;
+    unheld = λ q h. was.unheld q (let more = requests_new in omega arith);
+    near = λ q e at. near_if q e (eqb r q) refl at;
+    in_range = rw rests.storm was.in_range;
+    comes = rw rests.storm (counted_comes (kind_of d.what) old new counted was.comes);
+    requests = rw (rests.storm, requests_new) (few_came (kind_of d.what) r old.requests
+        (all_requests old.storm) placed near_here.number was.requests);
+    slots = rests.slots;
+    calls = calls_new ∙ (ap {B = ℕ} (λ n. n + cond (is_call d.what) 1 0) was.calls ∙ sym calls_more);
+    few_calls = rw (rests.storm, counted_calls (kind_of d.what) old new counted)
+        (few_calls_if (is_call_kind (kind_of d.what)) old.calls old.storm.calls was.few_calls room);
+    busy = rests.busy;
+    asked =
+        let shared = ap (λ (s : Shared). asked_of s.drawn) answered.shared_is in
+        let asked = played_asked old.storm old.plan (shared_of old) r d.at d.what in
+        let before = was.asked in
+        let more = requests_new in
+        omega arith;
+    given =
+        let shared = ap (λ (s : Shared). given_of s.drawn) answered.shared_is in
+        let given = played_given old.storm old.plan (shared_of old) r d.at d.what in
+        let before = was.given in
+        let more = length_more in
+        omega arith;
+    said = let said = rests.said in let before = was.said in let more = length_more in omega arith;
+    window = rests.window ∙ (was.window ∙ ap (λ (p : Parameters). p.window) (sym rests.storm));
   }
 
-  pub room_retry : a.flights + a.waits < s.open → HasRoom (after_retry s) a
-  room_retry room = record { under_way = let h = k.under_way in omega arith; pending = room }
+  later_if : (q : ℕ) (e : Due Stage) (b : Bool) → eqb r q ≡ b → cond b after.next (was.due q) ≡ Some e →
+      NotAfter d.at r e.at q
+  later_if q e true s at =
+      let same : r ≡ q = eqb-true r q s in
+      record { moment = answered.later e at; number = λ _. omega arith }
+  later_if q e false s at = least q e at
 
-  pub sound_retry : s.all.retries + a.waits < s.granted → calls_in s.all < p.calls → IsSound p (after_retry s) d a busy
-  sound_retry planned room = record {
-    endings = k.endings;
-    successes = k.successes;
-    failures = k.failures;
-    under_way = let h = k.under_way in omega arith;
-    planned = omega arith;
-    pending = k.pending;
-    tickets = k.tickets;
-    asked = k.asked;
-    lawful = k.lawful;
-    requests = k.requests;
-    calls = omega arith;
-    until = k.until;
-    taken = k.taken;
-    few_calls = k.few_calls;
-    few_requests = k.few_requests;
-    near = k.near;
+  turn_of_it : (o : Option (Due Stage)) → IsTurnOf r new.requests (turn_if r o)
+  turn_of_it None = tt
+  turn_of_it (Some e) = (refl, came_here)
+
+  pub stands_later : StandsAfter d.at r new next
+  unfolding stands_after
+  stands_later = record {
+    stands = stands_after;
+    later = λ q e at. later_if q e (eqb r q) refl at;
+    turn_is = subst (λ o. IsTurnOf r new.requests o) (sym answered.next_is) (turn_of_it after.next);
   }
-
-  pub sound_busy : (n : ℕ) → n ≤ 900000000000000 → IsSound p s d a n
-  sound_busy n few = record {
-    endings = k.endings;
-    successes = k.successes;
-    failures = k.failures;
-    under_way = k.under_way;
-    planned = k.planned;
-    pending = k.pending;
-    tickets = k.tickets;
-    asked = k.asked;
-    lawful = k.lawful;
-    requests = k.requests;
-    calls = k.calls;
-    until = k.until;
-    taken = few;
-    few_calls = k.few_calls;
-    few_requests = k.few_requests;
-    near = k.near;
-  }
-
-  -- another agenda, of no more than there is room for
-  pub sound_agenda : (b : Agenda) → b.until ≡ a.until → ended_in s.all + b.flights ≤ calls_in s.all →
-      s.all.retries + b.waits ≤ s.granted → b.flights + b.waits ≤ s.open → IsSound p s d b busy
-  sound_agenda b until under_way planned pending = record {
-    endings = k.endings;
-    successes = k.successes;
-    failures = k.failures;
-    under_way = under_way;
-    planned = planned;
-    pending = pending;
-    tickets = k.tickets;
-    asked = k.asked;
-    lawful = k.lawful;
-    requests = k.requests;
-    calls = k.calls;
-    until = until ∙ k.until;
-    taken = k.taken;
-    few_calls = k.few_calls;
-    few_requests = k.few_requests;
-    near = k.near;
-  }
-
-  pub sound_win : HasRoom s a → IsSound p (after_win s) d a busy
-  sound_win room = record {
-    endings = let h = k.endings in omega arith;
-    successes = let h = k.successes in omega arith;
-    failures = k.failures;
-    under_way = let h = room.under_way in omega arith;
-    planned = k.planned;
-    pending = let h = room.pending in omega arith;
-    tickets = k.tickets;
-    asked = k.asked;
-    lawful = k.lawful;
-    requests = k.requests;
-    calls = k.calls;
-    until = k.until;
-    taken = k.taken;
-    few_calls = k.few_calls;
-    few_requests = k.few_requests;
-    near = k.near;
-  }
-
-  module _ (f : Failure) (room : HasRoom s a) where
-    pub sound_loss : IsSound p (after_loss (after_failure f s)) d a busy
-    sound_loss =
-        let more = one_more f s.all in
-        let same = same_calls f s.all in
-        let requests = same_requests f s.all in
-        let retries = same_retries f s.all in
-        let won = same_won f s.all in
-        let succeeded = same_succeeded f s.all in
-        let r = room.under_way in
-        let q = room.pending in
-        record {
-          endings = let h = k.endings in omega arith;
-          successes = let h = k.successes in omega arith;
-          failures = let h = k.failures in omega arith;
-          under_way = omega arith;
-          planned = let h = k.planned in omega arith;
-          pending = omega arith;
-          tickets = k.tickets;
-          asked = let h = k.asked in omega arith;
-          lawful = k.lawful;
-          requests = let h = k.requests in omega arith;
-          calls = let h = k.calls in omega arith;
-          until = k.until;
-          taken = k.taken;
-          few_calls = k.few_calls;
-          few_requests = k.few_requests;
-          near = k.near;
-        }
-
-    -- the retry that is granted is one more than begin or are planned
-    pub planned_grant : s.all.retries + a.waits ≤ s.granted →
-        (after_grant (after_failure f s)).all.retries + a.waits < (after_grant (after_failure f s)).granted
-    planned_grant planned = let retries = same_retries f s.all in omega arith
-
-    module _ (t : ℕ) (ok : AreDraws p.draws) (by : t ≤ p.until) where
-      pub sound_denial : (draw_at p.draws t d).0 ≡ false → IsSound p (after_denial (after_failure f s)) (draw_at p.draws t d).1 a busy
-      sound_denial refused =
-          let more = one_more f s.all in
-          let same = same_calls f s.all in
-          let requests = same_requests f s.all in
-          let retries = same_retries f s.all in
-          let won = same_won f s.all in
-          let succeeded = same_succeeded f s.all in
-          let r = room.under_way in
-          let q = room.pending in
-          record {
-            endings = let h = k.endings in omega arith;
-            successes = let h = k.successes in omega arith;
-            failures = let h = k.failures in omega arith;
-            under_way = omega arith;
-            planned = let h = k.planned in omega arith;
-            pending = omega arith;
-            tickets = refused_given p.draws t d refused ∙ k.tickets;
-            asked = drawn_asked p.draws t d ∙ (k.asked ∙ sym requests);
-            lawful = lawful_drawn p.draws p.until t d ok by k.lawful;
-            requests = let h = k.requests in omega arith;
-            calls = let h = k.calls in omega arith;
-            until = k.until;
-            taken = k.taken;
-            few_calls = k.few_calls;
-            few_requests = k.few_requests;
-            near = k.near;
-          }
-
-      pub sound_grant : (draw_at p.draws t d).0 ≡ true → IsSound p (after_grant (after_failure f s)) (draw_at p.draws t d).1 a busy
-      sound_grant granted =
-          let more = one_more f s.all in
-          let same = same_calls f s.all in
-          let requests = same_requests f s.all in
-          let retries = same_retries f s.all in
-          let won = same_won f s.all in
-          let succeeded = same_succeeded f s.all in
-          let r = room.under_way in
-          let q = room.pending in
-          record {
-            endings = let h = k.endings in omega arith;
-            successes = let h = k.successes in omega arith;
-            failures = let h = k.failures in omega arith;
-            under_way = omega arith;
-            planned = let h = k.planned in omega arith;
-            pending = omega arith;
-            tickets = granted_given p.draws t d s.granted granted k.tickets;
-            asked = drawn_asked p.draws t d ∙ (k.asked ∙ sym requests);
-            lawful = lawful_drawn p.draws p.until t d ok by k.lawful;
-            requests = let h = k.requests in omega arith;
-            calls = let h = k.calls in omega arith;
-            until = k.until;
-            taken = k.taken;
-            few_calls = k.few_calls;
-            few_requests = k.few_requests;
-            near = k.near;
-          }

@@ -3,7 +3,8 @@ use Rattle.std.proofs.Common.{◌≡◌, ℕ, ◌+◌, ◌/◌, ◌<◌, ◌≤�
 use Rattle.std.proofs.lemmas.List.Sums.{sum_by-cons}
 use Rattle.std.specs.Prelude.{nat_lt}
 use Rattle.sched_ticket_quota.specs.declared.view.Terms.{Terms}
-use Rattle.sched_storm.specs.Tickets.{asked_of, given_of, turned, at_moment, with_request, counted, may_draw, with_ticket, draw_at}
+use Rattle.sched_storm.specs.Tickets.{asked_of, given_of, turned, at_moment, with_request, counted, may_draw}
+use Rattle.sched_storm.specs.Tickets.{with_ticket, draw_at}
 use Rattle.sched_storm.specs.Tickets.{Use, AreWithin, AreUses, HasUses, IsLawful}
 use Rattle.sched_storm.specs.declared.parameters.Draws.{Draws}
 use Rattle.sched_storm.specs.declared.parameters.Draws.TheVariants.{Nothing, Budget, Quota}
@@ -34,16 +35,20 @@ with_latest k d w until later law past =
 
 past_turned : (k : Terms) (until w : ℕ) (d : Drawn) → IsLawful (Quota k) until d → Past (Quota k) d →
     (b : Bool) → nat_lt d.window w ≡ b →
-    Past (Quota k) (cond b (record { window = w; asked_before = asked_of d; given_before = given_of d; asked = 0; given = 0 }) d)
+    Past (Quota k) (cond b
+    (record { window = w; asked_before = asked_of d; given_before = given_of d; asked = 0; given = 0 }) d)
 past_turned k until w d law past true e = with_latest k d w until (ltb-true _ _ e) law past
 past_turned k until w d law past false e = past
 
-past_at : (draws : Draws) (until t : ℕ) (d : Drawn) → IsLawful draws until d → Past draws d → Past draws (at_moment draws t d)
+past_at : (draws : Draws) (until t : ℕ) (d : Drawn) → IsLawful draws until d → Past draws d →
+    Past draws (at_moment draws t d)
 past_at Nothing until t d law past = tt
 past_at (Budget limit) until t d law past = tt
-past_at (Quota k) until t d law past = past_turned k until (t / k.period) d law past (nat_lt d.window (t / k.period)) refl
+past_at (Quota k) until t d law past = past_turned k until (t / k.period) d law past
+    (nat_lt d.window (t / k.period)) refl
 
-pub past_counted : (draws : Draws) (until t : ℕ) (d : Drawn) → IsLawful draws until d → Past draws d → Past draws (counted draws t d)
+pub past_counted : (draws : Draws) (until t : ℕ) (d : Drawn) → IsLawful draws until d → Past draws d →
+    Past draws (counted draws t d)
 past_counted draws until t d law past = past_at draws until t d law past
 
 past_ticket : (draws : Draws) (d : Drawn) → Past draws d → Past draws (with_ticket draws d)
@@ -55,7 +60,8 @@ past_drawn_if : (draws : Draws) (d : Drawn) (b : Bool) → Past draws d → Past
 past_drawn_if draws d true past = past_ticket draws d past
 past_drawn_if draws d false past = past
 
-pub past_drawn : (draws : Draws) (until t : ℕ) (d : Drawn) → IsLawful draws until d → Past draws d → Past draws (draw_at draws t d).1
+pub past_drawn : (draws : Draws) (until t : ℕ) (d : Drawn) → IsLawful draws until d → Past draws d →
+    Past draws (draw_at draws t d).1
 past_drawn draws until t d law past =
     let e = at_moment draws t d in past_drawn_if draws e (may_draw draws e) (past_at draws until t d law past)
 

@@ -1,27 +1,18 @@
 -- The peer: one queue, first come first served. Work is counted in units, of which a call is 100,000.
-use Rattle.std.specs.Prelude.{◌≡◌, ℕ, ◌+◌, ◌-◌, ◌*◌, ◌<◌, ◌≤◌, min, max, Bool, ◌==◌, nat_lt, nat_le, if◌then◌else◌, MatchBool, Option, Some, None}
-use Rattle.sched_storm.specs.Parameters.{is_in}
-use Rattle.sched_storm.specs.declared.parameters.Span.{Span}
-use Rattle.sched_storm.specs.declared.parameters.BrownOut.{BrownOut}
+use Rattle.std.specs.Prelude.{◌≡◌, ℕ, suc, zero, ◌+◌, ◌-◌, ◌*◌, ◌<◌, ◌≤◌, max, Bool, ◌==◌, nat_lt, nat_le}
+use Rattle.std.specs.Prelude.{if◌then◌else◌, MatchBool}
+use Rattle.sched_storm_report.specs.Peer.{is_in}
+use Rattle.sched_storm_report.specs.Peer as peer
+use Rattle.sched_storm_report.specs.declared.moments.Failure.{Failure}
+use Rattle.sched_storm_report.specs.declared.moments.Failure.TheVariants.{Refused, Shed, Late}
+use Rattle.sched_storm.specs.Parameters.{peer_of}
 use Rattle.sched_storm.specs.declared.parameters.Parameters.{Parameters}
 use Rattle.sched_storm.specs.declared.calls.CallEnd.TheVariants.{Succeeded, Failed}
-use Rattle.sched_storm.specs.declared.calls.Failure.{Failure}
-use Rattle.sched_storm.specs.declared.calls.Failure.TheVariants.{Refused, Shed, Late}
 use Rattle.sched_storm.specs.declared.calls.Called.{Called}
-
--- how many milliseconds of the span lie before a moment
-abbrev pub millis_in : Span → ℕ → ℕ
-millis_in s t = min t s.to - s.from
-
--- the units that a peer of one call a second can have done by a moment: 100 in each millisecond before it, and as many
--- as the brown-out's percentage in each that lies in it
-abbrev pub work_by : Option BrownOut → ℕ → ℕ
-work_by None t = 100 * t
-work_by (Some b) t = 100 * (t - millis_in b.span t) + b.percent * millis_in b.span t
 
 -- the units that the peer can have done by a moment
 abbrev pub can_be_done : Parameters → ℕ → ℕ
-can_be_done p t = p.capacity * work_by p.slow t
+can_be_done p t = peer.can_be_done (peer_of p) t
 
 -- the units of work that stand ahead of a call, where all work taken so far is done at the unit `busy`
 abbrev pub ahead : Parameters → ℕ → ℕ → ℕ
@@ -56,3 +47,19 @@ abbrev pub IsCalled : Parameters → ℕ → ℕ → Called → Type 0
 IsCalled p busy t c = MatchBool (is_in p.outage t)
     (Fails Refused busy t c)
     (MatchBool (is_full p (ahead p busy t)) (Fails Shed busy t c) (IsTaken p busy t c))
+
+-- the first moment from `t` on at which so many units can have been done, or the one that is `n` later
+unfoldable pub done_from : Parameters → ℕ → ℕ → ℕ → ℕ
+done_from p units zero t = t
+done_from p units (suc n) t = if nat_le units (can_be_done p t) then t else done_from p units n (t + 1)
+
+-- the same as a function: what becomes of a call that is taken, and of any
+abbrev pub taken : Parameters → ℕ → ℕ → Called
+taken p units t = if nat_lt (can_be_done p (t + p.patience)) units
+    then record { busy = units; ends = t + p.patience; how = Failed Late }
+    else record { busy = units; ends = done_from p units p.patience t; how = Succeeded }
+
+unfoldable pub called : Parameters → ℕ → ℕ → Called
+called p busy t = if is_in p.outage t then record { busy = busy; ends = t; how = Failed Refused }
+    else (if is_full p (ahead p busy t) then record { busy = busy; ends = t; how = Failed Shed }
+    else taken p (busy_with p busy t) t)

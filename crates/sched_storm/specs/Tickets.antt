@@ -6,6 +6,10 @@ use Rattle.sched_storm.specs.declared.parameters.Draws.{Draws}
 use Rattle.sched_storm.specs.declared.parameters.Draws.TheVariants.{Nothing, Budget, Quota}
 use Rattle.sched_storm.specs.declared.tickets.Drawn.{Drawn}
 
+-- no request, and no ticket
+abbrev pub none_drawn : Drawn
+none_drawn = record { window = 0; asked_before = 0; given_before = 0; asked = 0; given = 0 }
+
 -- all requests that were counted, and all tickets that were given
 abbrev pub asked_of : Drawn → ℕ
 asked_of d = d.asked_before + d.asked
@@ -83,8 +87,8 @@ HasUses Nothing w asked given = Unit {0}
 HasUses (Budget limit) w asked given = Unit {0}
 HasUses (Quota terms) w asked given = (uses : List Use) × AreWithin terms w uses × AreUses uses asked given
 
--- The most tickets, in thousandths, of the windows before this one, in which so many requests were counted. In all of them
--- together a quota gives at most its reserve for each window and its share for each request.
+-- The most tickets, in thousandths, of the windows before this one, in which so many requests were counted. In all of
+-- them together a quota gives at most its reserve for each window and its share for each request.
 abbrev pub most_before : Draws → ℕ → ℕ → ℕ
 most_before Nothing w asked = 0
 most_before (Budget limit) w asked = 0
@@ -103,8 +107,8 @@ pub record IsLawful (draws : Draws) (until : ℕ) (d : Drawn) : Type 0 where
   pub before : 1000 * d.given_before ≤ most_before draws d.window d.asked_before
   pub latest : d.window ≤ last_window draws until
 
--- The most tickets, in thousandths, of a storm of so many requests that ends at a moment: the budget's limit; the quota's
--- reserve for each of its windows, and its share of the requests.
+-- The most tickets, in thousandths, of a storm of so many requests that ends at a moment: the budget's limit; the
+-- quota's reserve for each of its windows, and its share of the requests.
 abbrev pub most_tickets : Draws → ℕ → ℕ → ℕ
 most_tickets Nothing until requests = 0
 most_tickets (Budget limit) until requests = 1000 * limit

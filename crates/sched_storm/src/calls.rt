@@ -1,25 +1,9 @@
 //! The peer that is called: when it does what, and what becomes of a call.
 ghost use Rattle.std.specs.Prelude.{◌≡◌, ◌+◌, ◌*◌, ◌<◌, ◌≤◌, false};
-ghost use Rattle.sched_storm.specs.Parameters.{IsSlow};
-ghost use Rattle.sched_storm.specs.Calls.{work_by, can_be_done, ahead, is_full, IsDoneAt, IsTaken, IsCalled};
-ghost use Rattle.sched_storm.specs.Tally.{input_of};
+ghost use Rattle.sched_storm.specs.Calls.{can_be_done, ahead, is_full, IsDoneAt, IsTaken, IsCalled, called};
 
-use crate::parameters::BrownOut;
 use crate::storm::Storm;
-
-/// The units of work of a call.
-pub(crate) const CALL: u64 = 100000;
-
-/// Why a call failed.
-#[derive(Clone, Copy, Debug, PartialEq, Eq)]
-pub enum Failure {
-    /// The peer was away.
-    Refused,
-    /// The queue was full.
-    Shed,
-    /// Its client gave it up.
-    Late,
-}
+use sched_storm_report::{CALL, Failure};
 
 /// How a call ends.
 #[derive(Clone, Copy, Debug, PartialEq, Eq)]
@@ -45,8 +29,7 @@ impl Storm {
         ensures value { result ≡ can_be_done self.now at }
         ensures most { result ≤ 100000000 * at }
     {
-        let parameters = self.parameters();
-        parameters.capacity * work_by(parameters.slow, at)
+        self.peer().can_be_done(at)
     }
 
     /// What becomes of a call that comes at this moment, where all work taken so far is done at the unit `busy`.
@@ -54,6 +37,7 @@ impl Storm {
         requires at { at ≤ self.now.until }
         requires busy { busy ≤ 900000000000000 }
         ensures called { IsCalled self.now busy at result }
+        ensures value { result ≡ called self.now busy at }
         ensures busy { result.busy ≤ 900000000000000 }
         ensures order { at ≤ result.ends }
     {
@@ -134,34 +118,5 @@ impl Storm {
             }
         }
         late
-    }
-}
-
-// The units that a peer of one call a second can have done by this moment.
-fn work_by(slow: Option<BrownOut>, at: u64) -> u64
-    requires slow { IsSlow slow }
-    requires at { at ≤ 10800000 }
-    ensures value { result ≡ work_by slow at }
-    ensures most { result ≤ 100 * at }
-{
-    match slow {
-        Some(BrownOut { span, percent }) => {
-            let slowly = at.min(span.to).saturating_sub(span.from);
-            100 * (at - slowly) + percent * slowly
-        }
-        None => 100 * at,
-    }
-}
-
-impl Failure {
-    /// The input that a policy is given of a call that failed so.
-    pub fn input(self) -> u32
-        ensures { result ≡ input_of self }
-    {
-        match self {
-            Failure::Refused => 1,
-            Failure::Shed => 2,
-            Failure::Late => 3,
-        }
     }
 }

@@ -1,21 +1,27 @@
 //! The course of a storm: its events, one after another.
-ghost use Rattle.std.specs.Prelude.{◌≡◌, ◌+◌, ◌<◌, ◌≤◌, IsTrue, IfOk, IfSome, OnOk};
-ghost use Rattle.sched_storm.specs.Parameters.{all_requests, comes_at};
-ghost use Rattle.sched_storm.specs.Tally.{calls_in};
-ghost use Rattle.sched_storm.specs.Pending.{IsKey, IsBy, IsAnyBy};
-ghost use Rattle.sched_storm.specs.Tickets.{HasUses};
-ghost use Rattle.sched_storm.specs.Course.{IsSound, HasRoom};
+ghost use Rattle.std.specs.Prelude.{◌≡◌, ◌≢◌, ℕ, ◌+◌, ◌*◌, ◌<◌, ◌≤◌, true, false, List, Option, Some, None, vec_len};
+ghost use Rattle.std.specs.Prelude.{IsTrue, IfOk, IfSome, OnOk};
+ghost use Rattle.sched_plan.specs.declared.history.Event.{Event};
+ghost use Rattle.sched_storm.specs.Drivers.{MayFail};
+ghost use Rattle.sched_storm.specs.Plays.{Stage, begins, retries, succeeds, fails, playing};
+ghost use Rattle.sched_storm.specs.Turns.{kind_of, is_call_kind};
+ghost use Rattle.sched_storm.specs.Parameters.{comes_at};
+ghost use Rattle.sched_storm.specs.Plays.{first};
+ghost use Rattle.sched_storm.specs.Turns.{turn_if};
+ghost use Rattle.sched_storm.specs.Storms.{Reports};
+ghost use Rattle.sched_storm.specs.Report.{AddsUp};
+ghost use Rattle.sched_storm.specs.Course.{shared_of, slot_of, Drives, IsReady, HasAnswered, Rests, IsPlaced, IsDriven};
+ghost use Rattle.sched_storm.specs.Course.{IsCounted, Stands, StandsFirst, StandsAfter, IsOver};
 
-use crate::calls::{CallEnd, Called, Failure};
-use crate::drivers::{driver_of, next_start};
-use crate::pending::{Due, Flight, Key, Pending};
+use crate::agenda::Agenda;
+use crate::drivers::Drivers;
 use crate::storm::Storm;
-use crate::tally::Tally;
 use crate::tickets::Drawn;
+use crate::turns::{Kind, Turn};
 use rand_core::SeedableRng;
 use rand_xoshiro::Xoshiro128PlusPlus;
-use sched_driver_stepper::Stepper;
 use sched_plan::SharedPlan;
+use sched_storm_report::{Ends, Failure, Happening, Moment, Report, Tally};
 use sched_task::four_words;
 use sched_time::NoMemory;
 use std::alloc::Global;
@@ -24,220 +30,293 @@ use std::alloc::Global;
 #[derive(Drop)]
 pub(crate) struct Course {
     pub(crate) storm: Storm,
-    plan: SharedPlan,
+    pub(crate) plan: SharedPlan,
     words: Xoshiro128PlusPlus,
-    /// When the next request comes, if there is one.
+    /// How many requests came.
+    requests: u64,
+    /// When the next one comes, if there is one.
     comes: u64,
-    /// The unit at which all work is done that the peer has taken.
-    pub(crate) busy: u64,
-    pub(crate) drawn: Drawn,
-    pub(crate) pending: Pending,
-    pub(crate) tally: Tally,
-    ghost sound: { IsSound storm tally.score drawn pending busy },
-    ghost uses: { ∥ HasUses storm.draws drawn.window drawn.asked_before drawn.given_before ∥₁ },
-    ghost window: { tally.window ≡ storm.window },
-    ghost begun: { tally.from ≤ storm.until },
-    ghost next: { comes ≡ comes_at storm tally.score.all.requests },
+    /// How many calls began.
+    calls: u64,
+    /// The unit at which the peer is done with all work that it has taken.
+    busy: u64,
+    drawn: Drawn,
+    drivers: Drivers,
+    /// What is due of the requests that came.
+    agenda: Agenda,
+    tally: Tally,
 }
 
 impl Course {
     /// Before the first event.
     pub(crate) fn new(alloc: Global, storm: Storm, plan: SharedPlan) -> Course
-        ensures { result.storm ≡ storm }
+        ensures stands { Stands result None }
+        ensures storm { result.storm ≡ storm }
+        ensures plan { result.plan ≡ plan }
     {
         let parameters = storm.parameters();
         Course {
             storm,
             plan,
             words: Xoshiro128PlusPlus::seed_from_u64(parameters.words),
+            requests: 0,
             comes: storm.comes_at(0),
+            calls: 0,
             busy: 0,
             drawn: Drawn::NONE,
-            pending: Pending::new(alloc, parameters.until),
+            drivers: Drivers::new(alloc),
+            agenda: Agenda::new(alloc),
             tally: Tally::new(alloc, parameters.window),
         }
     }
 
     /// Plays all events, and tells whether the storm was cut: whether one call more was to begin than it may make.
     pub(crate) fn run(&mut self, alloc: Global) -> Result<bool, NoMemory>
+        requires { Stands self.old None }
+        ensures over { IfOk result (IsOver self.new) }
         ensures storm { self.new.storm ≡ self.old.storm }
-        ensures cut { IfOk result (λ is_cut. IsTrue is_cut →
-            calls_in self.new.tally.score.all ≡ self.new.storm.calls) }
+        ensures plan { self.new.plan ≡ self.old.plan }
     {
-        loop {
-            let first = self.next_request();
-            let Some((key, due)) = self.pending.pop(first) else {
-                return Ok(false);
-            };
-            let is_full = self.calls() == self.storm.parameters().calls;
-            match due {
-                Due::End(flight) => self.end(alloc, key, flight)?,
-                Due::First if is_full => return Ok(true),
-                Due::First => self.begin_first(alloc, key)?,
-                Due::Retry(_) if is_full => return Ok(true),
-                Due::Retry(driver) => self.begin_retry(alloc, key, driver)?,
+        let mut next = self.take_next();
+        while let Some(turn) = next {
+            if self.is_full(turn) {
+                return Ok(true);
             }
+            let after = self.step(alloc, turn)?;
+            next = self.next_after(turn, after)?;
+        }
+        Ok(false)
+    }
+
+    // Whether one call more would begin than may.
+    fn is_full(&self, turn: Turn) -> bool
+        ensures yes { result ≡ true → IsTrue (is_call_kind turn.kind) × (self.now.calls ≡ self.now.storm.calls) }
+        ensures no { result ≡ false → IsTrue (is_call_kind turn.kind) → self.now.calls ≢ self.now.storm.calls }
+    {
+        turn.kind.is_call() && self.calls == self.storm.parameters().calls
+    }
+
+    /// The report of the events so far.
+    pub(crate) fn into_report(self, is_cut: bool) -> Result<Report, NoMemory>
+        requires { IsOver self is_cut }
+        ensures reports { IfOk result (Reports self.storm self.plan) }
+        ensures adds_up { IfOk result (AddsUp self.storm) }
+    {
+        let Course { storm, tally, .. } = self;
+        let ends = Ends {
+            trouble: storm.end_of_trouble(),
+            draws: storm.has_draws(),
+            is_cut,
+        };
+        let report = tally.into_report(&storm.peer(), ends)?;
+        Ok(report)
+    }
+
+    // What is next after an event: what is due of the same request, where that is at the same moment, and else what is
+    // least due of all.
+    fn next_after(&mut self, turn: Turn, after: Option<Turn>) -> Result<Option<Turn>, NoMemory>
+        requires { StandsAfter turn.at turn.request self.old after }
+        ensures first { IfOk result (StandsFirst self.new) }
+        ensures storm { self.new.storm ≡ self.old.storm }
+        ensures plan { self.new.plan ≡ self.old.plan }
+        ensures said { self.new.tally.said ≡ self.old.tally.said }
+    {
+        let Some(next) = after else {
+            return Ok(self.take_next());
+        };
+        if next.at == turn.at {
+            return Ok(after);
+        }
+        self.agenda.add(next)?;
+        Ok(self.take_next())
+    }
+
+    // Takes what is least due out of the agenda, or the next request where it comes before that.
+    fn take_next(&mut self) -> Option<Turn>
+        requires { Stands self.old None }
+        ensures first { StandsFirst self.new result }
+        ensures storm { self.new.storm ≡ self.old.storm }
+        ensures plan { self.new.plan ≡ self.old.plan }
+        ensures said { self.new.tally.said ≡ self.old.tally.said }
+    {
+        let first = self.next_request();
+        match self.agenda.pop_before(first) {
+            Some(turn) => Some(turn),
+            None => first,
         }
     }
 
-    /// The calls that were begun.
-    pub(crate) fn calls(&self) -> u64
-        ensures { result ≡ calls_in self.now.tally.score.all }
+    // The next request, where one comes until the end.
+    fn next_request(&self) -> Option<Turn>
+        requires { self.now.comes ≡ comes_at self.now.storm self.now.requests }
+        ensures { result ≡ turn_if self.now.requests (first self.now.storm self.now.requests) }
     {
-        self.tally.score.all.requests + self.tally.score.all.retries
-    }
-
-    // When the next request comes, where one does until the end.
-    fn next_request(&self) -> Option<Key>
-        ensures key { IfSome result (IsKey self.now.storm.until) }
-        ensures one { IfSome result (λ key. self.now.tally.score.all.requests < all_requests self.now.storm) }
-    {
-        let request = self.tally.score.all.requests;
-        if request < self.storm.all_requests() && self.comes <= self.storm.parameters().until {
-            Some((self.comes, request))
+        if self.requests < self.storm.all_requests()
+            && self.comes <= self.storm.parameters().until
+        {
+            Some(Turn {
+                at: self.comes,
+                request: self.requests,
+                kind: Kind::Begins,
+            })
         } else {
             None
         }
     }
 
-    // The next request begins its first call.
-    fn begin_first(&mut self, alloc: Global, key: Key) -> Result<(), NoMemory>
-        requires key { IsKey self.old.storm.until key }
-        requires one { self.old.tally.score.all.requests < all_requests self.old.storm }
-        requires room { calls_in self.old.tally.score.all < self.old.storm.calls }
+    // Plays what is due, and answers what is due of its request from then on.
+    fn step(&mut self, alloc: Global, turn: Turn) -> Result<Option<Turn>, NoMemory>
+        requires first { StandsFirst self.old (Some turn) }
+        requires room { IsTrue (is_call_kind turn.kind) → self.old.calls < self.old.storm.calls }
+        ensures after { IfOk result (StandsAfter turn.at turn.request self.new) }
         ensures storm { self.new.storm ≡ self.old.storm }
-        ensures calls { OnOk result (calls_in self.new.tally.score.all ≡ calls_in self.old.tally.score.all + 1) }
-        ensures flights { OnOk result (self.new.pending.flights ≤ self.old.pending.flights + 1) }
+        ensures plan { self.new.plan ≡ self.old.plan }
+        ensures said { OnOk result (self.new.tally.said ≡ self.old.tally.said + 1) }
     {
-        self.tally.turn(&self.storm, self.busy, key.0)?;
-        self.drawn = self.storm.count(self.drawn, key.0);
-        self.tally.begin_first();
-        self.comes = self.storm.comes_at(self.tally.score.all.requests);
-        self.call(alloc, key, None)
+        let next = self.play(alloc, turn)?;
+        Ok(next)
+    }
+
+    // Plays what is due, and answers what is due of its request from then on.
+    fn play(&mut self, alloc: Global, turn: Turn) -> Result<Option<Turn>, NoMemory>
+        requires ready { IsReady self.old turn.at turn.request }
+        requires placed { IsPlaced self.old turn }
+        requires room { IsTrue (is_call_kind turn.kind) → self.old.calls < 4294967296 }
+        requires may { IsDriven self.old turn }
+        ensures answered { (what : Stage) → kind_of what ≡ turn.kind →
+            Drives self.old.plan (slot_of self.old turn.request) turn.at what →
+            IfOk result (HasAnswered
+            (playing self.old.storm self.old.plan (shared_of self.old) turn.request turn.at what)
+            turn.at turn.request self.old self.new) }
+        ensures rests { OnOk result (Rests turn.at turn.request self.old self.new) }
+        ensures counts { OnOk result (IsCounted turn.kind self.old self.new) }
+        ensures storm { self.new.storm ≡ self.old.storm }
+        ensures plan { self.new.plan ≡ self.old.plan }
+    {
+        match turn.kind {
+            Kind::Begins => self.begin(turn),
+            Kind::Retries => self.retry(turn),
+            Kind::Succeeds => self.win(turn),
+            Kind::Fails(failure) => self.fail(alloc, turn, failure),
+        }
+    }
+
+    // The next request comes, and begins its first call.
+    fn begin(&mut self, turn: Turn) -> Result<Option<Turn>, NoMemory>
+        requires ready { IsReady self.old turn.at turn.request }
+        requires placed { turn.request ≡ self.old.requests }
+        requires room { self.old.calls < 4294967296 }
+        ensures answered { IfOk result (HasAnswered
+            (playing self.old.storm self.old.plan (shared_of self.old) turn.request turn.at begins)
+            turn.at turn.request self.old self.new) }
+        ensures rests { OnOk result (Rests turn.at turn.request self.old self.new) }
+        ensures counts { OnOk result (IsCounted Kind.Begins self.old self.new) }
+        ensures storm { self.new.storm ≡ self.old.storm }
+        ensures plan { self.new.plan ≡ self.old.plan }
+    {
+        self.drivers.add()?;
+        self.drawn = self.storm.count(self.drawn, turn.at);
+        self.requests += 1;
+        self.comes = self.storm.comes_at(self.requests);
+        self.calls += 1;
+        let called = self.storm.call(self.busy, turn.at);
+        self.busy = called.busy;
+        self.tally.tell(
+            &self.storm.peer(),
+            moment_of(turn.at, Happening::Request, self.busy),
+        )?;
+        Ok(
+            self.storm
+                .turn_by(called.ends, turn.request, Kind::after(called.how)),
+        )
     }
 
     // A retry begins.
-    fn begin_retry(&mut self, alloc: Global, key: Key, driver: Box<Stepper>) -> Result<(), NoMemory>
-        requires key { IsKey self.old.storm.until key }
-        requires driver { IsBy key.0 driver }
-        requires room { calls_in self.old.tally.score.all < self.old.storm.calls }
-        requires planned { self.old.tally.score.all.retries + self.old.pending.waits < self.old.tally.score.granted }
-        requires pending { self.old.pending.flights + self.old.pending.waits < self.old.tally.score.open }
+    fn retry(&mut self, turn: Turn) -> Result<Option<Turn>, NoMemory>
+        requires ready { IsReady self.old turn.at turn.request }
+        requires placed { turn.request < self.old.requests }
+        requires room { self.old.calls < 4294967296 }
+        ensures answered { (h : List Event) → Drives self.old.plan (slot_of self.old turn.request) turn.at (retries h) →
+            IfOk result (HasAnswered
+            (playing self.old.storm self.old.plan (shared_of self.old) turn.request turn.at (retries h))
+            turn.at turn.request self.old self.new) }
+        ensures rests { OnOk result (Rests turn.at turn.request self.old self.new) }
+        ensures counts { OnOk result (IsCounted Kind.Retries self.old self.new) }
         ensures storm { self.new.storm ≡ self.old.storm }
-        ensures calls { OnOk result (calls_in self.new.tally.score.all ≡ calls_in self.old.tally.score.all + 1) }
-        ensures flights { OnOk result (self.new.pending.flights ≤ self.old.pending.flights + 1) }
+        ensures plan { self.new.plan ≡ self.old.plan }
     {
-        self.tally.turn(&self.storm, self.busy, key.0)?;
-        self.tally.begin_retry();
-        self.call(alloc, key, Some(driver))
-    }
-
-    // A call comes to the peer. One that fails as it comes has ended then: its request is the first of this moment, and
-    // nothing of another one comes between.
-    fn call(
-        &mut self,
-        alloc: Global,
-        key: Key,
-        driver: Option<Box<Stepper>>,
-    ) -> Result<(), NoMemory>
-        requires key { IsKey self.old.storm.until key }
-        requires driver { IsAnyBy key.0 driver }
-        requires room { HasRoom self.old.tally.score self.old.pending }
-        ensures storm { self.new.storm ≡ self.old.storm }
-        ensures calls { calls_in self.new.tally.score.all ≡ calls_in self.old.tally.score.all }
-        ensures flights { OnOk result (self.new.pending.flights ≤ self.old.pending.flights + 1) }
-    {
-        let (at, request) = key;
-        let Called { busy, ends, how } = self.storm.call(self.busy, at);
-        self.busy = busy;
-        let flight = Flight { how, driver };
-        if ends == at {
-            return self.end(alloc, key, flight);
-        }
-        if ends <= self.storm.parameters().until {
-            self.pending.add_flight((ends, request), flight)?;
-        }
-        Ok(())
-    }
-
-    // A call ends.
-    fn end(&mut self, alloc: Global, key: Key, flight: Flight) -> Result<(), NoMemory>
-        requires key { IsKey self.old.storm.until key }
-        requires driver { IsAnyBy key.0 flight.driver }
-        requires room { HasRoom self.old.tally.score self.old.pending }
-        ensures storm { self.new.storm ≡ self.old.storm }
-        ensures calls { calls_in self.new.tally.score.all ≡ calls_in self.old.tally.score.all }
-        ensures flights { self.new.pending.flights ≡ self.old.pending.flights }
-    {
-        self.tally.turn(&self.storm, self.busy, key.0)?;
-        let Flight { how, driver } = flight;
-        match how {
-            CallEnd::Succeeded => self.win(key),
-            CallEnd::Failed(failure) => self.fail(alloc, key, failure, driver),
-        }
+        self.calls += 1;
+        let called = self.storm.call(self.busy, turn.at);
+        self.busy = called.busy;
+        self.tally.tell(
+            &self.storm.peer(),
+            moment_of(turn.at, Happening::Retry, self.busy),
+        )?;
+        Ok(
+            self.storm
+                .turn_by(called.ends, turn.request, Kind::after(called.how)),
+        )
     }
 
     // A call succeeds, and its request is won.
-    fn win(&mut self, key: Key) -> Result<(), NoMemory>
-        requires room { HasRoom self.old.tally.score self.old.pending }
-        requires key { IsKey self.old.storm.until key }
+    fn win(&mut self, turn: Turn) -> Result<Option<Turn>, NoMemory>
+        requires ready { IsReady self.old turn.at turn.request }
+        requires placed { turn.request < self.old.requests }
+        ensures answered { IfOk result (HasAnswered
+            (playing self.old.storm self.old.plan (shared_of self.old) turn.request turn.at succeeds)
+            turn.at turn.request self.old self.new) }
+        ensures rests { OnOk result (Rests turn.at turn.request self.old self.new) }
+        ensures counts { OnOk result (IsCounted Kind.Succeeds self.old self.new) }
         ensures storm { self.new.storm ≡ self.old.storm }
-        ensures calls { calls_in self.new.tally.score.all ≡ calls_in self.old.tally.score.all }
-        ensures flights { self.new.pending.flights ≡ self.old.pending.flights }
+        ensures plan { self.new.plan ≡ self.old.plan }
     {
-        let (at, request) = key;
-        let began = self.storm.comes_at(request);
-        let window = began / self.storm.parameters().window;
-        self.tally.win(window as usize, at.saturating_sub(began))
+        self.drivers.end(turn.request);
+        let began = self.storm.comes_at(turn.request);
+        self.tally.tell(
+            &self.storm.peer(),
+            moment_of(turn.at, Happening::Won { began }, self.busy),
+        )?;
+        Ok(None)
     }
 
-    // A call fails: its driver is asked, and a ticket drawn.
+    // A call fails: its driver is asked, and a ticket drawn where it goes on.
     fn fail(
         &mut self,
         alloc: Global,
-        key: Key,
+        turn: Turn,
         failure: Failure,
-        driver: Option<Box<Stepper>>,
-    ) -> Result<(), NoMemory>
-        requires key { IsKey self.old.storm.until key }
-        requires driver { IsAnyBy key.0 driver }
-        requires room { HasRoom self.old.tally.score self.old.pending }
+    ) -> Result<Option<Turn>, NoMemory>
+        requires ready { IsReady self.old turn.at turn.request }
+        requires placed { turn.request < self.old.requests }
+        requires may { MayFail self.old.plan (slot_of self.old turn.request) turn.at }
+        ensures answered { (h : List Event) →
+            Drives self.old.plan (slot_of self.old turn.request) turn.at (fails failure h) →
+            IfOk result (HasAnswered
+            (playing self.old.storm self.old.plan (shared_of self.old) turn.request turn.at (fails failure h))
+            turn.at turn.request self.old self.new) }
+        ensures rests { OnOk result (Rests turn.at turn.request self.old self.new) }
+        ensures counts { OnOk result (IsCounted (Kind.Fails failure) self.old self.new) }
         ensures storm { self.new.storm ≡ self.old.storm }
-        ensures calls { calls_in self.new.tally.score.all ≡ calls_in self.old.tally.score.all }
-        ensures flights { self.new.pending.flights ≡ self.old.pending.flights }
+        ensures plan { self.new.plan ≡ self.old.plan }
     {
-        let (at, request) = key;
-        let mut driver = driver_of(alloc, &self.plan, driver)?;
         let words = four_words(&mut self.words);
-        let start = next_start(alloc, &mut driver, at, words, failure.input())?;
-        let Some(start) = start else {
-            self.tally.lose(failure);
-            return Ok(());
+        let start = self
+            .drivers
+            .fail(alloc, &self.plan, turn.request, turn.at, words, failure)?;
+        let after = self.storm.next(self.drawn, turn, start);
+        self.drawn = after.drawn;
+        let what = Happening::Failed {
+            failure,
+            then: after.then,
         };
-        let (is_granted, drawn) = self.storm.draw(self.drawn, at);
-        self.drawn = drawn;
-        if is_granted {
-            self.tally.grant(failure);
-            self.wait((start.get(), request), driver)
-        } else {
-            self.tally.deny(failure);
-            Ok(())
-        }
+        self.tally
+            .tell(&self.storm.peer(), moment_of(turn.at, what, self.busy))?;
+        Ok(after.next)
     }
+}
 
-    // A retry is planned, where it begins until the end.
-    fn wait(&mut self, key: Key, driver: Box<Stepper>) -> Result<(), NoMemory>
-        requires number { key.1 < 1048576 }
-        requires driver { IsBy key.0 driver }
-        requires planned { self.old.tally.score.all.retries + self.old.pending.waits < self.old.tally.score.granted }
-        requires pending { self.old.pending.flights + self.old.pending.waits < self.old.tally.score.open }
-        ensures storm { self.new.storm ≡ self.old.storm }
-        ensures score { self.new.tally.score ≡ self.old.tally.score }
-        ensures flights { self.new.pending.flights ≡ self.old.pending.flights }
-    {
-        if key.0 <= self.storm.parameters().until {
-            self.pending.add_wait(key, driver)?;
-        }
-        Ok(())
-    }
+fn moment_of(at: u64, what: Happening, busy: u64) -> Moment
+    ensures { result ≡ record { at = at; what = what; busy = busy } }
+{
+    Moment { at, what, busy }
 }

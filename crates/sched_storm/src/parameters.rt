@@ -1,31 +1,6 @@
 //! What a storm is made of.
+use sched_storm_report::{BrownOut, Span};
 use sched_ticket_quota::Terms;
-
-/// A span of moments, in milliseconds: `from` is the first in it, and `to` the first after it.
-#[derive(Clone, Copy, Debug, PartialEq, Eq)]
-pub struct Span {
-    pub from: u64,
-    pub to: u64,
-}
-
-impl Span {
-    ghost use Rattle.std.specs.Prelude.{◌≡◌};
-    ghost use Rattle.sched_storm.specs.Parameters.{is_in};
-
-    /// Whether the moment lies in it.
-    pub fn has(self, at: u64) -> bool
-        ensures { result ≡ is_in self at }
-    {
-        self.from <= at && at < self.to
-    }
-}
-
-/// A brown-out: in the span the peer works at `percent` of its capacity.
-#[derive(Clone, Copy, Debug, PartialEq, Eq)]
-pub struct BrownOut {
-    pub span: Span,
-    pub percent: u64,
-}
 
 /// What retries draw on.
 #[derive(Clone, Copy, Debug, PartialEq, Eq)]

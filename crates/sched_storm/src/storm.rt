@@ -1,10 +1,12 @@
 ghost use Rattle.std.specs.Prelude.{◌≡◌, ◌<◌, ◌≤◌, ◌↔◌, IsTrue, IsSome, IfSome};
 ghost use Rattle.sched_ticket_quota.specs.Held.{AreTerms};
-ghost use Rattle.sched_storm.specs.Parameters.{AreInRange, AreDraws, IsSpan, IsSlow};
+ghost use Rattle.sched_storm_report.specs.Peer.{IsSpan, IsSlow, IsPeer};
+ghost use Rattle.sched_storm.specs.Parameters.{AreInRange, AreDraws};
 ghost use Rattle.sched_storm.specs.Parameters.{RequestsAreInRange, PeerIsInRange, ReportIsInRange};
-ghost use Rattle.sched_storm.specs.Parameters.{all_requests, comes_at};
+ghost use Rattle.sched_storm.specs.Parameters.{all_requests, comes_at, peer_of, end_of_trouble, has_draws};
 
-use crate::parameters::{BrownOut, Draws, Parameters, Span};
+use crate::parameters::{Draws, Parameters};
+use sched_storm_report::{BrownOut, Peer, Span};
 use sched_ticket_quota::{MAX_RESERVE, MAX_SHARE, MIN_PERIOD, Terms};
 use std::marker::Model;
 
@@ -84,6 +86,34 @@ impl Storm {
     {
         let first = request / self.parameters.together * self.parameters.together;
         first * 1000 / self.parameters.rate
+    }
+
+    /// The peer that the calls come to.
+    pub(crate) fn peer(&self) -> Peer
+        ensures value { result ≡ peer_of self.now }
+        ensures peer { IsPeer result }
+    {
+        Peer {
+            capacity: self.parameters.capacity,
+            slow: self.parameters.slow,
+        }
+    }
+
+    /// When the outage and the brown-out are over.
+    pub(crate) fn end_of_trouble(&self) -> u64
+        ensures { result ≡ end_of_trouble self.now }
+    {
+        match self.parameters.slow {
+            Some(slow) => self.parameters.outage.to.max(slow.span.to),
+            None => self.parameters.outage.to,
+        }
+    }
+
+    /// Whether retries draw on anything.
+    pub(crate) fn has_draws(&self) -> bool
+        ensures { result ≡ has_draws self.now.draws }
+    {
+        !matches!(self.parameters.draws, Draws::Nothing)
     }
 
     /// How many requests come in all, where `until` allows.

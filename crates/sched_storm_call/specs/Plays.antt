@@ -2,9 +2,12 @@
 use Rattle.std.specs.Prelude.{◌≡◌, ◌≢◌, ℕ, ◌<◌, ◌≤◌, List, ◌++◌, length, drop, map, Option, Some, None, Result, Ok, Err}
 use Rattle.sched_plan.specs.Schedule.{Schedule}
 use Rattle.sched_storm.specs.Report.{AddsUp}
-use Rattle.sched_storm.specs.declared.report.Report.{Report}
+use Rattle.sched_storm.specs.Storms.{Reports}
+use Rattle.sched_storm.specs.declared.parameters.Parameters.{Parameters}
+use Rattle.sched_storm_report.specs.declared.report.Report.{Report}
 use Rattle.sched_handle.specs.Held.{kind_of}
 use Rattle.sched_handle.specs.declared.held.Held.{Held}
+use Rattle.sched_handle.specs.declared.held.Held.TheVariants.{Policy}
 use Rattle.sched_handle.specs.declared.held.Kind.TheVariants as kind
 use Rattle.sched_handle.specs.Status.{code_of}
 use Rattle.sched_handle.specs.declared.status.Status.{Status}
@@ -25,12 +28,17 @@ pub record HasRoom (g : StormGiven) (t : Told) : Type 0 where
   pub given : IsGiven g
   pub room : room_of (parameters_of g) ≤ length t.windows
 
--- What is played where a handle holds this: a storm whose report adds up, or none for this reason. Of several reasons
--- it is
--- the first.
+-- the report is that of the storm of requests that all have the policy that is held
+pub record IsReported (held : Held) (p : Parameters) (r : Report) : Type 0 where
+  pub plan : Schedule
+  pub holds : held ≡ Policy plan
+  pub reports : Reports p plan r
+
+-- What is played where a handle holds this: the storm of the policy that it holds, with a report that adds up, or none
+-- for this reason. Of several reasons it is the first.
 abbrev pub Plays : StormGiven → Told → Option Held → Result Report Status → Type 0
 Plays g t held (Ok report) =
-    HasRoom g t × ((u : Held) × (held ≡ Some u) × (kind_of u ≡ kind.Policy)) × AddsUp (parameters_of g) report
+    HasRoom g t × ((u : Held) × (held ≡ Some u) × IsReported u (parameters_of g) report) × AddsUp (parameters_of g) report
 Plays g t held (Err OutOfRange) = ¬ IsGiven g
 Plays g t held (Err NoRoom) = IsGiven g × (length t.windows < room_of (parameters_of g))
 Plays g t held (Err Empty) = HasRoom g t × (held ≡ None)

@@ -2,12 +2,12 @@
 use Rattle.std.specs.Prelude.{◌≡◌, ℕ, ◌+◌, ◌/◌, ◌≤◌, ◌==◌, if◌then◌else◌, Option, Some, None, is_some, unwrap_or}
 use Rattle.sched_time.specs.declared.numbers.TheConstants.{FAR}
 use Rattle.sched_storm.specs.Parameters.{AreInRange}
-use Rattle.sched_storm.specs.declared.parameters.BrownOut.{BrownOut}
+use Rattle.sched_storm_report.specs.declared.peer.BrownOut.{BrownOut}
 use Rattle.sched_storm.specs.declared.parameters.Draws.{Draws}
 use Rattle.sched_storm.specs.declared.parameters.Draws.TheVariants.{Nothing, Budget, Quota}
 use Rattle.sched_storm.specs.declared.parameters.Parameters.{Parameters}
-use Rattle.sched_storm.specs.declared.tally.Window.{Window}
-use Rattle.sched_storm.specs.declared.report.Totals.{Totals}
+use Rattle.sched_storm_report.specs.declared.tally.Window.{Window}
+use Rattle.sched_storm_report.specs.declared.report.Totals.{Totals}
 use Rattle.sched_storm_call.specs.declared.records.StormGiven.{StormGiven}
 use Rattle.sched_storm_call.specs.declared.records.WindowTold.{WindowTold}
 use Rattle.sched_storm_call.specs.declared.records.TotalsTold.{TotalsTold}

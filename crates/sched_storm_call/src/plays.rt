@@ -1,11 +1,11 @@
 //! Playing a storm.
 ghost use Rattle.std.specs.Prelude.{◌≡◌, ◌≢◌, map, IfOk, IfErr, Err};
 ghost use Rattle.sched_storm.specs.Report.{AddsUp};
-ghost use Rattle.sched_handle.specs.Held.{kind_of, Wants};
+ghost use Rattle.sched_handle.specs.Held.{Wants};
 ghost use Rattle.sched_handle.specs.declared.held.Kind.TheVariants as kind;
 ghost use Rattle.sched_storm_call.specs.Told.{window_told};
 ghost use Rattle.sched_handle.specs.declared.status.Status.TheVariants as status;
-ghost use Rattle.sched_storm_call.specs.Plays.{PlaysStorm, Tells};
+ghost use Rattle.sched_storm_call.specs.Plays.{PlaysStorm, Tells, IsReported};
 
 use crate::records::{
     STORM_SIZE, SizedStorm, SizedTotals, StormGiven, TOTALS_SIZE, TotalsTold, WindowTold, room_of,
@@ -90,7 +90,7 @@ fn tell_storm(
 
 // The storm under the policy that a handle holds, and its windows as C is told of them.
 fn play(alloc: Global, held: &Held, storm: &Storm) -> Result<(Report, Vec<WindowTold>), Status>
-    ensures policy { IfOk result (λ _. kind_of held.now ≡ kind.Policy) }
+    ensures reported { IfOk result (λ played. IsReported held.now storm.now played.0) }
     ensures sums { IfOk result (λ played. AddsUp storm.now played.0) }
     ensures told { IfOk result (λ played. played.1.items ≡ map window_told played.0.windows.items) }
     ensures err { IfErr result (Wants kind.Policy held.now) }

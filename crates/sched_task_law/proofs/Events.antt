@@ -1,17 +1,19 @@
 -- The tickets of a retry, and the events of its journal.
-use Rattle.std.proofs.Common.{◌≡◌, ℕ, suc, ◌+◌, ◌<◌, Bool, true, false, not, List, [], ◌∷◌, map, take, length, Option, Some, None, refl, sym, ap, ◌∙◌, arith}
+use Rattle.std.proofs.Common.{◌≡◌, ℕ, suc, ◌+◌, ◌<◌, Bool, true, false, not, List, [], ◌∷◌, map, take, length}
+use Rattle.std.proofs.Common.{Option, Some, None, refl, sym, ap, ◌∙◌, arith}
 use Rattle.std.specs.List.{sum_by, count_by}
 use Rattle.std.proofs.lemmas.List.Sums.{sum_by-cons}
 use Rattle.sched_plan.specs.History.{prefixes}
 use Rattle.sched_plan.specs.Answer.{is_done}
 use Rattle.sched_plan.specs.declared.history.Event.{Event}
-use Rattle.sched_driver.specs.Driven.{Driven}
 use Rattle.sched_task.specs.declared.endings.How.{How}
-use Rattle.sched_task.specs.declared.endings.How.TheVariants.{Won, ScheduleDone, BudgetRefused, DeadlinePassed, Failed, Cancelled, Broken}
-use Rattle.sched_task_law.specs.Kind.{Kind, retry, falls_back}
-use Rattle.sched_task_law.specs.Past.{Past, decision_on, schedule_is_done, recurrences, bit}
+use Rattle.sched_task.specs.declared.endings.How.TheVariants.{Won, ScheduleDone, BudgetRefused, DeadlinePassed, Failed}
+use Rattle.sched_task.specs.declared.endings.How.TheVariants.{Cancelled, Broken}
+use Rattle.sched_task_law.specs.Kind.{Kind, repeats}
+use Rattle.sched_task_law.specs.Past.{Past, decision_on, schedule_is_done, is_stopped, recurrences, bit}
 use Rattle.sched_task_law.specs.Law.{Law, Ended, is_stop, is_refused}
 use Rattle.sched_task_law.proofs.Lists.{by_test}
+use Rattle.sched_task_law.proofs.Journals.{is_done_some}
 use Rattle.sched_task_law.proofs.Law.{or_false}
 
 sum_by-map : {A B : Type 0} (f : B → ℕ) (g : A → B) (xs : List A) → sum_by f (map g xs) ≡ sum_by (λ x. f (g x)) xs
@@ -28,7 +30,8 @@ passing test e [] before =
 passing test e (d ∷ h) before =
     let first : test (e ∷ []) ≡ true = before 1 (omega arith) (omega arith) in
     let rest = passing (λ p. test (e ∷ p)) d h (λ n some small. before (suc n) (omega arith) (omega arith)) in
-    let split : count_by test (prefixes (e ∷ d ∷ h)) ≡ bit (test (e ∷ [])) + count_by (λ p. test (e ∷ p)) (prefixes (d ∷ h)) =
+    let split : count_by test (prefixes (e ∷ d ∷ h)) ≡ bit (test (e ∷ [])) + count_by (λ p. test (e ∷ p))
+    (prefixes (d ∷ h)) =
     sum_by-cons (λ p. bit (test p)) (e ∷ []) (map (λ p. e ∷ p) (prefixes (d ∷ h)))
     ∙ ap (λ n. bit (test (e ∷ [])) + n) (sum_by-map (λ p. bit (test p)) (λ p. e ∷ p) (prefixes (d ∷ h))) in
     rw (split, first) (omega (arith, rest))
@@ -37,46 +40,54 @@ not_not : (b : Bool) → not (not b) ≡ b
 not_not true = refl
 not_not false = refl
 
-went : (plan : _) (h : List Event) →
-    ((n : ℕ) → 0 < n → n < length h → is_done (decision_on plan (take n h)) ≡ false) →
-    recurrences (record { plan = plan; journal = h }) + bit (schedule_is_done (record { plan = plan; journal = h })) ≡ length h
-went plan [] before = refl
-went plan (e ∷ h) before =
-    let all = passing (λ p. not (is_done (decision_on plan p))) e h (λ n some small. ap not (before n some small)) in
-    rw (not_not (is_done (decision_on plan (e ∷ h)))) at all
-
 -- the schedule goes on at each event but the last, where it is done
-pub events_of : (d : Driven) →
-    ((n : ℕ) → 0 < n → n < length d.journal → is_done (decision_on d.plan (take n d.journal)) ≡ false) →
-    recurrences d + bit (schedule_is_done d) ≡ length d.journal
-events_of d before = went d.plan d.journal before
+went : (deadline : Option ℕ) (plan : _) (h : List Event) →
+    ((n : ℕ) → 0 < n → n < length h → is_done (decision_on deadline plan (take n h)) ≡ false) →
+    recurrences deadline (record { plan = plan; journal = h })
+    + bit (schedule_is_done deadline (record { plan = plan; journal = h })) ≡ length h
+went None plan [] before = refl
+went (Some end) plan [] before = refl
+went deadline plan (e ∷ h) before =
+    let done = is_done_some deadline (record { plan = plan; journal = e ∷ h }) (omega arith) in
+    let all = passing (λ p. not (is_done (decision_on deadline plan p))) e h
+    (λ n some small. ap not (before n some small)) in
+    rw done (rw (not_not (is_done (decision_on deadline plan (e ∷ h)))) at all)
 
-stop_bit : (v : Past) (over : Option How) → Ended retry v over → (v.denied ≡ true → schedule_is_done v.driver ≡ false) →
-    bit (is_stop over) ≡ bit v.denied + bit (schedule_is_done v.driver)
-stop_bit v None ended apart = let no = or_false v.denied (schedule_is_done v.driver) (ended refl) in rw (no.0, no.1) refl
-stop_bit v (Some Won) ended apart = let no = or_false v.denied (schedule_is_done v.driver) ended.1 in rw (no.0, no.1) refl
-stop_bit v (Some ScheduleDone) ended apart = rw (ended.0, ended.1) refl
-stop_bit v (Some BudgetRefused) ended apart = rw (ended, apart ended) refl
-stop_bit v (Some DeadlinePassed) ended apart = let no = or_false v.denied (schedule_is_done v.driver) ended.0 in rw (no.0, no.1) refl
-stop_bit v (Some Failed) ended apart = absurd (let bad = ended.0 in cc)
-stop_bit v (Some Cancelled) ended apart = let no = or_false v.denied (schedule_is_done v.driver) (ended refl) in rw (no.0, no.1) refl
-stop_bit v (Some (Broken fault)) ended apart = let no = or_false v.denied (schedule_is_done v.driver) (ended.0 refl) in rw (no.0, no.1) refl
+pub undenied : (v : Past) → is_stopped v ≡ false → v.denied ≡ false
+undenied v unstopped = (or_false v.denied (schedule_is_done v.deadline v.driver) unstopped).0
+
+none_stopped : (v : Past) → is_stopped v ≡ false → 0 ≡ bit v.denied + bit (schedule_is_done v.deadline v.driver)
+none_stopped v unstopped =
+    let no = or_false v.denied (schedule_is_done v.deadline v.driver) unstopped in rw (no.0, no.1) refl
+
+stop_bit : (kind : Kind) → repeats kind ≡ false → (v : Past) (over : Option How) → Ended kind v over →
+    (v.denied ≡ true → schedule_is_done v.deadline v.driver ≡ false) →
+    bit (is_stop over) ≡ bit v.denied + bit (schedule_is_done v.deadline v.driver)
+stop_bit kind retries v None ended apart = none_stopped v ended
+stop_bit kind retries v (Some Won) ended apart = none_stopped v ended.1
+stop_bit kind retries v (Some ScheduleDone) ended apart = rw (ended.0, ended.1) refl
+stop_bit kind retries v (Some BudgetRefused) ended apart = rw (ended, apart ended) refl
+stop_bit kind retries v (Some DeadlinePassed) ended apart = none_stopped v ended.0
+stop_bit kind retries v (Some Failed) ended apart = absurd (let bad : true ≡ false = sym ended.0 ∙ retries in cc)
+stop_bit kind retries v (Some Cancelled) ended apart = none_stopped v ended
+stop_bit kind retries v (Some (Broken fault)) ended apart = none_stopped v ended
 
 -- the tickets of a retry are as many as its events, less one at a stop
-pub events_law : (v : Past) → Law retry v → v.granted + bit (is_stop v.over) ≡ length v.driver.journal
-events_law v law =
-    let stops = stop_bit v v.over law.ended (λ denied. (law.denied denied).undone) in
-    let count = law.granted refl in
-    let events = events_of v.driver law.went_on in
+pub events_law : (kind : Kind) → repeats kind ≡ false → (v : Past) → Law kind v →
+    v.granted + bit (is_stop v.over) ≡ length v.driver.journal
+events_law kind retries v law =
+    let stops = stop_bit kind retries v v.over law.ended (λ denied. (law.denied denied).undone) in
+    let count = law.granted (ap not retries) in
+    let events = went v.deadline v.driver.plan v.driver.journal law.went_on in
     omega (arith, stops, count, events)
 
--- a task that asks no fallback is denied where its budget refused it
-pub denied_is : (kind : Kind) → falls_back kind ≡ false → (v : Past) (over : Option How) → Ended kind v over → v.denied ≡ is_refused over
-denied_is kind alone v None ended = (or_false v.denied (schedule_is_done v.driver) (ended alone)).0
-denied_is kind alone v (Some Won) ended = (or_false v.denied (schedule_is_done v.driver) ended.1).0
-denied_is kind alone v (Some ScheduleDone) ended = ended.1
-denied_is kind alone v (Some BudgetRefused) ended = ended
-denied_is kind alone v (Some DeadlinePassed) ended = (or_false v.denied (schedule_is_done v.driver) ended.0).0
-denied_is kind alone v (Some Failed) ended = (or_false v.denied (schedule_is_done v.driver) ended.1).0
-denied_is kind alone v (Some Cancelled) ended = (or_false v.denied (schedule_is_done v.driver) (ended alone)).0
-denied_is kind alone v (Some (Broken fault)) ended = (or_false v.denied (schedule_is_done v.driver) (ended.0 alone)).0
+-- a task is denied where its budget refused it
+pub denied_is : (kind : Kind) (v : Past) (over : Option How) → Ended kind v over → v.denied ≡ is_refused over
+denied_is kind v None ended = undenied v ended
+denied_is kind v (Some Won) ended = undenied v ended.1
+denied_is kind v (Some ScheduleDone) ended = ended.1
+denied_is kind v (Some BudgetRefused) ended = ended
+denied_is kind v (Some DeadlinePassed) ended = undenied v ended.0
+denied_is kind v (Some Failed) ended = undenied v ended.1
+denied_is kind v (Some Cancelled) ended = undenied v ended
+denied_is kind v (Some (Broken fault)) ended = undenied v ended

@@ -1,3 +1,4 @@
+-- The lemmas that the proofs of tasks cite: a task keeps its law over each poll.
 pub mod Lists
 pub mod Fields
 pub mod Journals

@@ -6,7 +6,8 @@ use Rattle.sched_task_law.specs.Lists.{all_but_last, last_is, last_element}
 
 -- a fact of both answers of a test
 pub by_test : {P : Type 0} (b : Bool) → (b ≡ true → P) → (b ≡ false → P) → P
-by_test {P = P} b = elim b as (λ x. (x ≡ true → P) → (x ≡ false → P) → P) [ true ↦ λ yes no. yes refl | false ↦ λ yes no. no refl ]
+by_test {P = P} b = elim b as (λ x. (x ≡ true → P) → (x ≡ false → P) → P)
+    [ true ↦ λ yes no. yes refl | false ↦ λ yes no. no refl ]
 
 module _ {A : Type 0} (test : A → Bool) where
   pub all_but_last-push : (xs : List A) (x : A) → list_all test xs ≡ true → all_but_last test (xs ++ x ∷ []) ≡ true
@@ -21,7 +22,8 @@ module _ {A : Type 0} (test : A → Bool) where
   last_is-push (y ∷ z ∷ xs) x = last_is-push (z ∷ xs) x
 
   -- where the last fails the test's contrary as well, all pass
-  pub all_of : (xs : List A) → all_but_last test xs ≡ true → last_is (λ x. not (test x)) xs ≡ false → list_all test xs ≡ true
+  pub all_of : (xs : List A) → all_but_last test xs ≡ true → last_is (λ x. not (test x)) xs ≡ false →
+      list_all test xs ≡ true
   all_of [] before last = refl
   all_of (x ∷ []) before last = by_test (test x) (λ yes. and_from _ _ yes refl) (λ no. let bad = rw no at last in cc)
   all_of (x ∷ y ∷ xs) before last =

@@ -2,13 +2,12 @@
 use Rattle.std.specs.Prelude.{◌≡◌, ℕ, ◌⊎◌, Bool, if◌then◌else◌, ◌==◌, List, Option, refl}
 use Rattle.std.specs.Coded.{Coded, code_by, coded×, coded⊎, coded_ℕ, coded_bool, coded_list, coded_option}
 use mathlib.Core.Logic.{inl, inr}
-use Rattle.sched_driver.specs.Driven.{Driven, coded_driven}
 use Rattle.sched_effect.specs.declared.ran.Ran.{Ran}
 use Rattle.sched_effect.specs.declared.ran.Ran.TheVariants.{Won, Lost}
 use Rattle.sched_task.specs.declared.endings.How.{How}
 use Rattle.sched_task.specs.declared.endings.How.TheVariants as how
 use Rattle.sched_task.specs.declared.endings.RunFault.TheVariants.{NoMemory, JournalFull, Backwards}
-use Rattle.sched_task_law.specs.Past.{Past}
+use Rattle.sched_task_law.specs.Past.{PastOf}
 
 -- a run is stored as the side that it is on, with its code
 abbrev ran_from : ℕ ⊎ ℕ → Ran
@@ -58,18 +57,19 @@ how_back how.DeadlinePassed = refl
 abbrev pub coded_how : Coded How
 coded_how = code_by ℕ coded_ℕ how_code how_from how_back
 
-abbrev pub coded_past : Coded Past
-coded_past =
-    code_by (Driven × (List Ran × (List ℕ × (Option How × (Bool × ℕ)))))
-    (coded× coded_driven (coded× (coded_list coded_ran) (coded× (coded_list coded_ℕ)
-    (coded× (coded_option coded_how) (coded× coded_bool coded_ℕ)))))
-    (λ v. (v.driver, (v.runs, (v.begun, (v.over, (v.denied, v.granted))))))
+abbrev pub coded_past : {R : Type 0} → Coded R → Coded (PastOf R)
+coded_past {R} coded_driver =
+    code_by (R × (Option ℕ × (List Ran × (List ℕ × (Option How × (Bool × ℕ))))))
+    (coded× coded_driver (coded× (coded_option coded_ℕ) (coded× (coded_list coded_ran) (coded× (coded_list coded_ℕ)
+    (coded× (coded_option coded_how) (coded× coded_bool coded_ℕ))))))
+    (λ v. (v.driver, (v.deadline, (v.runs, (v.begun, (v.over, (v.denied, v.granted)))))))
     (λ p. record {
       driver = p.0;
-      runs = p.1.0;
-      begun = p.1.1.0;
-      over = p.1.1.1.0;
-      denied = p.1.1.1.1.0;
-      granted = p.1.1.1.1.1;
+      deadline = p.1.0;
+      runs = p.1.1.0;
+      begun = p.1.1.1.0;
+      over = p.1.1.1.1.0;
+      denied = p.1.1.1.1.1.0;
+      granted = p.1.1.1.1.1.1;
     })
     (λ _. refl)

@@ -9,8 +9,6 @@ use Rattle.sched_task.specs.declared.endings.How.TheVariants as how
 pub data Kind : Type 0 where
   -- tries again after each failure, with a ticket of the budget for each retry
   a_retry : Bool → Kind
-  -- the same, and asks a fallback in the end
-  a_retry_or : Bool → Kind
   -- runs again after each success
   a_repeat : Bool → Kind
 
@@ -18,32 +16,21 @@ pub data Kind : Type 0 where
 abbrev pub retry : Kind
 retry = a_retry true
 
-abbrev pub retry_or : Kind
-retry_or = a_retry_or true
-
 abbrev pub repeat : Kind
 repeat = a_repeat true
 
 -- whether its journal is kept, which then has room for 65,536 events
 abbrev pub keeps : Kind → Bool
 keeps (a_retry kept) = kept
-keeps (a_retry_or kept) = kept
 keeps (a_repeat kept) = kept
 
 abbrev pub repeats : Kind → Bool
 repeats (a_retry kept) = false
-repeats (a_retry_or kept) = false
 repeats (a_repeat kept) = true
 
 -- whether each recurrence needs a ticket of the budget
 abbrev pub draws : Kind → Bool
 draws kind = not (repeats kind)
-
--- whether it asks a fallback where the schedule is done or the budget refuses
-abbrev pub falls_back : Kind → Bool
-falls_back (a_retry kept) = false
-falls_back (a_retry_or kept) = true
-falls_back (a_repeat kept) = false
 
 -- whether the run calls for a step of the schedule: of a retry a failure, of a repeat a success
 abbrev pub calls : Kind → Ran → Bool
@@ -53,7 +40,6 @@ calls kind (Lost code) = not (repeats kind)
 -- how a run that calls for no step ends the task
 abbrev pub final : Kind → How
 final (a_retry kept) = how.Won
-final (a_retry_or kept) = how.Won
 final (a_repeat kept) = how.Failed
 
 -- the task ended with its last run

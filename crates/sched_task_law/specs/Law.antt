@@ -1,14 +1,16 @@
 -- What is true of a task between any two polls.
-use Rattle.std.specs.Prelude.{◌≡◌, ℕ, ◌+◌, ◌<◌, ◌≤◌, ◌⊎◌, Bool, true, false, not, [], ◌∷◌, ◌++◌, take, length, slice_index, Option, Some, None, IsSomeAnd}
+use Rattle.std.specs.Prelude.{◌≡◌, ℕ, ◌+◌, ◌<◌, ◌≤◌, ◌⊎◌, Bool, true, false, not}
+use Rattle.std.specs.Prelude.{[], ◌∷◌, ◌++◌, take, length, slice_index, Option, Some, None, IsSomeAnd}
 use Rattle.sched_time.specs.Decision.{start_of}
 use Rattle.sched_plan.specs.Datum.{num}
 use Rattle.sched_plan.specs.Answer.{is_done}
 use Rattle.sched_task.specs.declared.endings.How.{How}
-use Rattle.sched_task.specs.declared.endings.How.TheVariants.{Won, ScheduleDone, BudgetRefused, DeadlinePassed, Failed, Cancelled, Broken}
-use Rattle.sched_task.specs.declared.endings.RunFault.TheVariants.{NoMemory}
+use Rattle.sched_task.specs.declared.endings.How.TheVariants.{Won, ScheduleDone, BudgetRefused, DeadlinePassed, Failed}
+use Rattle.sched_task.specs.declared.endings.How.TheVariants.{Cancelled, Broken}
 use Rattle.sched_task_law.specs.Lists.{all_but_last, last_is}
-use Rattle.sched_task_law.specs.Kind.{Kind, repeats, draws, falls_back, calls, is_final}
-use Rattle.sched_task_law.specs.Past.{Past, decision_on, schedule_is_done, recurrences, inputs, called_inputs, is_stopped, bit}
+use Rattle.sched_task_law.specs.Kind.{Kind, repeats, draws, calls, is_final}
+use Rattle.sched_task_law.specs.Past.{Past, decision_on, schedule_is_done, recurrences, inputs, called_inputs}
+use Rattle.sched_task_law.specs.Past.{is_stopped, bit}
 
 abbrev pub is_broken : Option How → Bool
 is_broken (Some (Broken fault)) = true
@@ -46,23 +48,22 @@ pub record HasOneMore (v : Past) : Type 0 where
   pub left : may_leave_a_run v.over ≡ true
   pub unstopped : is_stopped v ≡ false
 
--- What each ending says. A task that asks no fallback is over where its schedule is done, and where it is denied. One
--- that its deadline ended was to run again after its last run.
+-- What each ending says. A task is over where its schedule is done, and where it is denied. One that its deadline ended
+-- was to run again after its last run.
 abbrev pub Ended : Kind → Past → Option How → Type 0
-Ended kind v None = falls_back kind ≡ false → is_stopped v ≡ false
+Ended kind v None = is_stopped v ≡ false
 Ended kind v (Some Won) = (repeats kind ≡ false) × (is_stopped v ≡ false)
-Ended kind v (Some ScheduleDone) = (schedule_is_done v.driver ≡ true) × (v.denied ≡ false)
+Ended kind v (Some ScheduleDone) = (schedule_is_done v.deadline v.driver ≡ true) × (v.denied ≡ false)
 Ended kind v (Some BudgetRefused) = v.denied ≡ true
 Ended kind v (Some DeadlinePassed) = (is_stopped v ≡ false) × (last_is (calls kind) v.runs ≡ true)
 Ended kind v (Some Failed) = (repeats kind ≡ true) × (is_stopped v ≡ false)
-Ended kind v (Some Cancelled) = falls_back kind ≡ false → is_stopped v ≡ false
-Ended kind v (Some (Broken fault)) =
-    (falls_back kind ≡ false → is_stopped v ≡ false) × (is_stopped v ≡ true → fault ≡ NoMemory)
+Ended kind v (Some Cancelled) = is_stopped v ≡ false
+Ended kind v (Some (Broken fault)) = is_stopped v ≡ false
 
 -- A ticket is needed, the last run calls for a step, and the schedule goes on.
 pub record IsDenied (kind : Kind) (v : Past) : Type 0 where
   pub drawn : draws kind ≡ true
-  pub undone : schedule_is_done v.driver ≡ false
+  pub undone : schedule_is_done v.deadline v.driver ≡ false
   pub last : last_is (calls kind) v.runs ≡ true
   pub stepped : 0 < length v.driver.journal
 
@@ -75,15 +76,15 @@ pub record Law (kind : Kind) (v : Past) : Type 0 where
   pub fed : (inputs v.driver.journal ≡ called_inputs kind v.runs) ⊎ LacksLast kind v
   -- the schedule goes on at each event but the last
   pub went_on : (n : ℕ) → 0 < n → n < length v.driver.journal →
-      is_done (decision_on v.driver.plan (take n v.driver.journal)) ≡ false
+      is_done (decision_on v.deadline v.driver.plan (take n v.driver.journal)) ≡ false
   -- each run after the first was begun at or after the start that the schedule planned at the event before
   pub waited : (n : ℕ) → 0 < n → n < length v.begun → (n ≤ length v.driver.journal)
-      × IsSomeAnd (start_of (decision_on v.driver.plan (take n v.driver.journal)))
+      × IsSomeAnd (start_of (decision_on v.deadline v.driver.plan (take n v.driver.journal)))
       (λ start. start ≤ slice_index v.begun n)
   -- as many runs were begun as have finished, or one more; no run begins once the task is stopped
   pub counted : (length v.begun ≡ length v.runs) ⊎ HasOneMore v
   pub denied : v.denied ≡ true → IsDenied kind v
-  pub done : schedule_is_done v.driver ≡ true → last_is (calls kind) v.runs ≡ true
+  pub done : schedule_is_done v.deadline v.driver ≡ true → last_is (calls kind) v.runs ≡ true
   pub ended : Ended kind v v.over
   -- the tickets are as many as the events at which the schedule goes on, less the one that was refused
-  pub granted : draws kind ≡ true → v.granted + bit v.denied ≡ recurrences v.driver
+  pub granted : draws kind ≡ true → v.granted + bit v.denied ≡ recurrences v.deadline v.driver

@@ -1,5 +1,6 @@
 -- One poll of a task: what may happen, when, and the whole record after it.
-use Rattle.std.specs.Prelude.{◌≡◌, ℕ, ◌+◌, ◌<◌, ◌≤◌, ◌⊎◌, Bool, true, false, if◌then◌else◌, List, [], ◌∷◌, ◌++◌, length, Option, Some, None, is_some, IsTrue, IfSome, IsSomeAnd}
+use Rattle.std.specs.Prelude.{◌≡◌, ℕ, ◌+◌, ◌<◌, ◌≤◌, ◌⊎◌, Bool, true, false, if◌then◌else◌}
+use Rattle.std.specs.Prelude.{List, [], ◌∷◌, ◌++◌, length, Option, Some, None, is_some, IsTrue, IfSome, IsSomeAnd}
 use Rattle.sched_time.specs.declared.numbers.Tick.{Tick}
 use Rattle.sched_plan.specs.Datum.{num}
 use Rattle.sched_plan.specs.History.{last_moment}
@@ -10,11 +11,12 @@ use Rattle.sched_driver.specs.Driver.{HasRoom}
 use Rattle.sched_effect.specs.Runs.{code_of}
 use Rattle.sched_effect.specs.declared.ran.Ran.{Ran}
 use Rattle.sched_task.specs.declared.endings.How.{How}
-use Rattle.sched_task.specs.declared.endings.How.TheVariants.{ScheduleDone, BudgetRefused, DeadlinePassed, Cancelled, Broken}
+use Rattle.sched_task.specs.declared.endings.How.TheVariants.{ScheduleDone, BudgetRefused, DeadlinePassed, Cancelled}
+use Rattle.sched_task.specs.declared.endings.How.TheVariants.{Broken}
 use Rattle.sched_task.specs.declared.endings.RunFault.{RunFault}
 use Rattle.sched_task.specs.declared.endings.RunFault.TheVariants.{NoMemory, JournalFull, Backwards}
-use Rattle.sched_task_law.specs.Kind.{Kind, keeps, draws, falls_back, calls, final}
-use Rattle.sched_task_law.specs.Past.{Past, schedule_is_done, is_under_way, is_stopped, waits_for}
+use Rattle.sched_task_law.specs.Kind.{Kind, keeps, draws, calls, final}
+use Rattle.sched_task_law.specs.Past.{PastOf, Past, schedule_is_done, is_under_way, is_too_late, is_stopped, waits_for}
 
 -- What happens in a poll.
 pub data Happened : Type 0 where
@@ -36,12 +38,8 @@ pub data Happened : Type 0 where
   stops_denied : Ran → Happened
   -- the run finishes and the schedule goes on, with a ticket where one is needed
   recurs : Ran → Happened
-  -- the fallback has no answer yet
-  asks : Happened
-  -- memory is refused to the fallback
-  cannot_ask : Happened
-  -- the fallback answers
-  falls : Happened
+  -- another run would begin past the deadline, which ends the task
+  times_out : Happened
 
 -- the moments at which runs were begun, once one is under way: it begins at the tick where none was
 abbrev pub begun_by : Past → Tick → List ℕ
@@ -67,14 +65,6 @@ stepped v t r = record v {
   driver = driven_after v.driver (step_event t r);
 }
 
--- a stop ends the task, unless a fallback is asked
-abbrev pub stop : Kind → How → Option How
-stop kind how = if falls_back kind then None else Some how
-
--- why no run begins any more
-abbrev pub stopped_by : Past → How
-stopped_by v = if v.denied then BudgetRefused else ScheduleDone
-
 -- the whole record after a poll in which this happened
 abbrev pub after : Kind → Past → Tick → Happened → Past
 after kind v t stays = v
@@ -83,24 +73,21 @@ after kind v t runs_on = started v t
 after kind v t cannot_run = record (started v t) { over = Some (Broken NoMemory) }
 after kind v t (ends r) = record (finished v t r) { over = Some (final kind) }
 after kind v t (breaks r fault) = record (finished v t r) { over = Some (Broken fault) }
-after kind v t (stops_done r) = record (stepped v t r) { over = stop kind ScheduleDone }
-after kind v t (stops_denied r) = record (stepped v t r) { denied = true; over = stop kind BudgetRefused }
+after kind v t (stops_done r) = record (stepped v t r) { over = Some ScheduleDone }
+after kind v t (stops_denied r) = record (stepped v t r) { denied = true; over = Some BudgetRefused }
 after kind v t (recurs r) = record (stepped v t r) { granted = if draws kind then v.granted + 1 else v.granted }
-after kind v t asks = v
-after kind v t cannot_ask = record v { over = Some (Broken NoMemory) }
-after kind v t falls = record v { over = Some (stopped_by v) }
+after kind v t times_out = record v { over = Some DeadlinePassed }
 
--- A run is polled only where the task is not over, is not stopped, and waits for no later moment.
-pub record CanRun (v : Past) (t : Tick) : Type 0 where
+-- A task is polled where it is not over, is not stopped, and waits for no later moment.
+pub record IsDue (v : Past) (t : Tick) : Type 0 where
   pub unended : v.over ≡ None
   pub unstopped : is_stopped v ≡ false
   pub due : IfSome (waits_for v) (λ m. m ≤ t.now)
 
--- A fallback is asked only where the task is not over and is stopped.
-pub record CanAsk (kind : Kind) (v : Past) : Type 0 where
-  pub has_fallback : falls_back kind ≡ true
-  pub unended : v.over ≡ None
-  pub stopped : is_stopped v ≡ true
+-- A run is polled then, unless it would be another one that begins past the deadline.
+pub record CanRun (v : Past) (t : Tick) : Type 0 where
+  pub is_due : IsDue v t
+  pub in_time : is_too_late v t.now ≡ false
 
 -- There is room for one more event: its moment is not before the last one's, and a journal that is kept is not full.
 abbrev pub RoomIn : Bool → Driven → ℕ → Type 0
@@ -113,18 +100,12 @@ pub record Steps (kind : Kind) (v : Past) (t : Tick) (r : Ran) : Type 0 where
   pub called : calls kind r ≡ true
   pub room : RoomIn (keeps kind) v.driver t.now
 
--- Each refusal of a step comes only in its own case.
-abbrev pub Refuses : Driven → ℕ → RunFault → Type 0
-Refuses d now Backwards = now < last_moment d.journal
-Refuses d now JournalFull = (last_moment d.journal ≤ now) × (length d.journal ≡ 65536)
-Refuses d now NoMemory = HasRoom d now
-
--- where no journal is kept, none is full
+-- Each refusal of a step comes only in its own case: where no journal is kept, none is full.
 abbrev pub RefusedIn : Bool → Driven → ℕ → RunFault → Type 0
-RefusedIn true d now fault = Refuses d now fault
-RefusedIn false d now Backwards = now < last_moment d.journal
+RefusedIn kept d now Backwards = now < last_moment d.journal
+RefusedIn true d now JournalFull = (last_moment d.journal ≤ now) × (length d.journal ≡ 65536)
 RefusedIn false d now JournalFull = ⊥
-RefusedIn false d now NoMemory = last_moment d.journal ≤ now
+RefusedIn kept d now NoMemory = RoomIn kept d now
 
 -- when this may happen
 abbrev pub May : Kind → Past → Tick → Happened → Type 0
@@ -134,13 +115,14 @@ May kind v t runs_on = CanRun v t
 May kind v t cannot_run = CanRun v t
 May kind v t (ends r) = CanRun v t × (calls kind r ≡ false)
 May kind v t (breaks r fault) = CanRun v t × (calls kind r ≡ true) × RefusedIn (keeps kind) v.driver t.now fault
-May kind v t (stops_done r) = Steps kind v t r × (schedule_is_done (driven_after v.driver (step_event t r)) ≡ true)
+May kind v t (stops_done r) = Steps kind v t r × (schedule_is_done v.deadline (driven_after v.driver (step_event t r)) ≡
+    true)
 May kind v t (stops_denied r) =
-    Steps kind v t r × (schedule_is_done (driven_after v.driver (step_event t r)) ≡ false) × (draws kind ≡ true)
-May kind v t (recurs r) = Steps kind v t r × (schedule_is_done (driven_after v.driver (step_event t r)) ≡ false)
-May kind v t asks = CanAsk kind v
-May kind v t cannot_ask = CanAsk kind v
-May kind v t falls = CanAsk kind v
+    Steps kind v t r × (schedule_is_done v.deadline (driven_after v.driver (step_event t r)) ≡ false)
+    × (draws kind ≡ true)
+May kind v t (recurs r) = Steps kind v t r × (schedule_is_done v.deadline (driven_after v.driver (step_event t r)) ≡
+    false)
+May kind v t times_out = IsDue v t × (is_too_late v t.now ≡ true)
 
 -- One poll of a task, exactly: something happened that may, the task is as that leaves it, and the poll was ready where
 -- the task is over after it.
@@ -151,14 +133,5 @@ pub record OnePoll (kind : Kind) (v : Past) (t : Tick) (ready : Bool) (u : Past)
   pub ready_is : ready ≡ is_some u.over
 
 -- a task that is not over is cancelled
-abbrev pub cancelled : Past → Past
+abbrev pub cancelled : {R : Type 0} → PastOf R → PastOf R
 cancelled v = record v { over = if is_some v.over then v.over else Some Cancelled }
-
--- One that has had a run, and would begin another one, is ended by its deadline.
-abbrev pub timed_out : Past → Past
-timed_out v = record v { over = Some DeadlinePassed }
-
-pub record CanTimeOut (v : Past) (t : Tick) : Type 0 where
-  pub can : CanRun v t
-  pub idle : is_under_way v.runs v.begun ≡ false
-  pub after_a_run : 0 < length v.runs

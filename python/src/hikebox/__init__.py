@@ -21,6 +21,7 @@ from .errors import (
     EngineError,
     Fault,
     HikeboxError,
+    NotAdmitted,
     PolicyError,
     ResultRefused,
     StoreError,
@@ -30,6 +31,7 @@ from .errors import (
     TicketError,
     TryAgain,
 )
+from .limits import Breaker, Bucket, InFlight, Limit, Request, Throttle, both
 from .log import after_log, before_log, before_sleep_log
 from .policy import Policy, Step
 from .policy.builders import (
@@ -65,6 +67,8 @@ __all__ = [
     "AsyncRepeating",
     "AsyncRetrying",
     "Attempt",
+    "Breaker",
+    "Bucket",
     "Budget",
     "BudgetClosed",
     "BudgetError",
@@ -74,7 +78,10 @@ __all__ = [
     "EngineError",
     "Fault",
     "HikeboxError",
+    "InFlight",
+    "Limit",
     "Milliseconds",
+    "NotAdmitted",
     "Outcome",
     "Policy",
     "PolicyError",
@@ -82,6 +89,7 @@ __all__ = [
     "Refusal",
     "RefusalReason",
     "Repeating",
+    "Request",
     "ResultRefused",
     "RetryState",
     "Retrying",
@@ -94,6 +102,7 @@ __all__ = [
     "StormRow",
     "StormTotals",
     "TermsError",
+    "Throttle",
     "Ticket",
     "TicketError",
     "Tickets",
@@ -102,6 +111,7 @@ __all__ = [
     "after_log",
     "before_log",
     "before_sleep_log",
+    "both",
     "code_of",
     "decorrelated",
     "elapsed",

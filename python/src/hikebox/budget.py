@@ -3,12 +3,13 @@
 from __future__ import annotations
 
 from functools import partial
+from typing import Union
 
 from ._engine.calls import MAX_TICKETS
 from ._engine.handles import Pass
 from .budgets.granting import Granting
 from .budgets.passes import Passes
-from .budgets.tickets import Drawn, Refusal, RefusalReason, Ticket
+from .budgets.tickets import Refusal, RefusalReason, Ticket
 from .errors import BudgetError, EngineError, TermsError, TicketError
 
 __all__ = ["Budget"]
@@ -62,7 +63,7 @@ class Budget(Granting):
         """The most tickets that can be drawn; for a rising budget, as of now."""
         return self._limit
 
-    def draw(self) -> Drawn:
+    def draw(self) -> Union[Ticket, Refusal]:
         """Returns a `Ticket`, or a `Refusal`, which is false, if none is left."""
         passes = self.passes
         lent = passes.lend()

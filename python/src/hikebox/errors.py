@@ -12,6 +12,7 @@ __all__ = [
     "EngineError",
     "Fault",
     "HikeboxError",
+    "NotAdmitted",
     "PolicyError",
     "ResultRefused",
     "StoreError",
@@ -38,11 +39,11 @@ class Fault(enum.Enum):
 
 
 class PolicyError(HikeboxError, ValueError):
-    """A policy was refused.
+    """A policy is invalid.
 
-    `fault` says what is wrong, `place` at which node of the policy (`meet[1].cap[1]`, or `line 2, column 7` of a text
-    that is no JSON; empty where it is the whole policy) and `hint` what was expected there and what was found, or why
-    it is no JSON, as `zsched check` does.
+    `fault` says what is wrong. `place` says where: a node such as `meet[1].cap[1]`, `line 2, column 7` of a text that
+    is not JSON, or nothing if it is the whole policy. `hint` says what was expected there and what was found, or why
+    the text is not JSON, in the words of `zsched check`.
 
     >>> from hikebox import Policy
     >>> Policy.from_dict({"meet": ["forever", {"recur": 3}]})
@@ -62,11 +63,11 @@ class PolicyError(HikeboxError, ValueError):
 
 
 class BudgetError(HikeboxError):
-    """A budget, or a quota, can't do what was asked of it."""
+    """A call of a budget or a quota failed."""
 
 
 class TermsError(BudgetError, ValueError):
-    """What a budget or a quota was to be made with is out of range."""
+    """A parameter of a budget or a quota is out of range."""
 
 
 class TicketError(BudgetError, ValueError):
@@ -111,6 +112,17 @@ class EngineError(HikeboxError, RuntimeError):
 
     def __reduce__(self) -> Any:
         return (type(self), (self.call, self.status))
+
+
+class NotAdmitted(HikeboxError):
+    """A limit did not admit a call, so its first attempt was not made. `refusal` says why."""
+
+    def __init__(self, refusal: Any) -> None:
+        super().__init__(f"the call was not admitted: {refusal.reason.value}")
+        self.refusal = refusal
+
+    def __reduce__(self) -> Any:
+        return (type(self), (self.refusal,))
 
 
 class TryAgain(HikeboxError):

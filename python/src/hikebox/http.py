@@ -1,4 +1,4 @@
-"""What HTTP says about when to call again."""
+"""When to call again, by the status and the headers of an HTTP response."""
 
 from __future__ import annotations
 
@@ -9,10 +9,10 @@ from typing import Any, Callable, Collection, Optional
 
 __all__ = ["METHODS", "STATUSES", "is_bad", "parse_retry_after", "retry_after", "retry_after_of"]
 
-#: The statuses that the adapters retry where nothing else is said.
+#: The statuses that the adapters retry by default.
 STATUSES = frozenset({429, 502, 503, 504})
 
-#: Those that are retried, whatever else is said, where the answer has a `Retry-After`: urllib3's `Retry` has the same.
+#: The statuses that are always retried if the response has a `Retry-After`, as urllib3's `Retry` does.
 _ASKING = frozenset({413, 429, 503})
 
 #: The methods that may be repeated.
@@ -20,7 +20,7 @@ METHODS = frozenset({"DELETE", "GET", "HEAD", "OPTIONS", "PUT", "TRACE"})
 
 
 def is_bad(status: int, statuses: Collection[int], asks: bool) -> bool:
-    """Whether an answer with this status is retried, where these statuses are, and it has a `Retry-After` or none.
+    """Whether to retry a response: its status is one of these, or asks for a retry and it has a `Retry-After` (`asks`).
 
     >>> is_bad(503, {500}, False), is_bad(413, STATUSES, True), is_bad(404, STATUSES, True)
     (False, True, False)
@@ -29,7 +29,7 @@ def is_bad(status: int, statuses: Collection[int], asks: bool) -> bool:
 
 
 def parse_retry_after(text: Optional[str], now: Callable[[], float] = time.time) -> Optional[float]:
-    """The seconds that a `Retry-After` header asks for, as a number or as a date; None where it says nothing.
+    """Returns the seconds that a `Retry-After` header asks for, by a number or a date; None if it is neither.
 
     >>> parse_retry_after("120"), parse_retry_after("soon")
     (120.0, None)
@@ -51,16 +51,15 @@ def parse_retry_after(text: Optional[str], now: Callable[[], float] = time.time)
 
 
 def retry_after_of(response: object) -> Optional[float]:
-    """The seconds that the headers of a response ask to wait, where they do."""
+    """Returns the seconds that the headers of a response ask to wait, or None."""
     headers: Any = getattr(response, "headers", None)
     return parse_retry_after(headers.get("Retry-After")) if hasattr(headers, "get") else None
 
 
 def retry_after(error: BaseException) -> Optional[float]:
-    """For `retry_after`: the seconds that the response of an HTTP error asks to wait, where it has a `Retry-After`.
+    """For the option `retry_after`: returns the seconds that the response of an HTTP error asks to wait, or None.
 
-    It reads the headers of the exception (as of `urllib.error.HTTPError`), or those of its `response` (as of
-    `requests` and `httpx`).
+    It reads the headers of the exception (`urllib.error.HTTPError`), or those of its `response` (requests and httpx).
     """
     found = retry_after_of(error)
     return retry_after_of(getattr(error, "response", None)) if found is None else found

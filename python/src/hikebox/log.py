@@ -18,7 +18,7 @@ def _fields(state: RetryState, **more: Any) -> Dict[str, Any]:
 
 
 def before_log(logger: logging.Logger, log_level: int) -> Hook:
-    """A hook for `before`, which logs that an attempt begins."""
+    """Returns a hook for `before` that logs the beginning of an attempt."""
 
     def log(state: RetryState) -> None:
         logger.log(log_level, "%s: attempt %d begins", state.name, state.attempt_number, extra=_fields(state))
@@ -27,7 +27,7 @@ def before_log(logger: logging.Logger, log_level: int) -> Hook:
 
 
 def after_log(logger: logging.Logger, log_level: int, sec_format: str = "%0.3f") -> Hook:
-    """A hook for `after`, which logs that an attempt failed, and the seconds since the first one began, so written."""
+    """Returns a hook for `after` that logs that an attempt failed, and the seconds since the first one began."""
 
     def log(state: RetryState) -> None:
         seconds = state.seconds_since_start or 0.0
@@ -39,7 +39,7 @@ def after_log(logger: logging.Logger, log_level: int, sec_format: str = "%0.3f")
 
 
 def before_sleep_log(logger: logging.Logger, log_level: int, exc_info: bool = False) -> Hook:
-    """A hook for `before_sleep`, which logs how an attempt went and how long is waited."""
+    """Returns a hook for `before_sleep` that logs how an attempt ended and the wait that follows."""
 
     def log(state: RetryState) -> None:
         error = state.outcome.exception() if state.outcome is not None else None

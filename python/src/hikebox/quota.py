@@ -6,7 +6,7 @@ import time
 from ctypes import c_uint64
 from dataclasses import dataclass, field
 from functools import partial
-from typing import Callable, Optional
+from typing import Callable, Optional, Union
 
 from ._engine.handles import Pass
 from ._time import MAX_NUMBER, Duration, moment
@@ -14,7 +14,7 @@ from .budgets.drawing import ByPass, Drawing
 from .budgets.granting import Granting
 from .budgets.passes import Passes
 from .budgets.terms import CountsRequests, Terms, requests_of, terms_of
-from .budgets.tickets import Drawn, Refusal, RefusalReason, Ticket, checked_ticket
+from .budgets.tickets import Refusal, RefusalReason, Ticket, checked_ticket
 from .errors import EngineError
 
 __all__ = ["Quota", "Usage"]
@@ -173,7 +173,7 @@ class Quota(Granting, CountsRequests):
         with self.passes.root() as root:
             root.deposit(moment(self._clock()), c_uint64(requests))
 
-    def draw(self) -> Drawn:
+    def draw(self) -> Union[Ticket, Refusal]:
         """Returns a `Ticket`, or a `Refusal`, which is false, if the present window has none left. The next window may
         have one, and so may this one after more requests. A window's tickets are numbered from 0. Tickets carried to it
         are drawn first, and are the last ones of the window before.

@@ -42,15 +42,14 @@ class Sweep:
     lines: Tuple[Tuple[Storm, ...], ...]
 
     def numbers(self, measure: str) -> List[List[Optional[float]]]:
-        """The numbers of a measure, a list for each line: `succeeded` in per cent, `calls` for each request, seconds to
-        `recovery` (infinite where a storm does not recover), and the `slowest` success in seconds."""
+        """Returns a measure as a list for each line: `succeeded` in per cent, `calls` per request, seconds to
+        `recovery` (infinite if a storm does not recover), or the `slowest` success in seconds."""
         if measure not in MEASURES:
             raise StormError("measure", f"expected one of {', '.join(MEASURES)}, got {measure!r}")
         return [[MEASURES[measure].of(storm) for storm in line] for line in self.lines]
 
     def svg(self, *measures: str, width: int = 760, title: Optional[str] = None) -> str:
-        """The picture as SVG so many units wide, with a panel for each measure; the shares that succeeded where none is
-        named."""
+        """Returns the picture as SVG of this width, with a panel for each measure: `succeeded` if you name none."""
         from .storms.sweep_picture import sweep_picture
 
         return sweep_picture(self, measures or ("succeeded",), width=width, title=title)
@@ -59,7 +58,7 @@ class Sweep:
         return self.svg()
 
     def to_csv(self) -> str:
-        """A line for each storm: the value, the policy, the limit and the totals."""
+        """Returns CSV with a line for each storm: the value, the policy, the limit and the totals."""
         text = io.StringIO()
         writer = csv.writer(text, lineterminator="\n")
         totals = [name.replace("_ms", "") for name in vars(self.lines[0][0].totals)]
@@ -71,7 +70,7 @@ class Sweep:
         return text.getvalue()
 
     def to_json(self) -> str:
-        """The same as JSON on one line."""
+        """Returns the same as JSON on one line."""
         lines = [
             {
                 "policy": json.loads(line[0].policy.to_json()),
@@ -84,8 +83,8 @@ class Sweep:
         return json.dumps(told, separators=(",", ":"))
 
     def table(self, *measures: str) -> str:
-        """A table for each measure: a row for each value, and a column for each line. A column has its line's name, or
-        its number where a terminal of 80 columns has no room for the names."""
+        """Returns a table for each measure, with a row for each value and a column for each line. A column is headed by
+        its line's name, or by its number if 80 columns have no room for the names."""
         tables = [(MEASURES[measure].title, self._rows(measure)) for measure in measures or ("succeeded",)]
         names = [name.replace("\u00a0", " ") for name in self.names]
         numbers = [str(number) for number in range(1, len(names) + 1)]
@@ -127,9 +126,9 @@ def _cell(number: Optional[float]) -> str:
 def sweep(storms: Union[Storm, Iterable[Storm]], **values: Iterable[Any]) -> Sweep:
     """Plays these storms again for each value of one parameter, on all cores. Each storm is a line.
 
-    The parameter is one of `storm` by its name there (`rate`, `together`, `seconds`, `capacity`, `patience`, `queue`);
-    `outage`, how long it is; `clients`, so many requests that come at one moment; or `share`, `reserve` or `budget`, of
-    the limits that have it.
+    The parameter is one of `storm`'s (`rate`, `together`, `seconds`, `capacity`, `patience`, `queue`); `outage`, the
+    length of the outage; `clients`, the number of requests that come at one moment; or `share`, `reserve` or `budget`
+    of the limits that have it.
 
     >>> from hikebox import Quota, exponential, recurs, storm
     >>> policy = recurs(8) & exponential(0.1, 2).cap(10).jittered(0, 1)
@@ -180,7 +179,7 @@ def swept(
 
 @dataclass(frozen=True)
 class Found:
-    """A border: with `value` the storm recovers, and with the next one tried it does not. None where it never does."""
+    """A border: with `value` the storm recovers, and with the next value it does not. None if it never recovers."""
 
     #: `quota`, `retries` or `patience`.
     what: str
@@ -190,7 +189,7 @@ class Found:
     tried: Tuple[Tuple[int, Storm], ...]
 
     def to_json(self) -> str:
-        """The answer and the storms that were tried, as JSON on one line."""
+        """Returns the border and the storms that were tried, as JSON on one line."""
         tried = [{"value": value, "totals": storm.totals_dict()} for value, storm in self.tried]
         return json.dumps({"find": self.what, "value": self.value, "tried": tried}, separators=(",", ":"))
 
@@ -253,9 +252,9 @@ _GOALS: Dict[str, _Goal] = {
 
 
 def find(storm: Storm, what: str) -> Found:
-    """The greatest share of a quota (`what` is `"quota"`), the most retries (`"retries"`) or the least patience
-    (`"patience"`) with which the peer of this storm still recovers, by bisection. The storm is tried with the value and
-    with the next one. A quota has the reserve and the window of the storm's, or 10 and a second where it has none.
+    """Finds the greatest share of a quota (`what` is `"quota"`), the most retries (`"retries"`) or the least patience
+    (`"patience"`) with which the peer of this storm still recovers, by bisection. It plays the storm with that value
+    and with the next one. The quota takes its reserve and window from the storm's, or else 10 and a second.
 
     >>> from hikebox import recurs, spaced, storm
     >>> find(storm(recurs(8) & spaced(0.1)), "retries").value

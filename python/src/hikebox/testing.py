@@ -1,4 +1,4 @@
-"""For tests of code that retries: a clock that goes on by sleeping, and a switch that leaves all waits out."""
+"""For tests of code that retries: a clock whose sleeps take no time, and a switch that skips all waits."""
 
 from __future__ import annotations
 
@@ -12,8 +12,8 @@ __all__ = ["VirtualClock", "no_waits"]
 
 @contextlib.contextmanager
 def no_waits() -> Iterator[None]:
-    """Leaves out the waits of all retries of the process, also of functions that were decorated before: they go on at
-    once, as if the time had passed. Nothing else changes: policies, budgets and hooks are as ever.
+    """Skips the waits of all retries of the process, including those of functions decorated before. Each retry goes on
+    at once, as if the time had passed. Nothing else changes: policies, budgets and hooks work as before.
 
     >>> from hikebox import recurs, retry, spaced
     >>> @retry(recurs(3) & spaced(3600))
@@ -31,7 +31,7 @@ def no_waits() -> Iterator[None]:
 
 
 class VirtualClock:
-    """A clock of its own. It stands still but for its sleeps, which take no time, and notes them.
+    """A simulated clock. Only its own sleeps move it; they take no time, and it lists them in `slept`.
 
     >>> from hikebox import Retrying, exponential, recurs
     >>> clock = VirtualClock()
@@ -53,7 +53,7 @@ class VirtualClock:
         return self._now
 
     def sleep(self, seconds: float) -> None:
-        """Goes on by so many seconds."""
+        """Moves the clock on by this many seconds, and lists the sleep."""
         self.slept.append(seconds)
         self._now += seconds
 
@@ -62,5 +62,5 @@ class VirtualClock:
         self.sleep(seconds)
 
     def advance(self, seconds: float) -> None:
-        """Goes on by so many seconds, as while a call runs."""
+        """Moves the clock on by this many seconds, as while a call runs."""
         self._now += seconds

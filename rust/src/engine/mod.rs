@@ -4,6 +4,7 @@
 
 #[cfg(feature = "leased")]
 mod leased;
+mod limit;
 mod pass;
 mod policy;
 mod retry;
@@ -14,12 +15,15 @@ use sys::*;
 
 #[cfg(feature = "leased")]
 pub(crate) use leased::{lease_of_budget, lease_of_quota, quota_allows, LeasedDraw, LeasedKind, Taken};
+pub(crate) use limit::{LimitKind, Refusal};
 pub(crate) use pass::PassKind;
 pub(crate) use policy::{fault, PolicyKind, Size};
 pub(crate) use retry::RetryKind;
 #[cfg(feature = "leased")]
 pub(crate) use sys::{Asking, Grant, Range, Stored, Ticket};
-pub(crate) use sys::{Course, Event, Line, Next, Place, Storm, Totals, Used, Window};
+pub(crate) use sys::{BreakerTerms, BucketTerms};
+pub(crate) use sys::{Course, Event, Line, Next, Place, Run, Storm, Totals, Used, Window};
+pub(crate) use sys::{BREAKER_OPEN, LEVEL_LOW, PROBING, REQUESTS_FULL, RETRIES_FULL, THROTTLED};
 pub(crate) use sys::{ENDED_CANCELLED, ENDED_DEADLINE, ENDED_DONE, ENDED_NO_MEMORY, ENDED_REFUSED, ENDED_WON};
 pub(crate) use sys::{
     LOST, MAX_NUMBER, MAX_STEPS, MAX_TICKETS, NO_DEADLINE, NO_REPORT, ON_BUDGET, ON_NOTHING, ON_QUOTA, OVER, WAIT, WON,

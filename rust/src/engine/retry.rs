@@ -28,6 +28,41 @@ impl Handle<RetryKind> {
         Self::begun(policy, &mut Handle::unlimited()?, deadline)
     }
 
+    /// One whose first run was this, and tells what it is at.
+    pub(crate) fn after(
+        policy: &mut Handle<PolicyKind>,
+        pass: &mut Handle<PassKind>,
+        deadline: u64,
+        run: &Run,
+        told: &mut Next,
+    ) -> Result<Self, Status> {
+        let mut retry = Self::begun(policy, pass, deadline)?;
+        retry.ran(run, told);
+        Ok(retry)
+    }
+
+    /// The same, drawing on nothing.
+    pub(crate) fn after_on_nothing(
+        policy: &mut Handle<PolicyKind>,
+        deadline: u64,
+        run: &Run,
+        told: &mut Next,
+    ) -> Result<Self, Status> {
+        Self::after(policy, &mut Handle::unlimited()?, deadline, run, told)
+    }
+
+    /// Begins this run, where one may begin, and ends it as it is reported; tells what it is at then, or says that it is
+    /// refused.
+    #[inline]
+    pub(crate) fn ran(&mut self, run: &Run, told: &mut Next) -> bool {
+        let status = unsafe { hikebox_retry_ran(self.raw(), run, told) };
+        if status == OK {
+            return true;
+        }
+        // (past its deadline it is over at the beginning of the run)
+        self.poll(run.began, &run.words, NO_REPORT, 0, told)
+    }
+
     /// Steps it, and tells what it is at; or says that it is refused, as a report of no run is, and what was told
     /// before stays.
     #[inline]

@@ -59,6 +59,17 @@ pub(crate) struct Next {
     pub(crate) left: u64,
 }
 
+/// A whole run of a retry: when it began and ended, how that is reported, and the random words of the step that follows.
+#[repr(C)]
+#[derive(Clone, Copy, Debug)]
+pub(crate) struct Run {
+    pub(crate) began: u64,
+    pub(crate) ended: u64,
+    pub(crate) code: u64,
+    pub(crate) report: u32,
+    pub(crate) words: [u32; 4],
+}
+
 #[repr(C)]
 #[derive(Clone, Copy, Debug, Default)]
 pub(crate) struct Used {
@@ -116,6 +127,28 @@ pub(crate) struct Grant {
     pub(crate) first: u64,
     pub(crate) tickets: u64,
     pub(crate) until: u64,
+}
+
+/// A bucket, in thousandths of a token.
+#[repr(C)]
+#[derive(Clone, Copy, Debug, Default)]
+pub(crate) struct BucketTerms {
+    pub(crate) size: usize,
+    pub(crate) capacity: u64,
+    pub(crate) floor: u64,
+    pub(crate) debit: u64,
+    pub(crate) credit: u64,
+    pub(crate) refund: bool,
+}
+
+/// A breaker without its open times.
+#[repr(C)]
+#[derive(Clone, Copy, Debug, Default)]
+pub(crate) struct BreakerTerms {
+    pub(crate) size: usize,
+    pub(crate) failures: u64,
+    pub(crate) probes: u64,
+    pub(crate) deadline: u64,
 }
 
 #[repr(C)]
@@ -208,6 +241,13 @@ pub(super) const NOT_OUT: u32 = 51;
 #[cfg(feature = "leased")]
 pub(super) const HELD_ALREADY: u32 = 52;
 
+pub(crate) const LEVEL_LOW: u32 = 60;
+pub(crate) const REQUESTS_FULL: u32 = 61;
+pub(crate) const RETRIES_FULL: u32 = 62;
+pub(crate) const BREAKER_OPEN: u32 = 63;
+pub(crate) const PROBING: u32 = 64;
+pub(crate) const THROTTLED: u32 = 65;
+
 pub(crate) const NO_REPORT: u32 = 0;
 pub(crate) const WON: u32 = 1;
 pub(crate) const LOST: u32 = 2;
@@ -289,6 +329,32 @@ extern "C" {
     ) -> u32;
     pub(super) fn hikebox_policy_free(policy: *mut Raw) -> u32;
 
+    pub(super) fn hikebox_bucket_new(bucket: *const BucketTerms, limit: *mut Raw) -> u32;
+    pub(super) fn hikebox_in_flight_new(least: u32, share: u32, limit: *mut Raw) -> u32;
+    pub(super) fn hikebox_breaker_new(
+        now: u64,
+        breaker: *const BreakerTerms,
+        times: *const u64,
+        count: usize,
+        limit: *mut Raw,
+    ) -> u32;
+    pub(super) fn hikebox_throttle_new(now: u64, ratio: u32, period: u64, limit: *mut Raw) -> u32;
+    pub(super) fn hikebox_limit_both(limit: *mut Raw, second: *mut Raw) -> u32;
+    pub(super) fn hikebox_limit_split(limit: *mut Raw, part: *mut Raw) -> u32;
+    pub(super) fn hikebox_limit_admit(limit: *mut Raw, now: u64, random: u32, number: *mut u64) -> u32;
+    pub(super) fn hikebox_limit_draw(
+        limit: *mut Raw,
+        now: u64,
+        cost: u64,
+        random: u32,
+        number: *mut u64,
+    ) -> u32;
+    pub(super) fn hikebox_limit_failed(limit: *mut Raw, now: u64) -> u32;
+    pub(super) fn hikebox_limit_succeeded(limit: *mut Raw, now: u64) -> u32;
+    pub(super) fn hikebox_limit_cancelled(limit: *mut Raw) -> u32;
+    pub(super) fn hikebox_limit_ended(limit: *mut Raw) -> u32;
+    pub(super) fn hikebox_limit_free(limit: *mut Raw) -> u32;
+
     pub(super) fn hikebox_budget_fixed(limit: u64, pass: *mut Raw) -> u32;
     pub(super) fn hikebox_budget_rising(limit: u64, pass: *mut Raw) -> u32;
     pub(super) fn hikebox_quota_new(
@@ -321,6 +387,7 @@ extern "C" {
         code: u64,
         next: *mut Next,
     ) -> u32;
+    pub(super) fn hikebox_retry_ran(retry: *mut Raw, run: *const Run, next: *mut Next) -> u32;
     pub(super) fn hikebox_retry_cancel(retry: *mut Raw) -> u32;
     pub(super) fn hikebox_retry_end(retry: *mut Raw, pass: *mut Raw) -> u32;
     pub(super) fn hikebox_retry_free(retry: *mut Raw) -> u32;

@@ -7,6 +7,7 @@ mod uptime;
 
 pub use folder::StoreError;
 
+use crate::clock::Moment;
 use crate::engine::{lease_of_budget, lease_of_quota, Asking, Range, Stored, MAX_TICKETS};
 use crate::leased::folder::{Folder, Key};
 use crate::leased::share::{Answer, Share, Tell, AGAIN_AFTER};
@@ -18,7 +19,7 @@ use crate::limits::ticket::{NoTicket, Ticket};
 use crate::limits::uses::{options_of_uses, Uses};
 use std::path::Path;
 use std::sync::Arc;
-use std::time::{Duration, Instant};
+use std::time::Duration;
 
 /// A budget that all processes with the same folder and name share, including those of the Python package
 /// (`hikebox.Leased`). Threads can share it; it is cheap to clone, and all clones draw from one lease.
@@ -349,7 +350,7 @@ impl Limit for LeasedQuota {
         Source::Store(Arc::new(self.clone()))
     }
 
-    fn count_request(&self, _now: Instant) {
+    fn count_request(&self, _now: Moment) {
         Tickets::deposit(self);
     }
 
@@ -357,7 +358,7 @@ impl Limit for LeasedQuota {
         true
     }
 
-    fn count_success(&self, last: Option<Ticket>, _clock: &dyn Fn() -> Instant) {
+    fn count_success(&self, last: Option<Ticket>, _clock: &dyn Fn() -> Moment) {
         self.succeeded(last);
     }
 }

@@ -2,6 +2,7 @@
 
 use crate::engine::{Handle, PassKind, Status};
 use crate::limits::part::{Part, Root};
+use crate::limits::slots::Slots;
 use crate::limits::ticket::{NoTicket, Ticket};
 use crate::system::PerProcess;
 use std::error::Error;
@@ -35,8 +36,14 @@ pub struct Budget {
 struct Shared {
     limit: AtomicU64,
     rises: bool,
+    passes: PerProcess<Passes>,
+}
+
+struct Passes {
     /// The first pass, which others are split off and joined into.
-    root: PerProcess<Mutex<Handle<PassKind>>>,
+    root: Mutex<Handle<PassKind>>,
+    /// Those from which threads split the passes of their retries.
+    own: Slots<Handle<PassKind>>,
 }
 
 /// The right to draw tickets of a [`Budget`], for one thread at a time. A pass that is dropped adds its tickets to the
@@ -67,6 +74,8 @@ pub enum BudgetError {
         /// Its length, in bytes.
         bytes: usize,
     },
+    /// A number of a bucket, of what is in flight, of a breaker or of a throttle is out of its range.
+    OutOfRange,
     /// More than 2^42 passes are alive.
     TooManyPasses,
     /// Memory ran out.
@@ -128,7 +137,8 @@ impl Budget {
     /// The number of tickets that were drawn by retries that have ended and by passes that were dropped.
     #[must_use]
     pub fn granted(&self) -> u64 {
-        self.lock().count()
+        let root = self.lock().count();
+        root + self.passes().own.sum(Handle::<PassKind>::count)
     }
 
     /// Closes the budget if no other clone, no pass and no retry of it is alive, and returns the exact number of
@@ -138,25 +148,60 @@ impl Budget {
     ///
     /// The budget itself, if something of it is alive.
     pub fn close(self) -> Result<u64, Self> {
-        let Shared { limit, rises, root } = Arc::try_unwrap(self.shared).map_err(|shared| Self { shared })?;
-        let mut root = match root.into_inner() {
-            Some(root) => root.into_inner().unwrap_or_else(PoisonError::into_inner),
+        let Shared { limit, rises, passes } = Arc::try_unwrap(self.shared).map_err(|shared| Self { shared })?;
+        let Passes { root, own } = match passes.into_inner() {
+            Some(passes) => passes,
             // (in a forked child that drew none)
             None => return Ok(0),
         };
-        root.close()
-            .map_err(|_| Self { shared: Arc::new(Shared { limit, rises, root: PerProcess::new(Mutex::new(root)) }) })
+        let mut root = root.into_inner().unwrap_or_else(PoisonError::into_inner);
+        own.into_values().for_each(|pass| root.join(pass));
+        root.close().map_err(|_| Self::of(limit.into_inner(), rises, root))
+    }
+
+    /// Lends a pass to a call that begins or ends a retry: that of this thread, or the first one where another thread uses
+    /// that, or it has no part to give.
+    #[inline]
+    pub(crate) fn with_own<T>(
+        &self,
+        mut call: impl FnMut(&mut Handle<PassKind>) -> Result<T, Status>,
+    ) -> Result<T, Status> {
+        let own = |slot: &mut Option<Handle<PassKind>>| match slot {
+            Some(pass) => call(pass),
+            None => call(slot.insert(self.lock().split()?)),
+        };
+        match self.passes().own.own(own) {
+            Some(Err(Status::TooManyPasses)) | None => call(&mut self.lock()),
+            Some(given) => given,
+        }
     }
 
     fn lock(&self) -> MutexGuard<'_, Handle<PassKind>> {
-        let Shared { limit, rises, root } = &*self.shared;
-        let anew = || Mutex::new(root_of(limit.load(Ordering::Relaxed), *rises).expect("memory for a budget"));
-        root.get(anew).lock().unwrap_or_else(PoisonError::into_inner)
+        self.passes().root.lock().unwrap_or_else(PoisonError::into_inner)
+    }
+
+    /// The passes of this process.
+    #[inline]
+    fn passes(&self) -> &Passes {
+        let Shared { limit, rises, passes } = &*self.shared;
+        let root = || root_of(limit.load(Ordering::Relaxed), *rises).expect("memory for a budget");
+        passes.get(|| Passes::of(root()))
     }
 
     fn made(limit: u64, rises: bool) -> Result<Self, BudgetError> {
-        let root = PerProcess::new(Mutex::new(root_of(limit, rises).map_err(BudgetError::of)?));
-        Ok(Self { shared: Arc::new(Shared { limit: AtomicU64::new(limit), rises, root }) })
+        let root = root_of(limit, rises).map_err(BudgetError::of)?;
+        Ok(Self::of(limit, rises, root))
+    }
+
+    fn of(limit: u64, rises: bool, root: Handle<PassKind>) -> Self {
+        let passes = PerProcess::new(Passes::of(root));
+        Self { shared: Arc::new(Shared { limit: AtomicU64::new(limit), rises, passes }) }
+    }
+}
+
+impl Passes {
+    fn of(root: Handle<PassKind>) -> Self {
+        Self { root: Mutex::new(root), own: Slots::default() }
     }
 }
 
@@ -235,6 +280,7 @@ impl fmt::Display for BudgetError {
             }
             Self::PeriodTooShort => "expected a window of at least 100 milliseconds, got a shorter one",
             Self::PeriodTooLong => "expected a window of at most 2^62 - 1 milliseconds, got a longer one",
+            Self::OutOfRange => "expected the numbers of a limit within their ranges, got one that is not",
             Self::TooManyPasses => "expected at most 2^42 passes at once, got one more",
             Self::NoMemory => "no memory",
         })

@@ -1,7 +1,6 @@
 //! What retries draw on.
 
-#[cfg(feature = "tower")]
-use crate::clock::now;
+use crate::clock::Moment;
 #[cfg(feature = "leased")]
 use crate::leased::{Leased, LeasedQuota};
 use crate::limits::budget::Budget;
@@ -9,7 +8,6 @@ use crate::limits::quota::Quota;
 use crate::limits::ticket::{NoTicket, Ticket};
 use std::fmt;
 use std::sync::Arc;
-use std::time::Instant;
 
 /// What retries can draw their tickets on: a [`Budget`], a [`Quota`], an `Arc` of your own store of [`Tickets`], or
 /// [`Unlimited`] for no limit; with the feature `leased` also `Leased` and `LeasedQuota`. Everything that retries takes
@@ -138,7 +136,7 @@ pub trait Tickets: Send + Sync {
 }
 
 mod sealed {
-    use super::{Instant, Source, Ticket};
+    use super::{Moment, Source, Ticket};
 
     /// What a retry draws on, and by which clock.
     pub trait Limit: Send + Sync + 'static {
@@ -146,7 +144,7 @@ mod sealed {
         fn source(&self) -> Source;
 
         /// A request is made at this moment: a quota, or a store, counts it.
-        fn count_request(&self, _now: Instant) {}
+        fn count_request(&self, _now: Moment) {}
 
         /// Whether it is told of successes.
         fn hears_of_successes(&self) -> bool {
@@ -154,10 +152,10 @@ mod sealed {
         }
 
         /// A request has succeeded, of a store with the ticket of its last retry: one that counts successes counts it.
-        fn count_success(&self, _last: Option<Ticket>, _clock: &dyn Fn() -> Instant) {}
+        fn count_success(&self, _last: Option<Ticket>, _clock: &dyn Fn() -> Moment) {}
 
         /// Moment 0 of a retry that began then, in milliseconds: of a quota it is the one on the quota's clock.
-        fn origin(&self, _began: Instant) -> u64 {
+        fn origin(&self, _began: Moment) -> u64 {
             0
         }
     }
@@ -179,7 +177,7 @@ impl Source {
     /// A request is made now. The clock is looked at only where that matters.
     pub(crate) fn count_request_now(&self) {
         match self {
-            Self::Quota(quota) if !quota.counts_successes() => quota.deposit_by_clock(now()),
+            Self::Quota(quota) if !quota.counts_successes() => quota.deposit_by_clock(Moment::now()),
             Self::Store(store) => store.deposit(),
             Self::Budget(_) | Self::Quota(_) | Self::Unlimited => (),
         }
@@ -187,7 +185,7 @@ impl Source {
 
     /// A request has succeeded now.
     pub(crate) fn count_success_now(&self, last: Option<Ticket>) {
-        self.count_success(last, &now);
+        self.count_success(last, &Moment::now);
     }
 }
 
@@ -196,7 +194,7 @@ impl Limit for Source {
         self.clone()
     }
 
-    fn count_request(&self, now: Instant) {
+    fn count_request(&self, now: Moment) {
         match self {
             Self::Quota(quota) => quota.count_request(now),
             Self::Store(store) => store.deposit(),
@@ -204,7 +202,7 @@ impl Limit for Source {
         }
     }
 
-    fn count_success(&self, last: Option<Ticket>, clock: &dyn Fn() -> Instant) {
+    fn count_success(&self, last: Option<Ticket>, clock: &dyn Fn() -> Moment) {
         match self {
             Self::Quota(quota) => quota.count_success(last, clock),
             Self::Store(store) => store.succeeded(last),
@@ -220,7 +218,7 @@ impl Limit for Source {
         }
     }
 
-    fn origin(&self, began: Instant) -> u64 {
+    fn origin(&self, began: Moment) -> u64 {
         match self {
             Self::Quota(quota) => quota.origin(began),
             Self::Budget(_) | Self::Store(_) | Self::Unlimited => 0,
@@ -239,7 +237,7 @@ impl Limit for Quota {
         Source::Quota(self.clone())
     }
 
-    fn count_request(&self, now: Instant) {
+    fn count_request(&self, now: Moment) {
         if !self.counts_successes() {
             self.deposit_by_clock(now);
         }
@@ -249,13 +247,13 @@ impl Limit for Quota {
         self.counts_successes() || self.returns_tickets()
     }
 
-    fn count_success(&self, _last: Option<Ticket>, clock: &dyn Fn() -> Instant) {
+    fn count_success(&self, _last: Option<Ticket>, clock: &dyn Fn() -> Moment) {
         if self.counts_successes() {
             self.deposit_by_clock(clock());
         }
     }
 
-    fn origin(&self, began: Instant) -> u64 {
+    fn origin(&self, began: Moment) -> u64 {
         self.millis_at(began)
     }
 }
@@ -265,7 +263,7 @@ impl<S: Tickets + 'static> Limit for Arc<S> {
         Source::Store(self.clone())
     }
 
-    fn count_request(&self, _now: Instant) {
+    fn count_request(&self, _now: Moment) {
         self.deposit();
     }
 
@@ -273,7 +271,7 @@ impl<S: Tickets + 'static> Limit for Arc<S> {
         true
     }
 
-    fn count_success(&self, last: Option<Ticket>, _clock: &dyn Fn() -> Instant) {
+    fn count_success(&self, last: Option<Ticket>, _clock: &dyn Fn() -> Moment) {
         self.succeeded(last);
     }
 }
@@ -297,7 +295,7 @@ impl Limit for AnyBudget {
         self.get().source()
     }
 
-    fn count_request(&self, now: Instant) {
+    fn count_request(&self, now: Moment) {
         self.get().count_request(now);
     }
 
@@ -305,11 +303,11 @@ impl Limit for AnyBudget {
         self.get().hears_of_successes()
     }
 
-    fn count_success(&self, last: Option<Ticket>, clock: &dyn Fn() -> Instant) {
+    fn count_success(&self, last: Option<Ticket>, clock: &dyn Fn() -> Moment) {
         self.get().count_success(last, clock);
     }
 
-    fn origin(&self, began: Instant) -> u64 {
+    fn origin(&self, began: Moment) -> u64 {
         self.get().origin(began)
     }
 }

@@ -1,14 +1,19 @@
 //! Limits: what retries draw their tickets on.
 
 pub(crate) mod budget;
+mod call_limit;
 mod counters;
 pub(crate) mod grants;
 pub(crate) mod part;
 pub(crate) mod quota;
+mod slots;
 pub(crate) mod ticket;
 pub(crate) mod uses;
 
 pub use budget::{Budget, BudgetError, Pass};
+pub use call_limit::{
+    both, Breaker, Bucket, CallLimit, InFlight, LimitError, RefusalReason, Refused, Request, Terms, Throttle,
+};
 pub use grants::{AnyBudget, Grants, Tickets, Unlimited};
 pub use quota::{Quota, QuotaPass, Usage};
 pub use ticket::{NoTicket, StoreFailure, Ticket};

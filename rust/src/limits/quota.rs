@@ -1,6 +1,6 @@
 //! Quotas of retries, in windows of time.
 
-use crate::clock::{now, whole_millis};
+use crate::clock::{whole_millis, Moment};
 #[cfg(feature = "leased")]
 use crate::engine::{quota_allows, MAX_NUMBER, MAX_TICKETS};
 use crate::engine::{Handle, PassKind, RetryKind, Status, Used};
@@ -58,7 +58,7 @@ struct Made {
     /// How many milliseconds a window is long.
     period: u64,
     /// Moment 0.
-    began: Instant,
+    began: Moment,
     /// The moment from whose window on windows are counted, in milliseconds.
     from: u64,
 }
@@ -134,7 +134,7 @@ impl Quota {
     ///
     /// [`BudgetError`] says which argument is out of its range.
     pub fn new(reserve: u64, share: f64, per: Duration) -> Result<Self, BudgetError> {
-        Self::new_at(now(), reserve, share, per)
+        Self::made(Duration::ZERO, Moment::now(), Terms::new(reserve, share, per)?, false)
     }
 
     /// [`Quota::new`] with windows that are counted from `began`, for instance a moment of a clock that a test has
@@ -144,7 +144,7 @@ impl Quota {
     ///
     /// [`BudgetError`] says which argument is out of its range.
     pub fn new_at(began: Instant, reserve: u64, share: f64, per: Duration) -> Result<Self, BudgetError> {
-        Self::made(Duration::ZERO, began, Terms::new(reserve, share, per)?, false)
+        Self::made(Duration::ZERO, Moment::of(began), Terms::new(reserve, share, per)?, false)
     }
 
     /// [`Quota::new`] for a host with a clock of its own that now reads `moment`. Windows are counted from the one in
@@ -157,7 +157,7 @@ impl Quota {
     ///
     /// [`BudgetError`] says which argument is out of its range.
     pub fn new_of_host(moment: Duration, reserve: u64, share: f64, per: Duration) -> Result<Self, BudgetError> {
-        Self::made(moment, beginning(moment), Terms::new(reserve, share, per)?, false)
+        Self::made(moment, Moment::now().before(moment), Terms::new(reserve, share, per)?, false)
     }
 
     /// [`Quota::new`], but the quota carries: each window can also draw, once, what the window before left of its
@@ -181,7 +181,7 @@ impl Quota {
     ///
     /// [`BudgetError`] says which argument is out of its range.
     pub fn carrying(reserve: u64, share: f64, per: Duration) -> Result<Self, BudgetError> {
-        Self::carrying_at(now(), reserve, share, per)
+        Self::made(Duration::ZERO, Moment::now(), Terms::new(reserve, share, per)?, true)
     }
 
     /// [`Quota::carrying`] with windows that are counted from `began`, as by [`Quota::new_at`].
@@ -190,7 +190,7 @@ impl Quota {
     ///
     /// [`BudgetError`] says which argument is out of its range.
     pub fn carrying_at(began: Instant, reserve: u64, share: f64, per: Duration) -> Result<Self, BudgetError> {
-        Self::made(Duration::ZERO, began, Terms::new(reserve, share, per)?, true)
+        Self::made(Duration::ZERO, Moment::of(began), Terms::new(reserve, share, per)?, true)
     }
 
     /// [`Quota::carrying`] for a host with a clock of its own that now reads `moment`, as by [`Quota::new_of_host`].
@@ -199,10 +199,10 @@ impl Quota {
     ///
     /// [`BudgetError`] says which argument is out of its range.
     pub fn carrying_of_host(moment: Duration, reserve: u64, share: f64, per: Duration) -> Result<Self, BudgetError> {
-        Self::made(moment, beginning(moment), Terms::new(reserve, share, per)?, true)
+        Self::made(moment, Moment::now().before(moment), Terms::new(reserve, share, per)?, true)
     }
 
-    fn made(moment: Duration, began: Instant, terms: Terms, carries: bool) -> Result<Self, BudgetError> {
+    fn made(moment: Duration, began: Moment, terms: Terms, carries: bool) -> Result<Self, BudgetError> {
         let Terms { reserve, share, period } = terms;
         let terms = AtomicTerms::new(reserve, share);
         let made = Made { terms, carries, period, began, from: whole_millis(moment) };
@@ -289,12 +289,12 @@ impl Quota {
 
     /// Counts a request. Calls that are retried on the quota are counted by themselves.
     pub fn deposit(&self) {
-        self.deposit_by_clock(now());
+        self.deposit_by_clock(Moment::now());
     }
 
     /// Counts several requests at once: an expensive one, or those of a while.
     pub fn deposit_of(&self, requests: u32) {
-        self.count(now(), requests);
+        self.count(Moment::now(), requests);
     }
 
     /// [`Quota::deposit`] at a moment of a host with a clock of its own: the time since one that it chooses.
@@ -310,7 +310,7 @@ impl Quota {
 
     /// Counts a request at this instant.
     #[inline]
-    pub(crate) fn deposit_by_clock(&self, now: Instant) {
+    pub(crate) fn deposit_by_clock(&self, now: Moment) {
         if !self.passes().counters.count_one(now) {
             self.count(now, 1);
         }
@@ -319,27 +319,26 @@ impl Quota {
     /// Counts requests at this instant, by this thread's counter, which comes to the instant's window; or by the
     /// quota's first pass, where another thread uses the counter, or they are more than it counts at once.
     #[cold]
-    fn count(&self, now: Instant, requests: u32) {
+    fn count(&self, now: Moment, requests: u32) {
         let Made { began, period, .. } = self.shared.made;
         let first = self.millis_at(now) / period * period;
         let counted = self.passes().counters.own(|counter| {
-            if let Some(ends) = began.checked_add(Duration::from_millis(first.saturating_add(period))) {
-                *counter = match counter.take() {
-                    Some(counter) => Some(Counter { first, ends, ..counter }),
-                    None => self.lock().split().ok().map(|pass| Counter { pass, first, ends }),
-                };
-            }
+            let ends = began.after(Duration::from_millis(first.saturating_add(period)));
+            *counter = match counter.take() {
+                Some(counter) => Some(Counter { first, ends, ..counter }),
+                None => self.lock().split().ok().map(|pass| Counter { pass, first, ends }),
+            };
             counter.as_mut().map_or(false, |counter| counter.count(now, requests))
         });
         if counted != Some(true) {
-            self.deposit_of_at(self.moment(now), requests);
+            self.deposit_of_at(self.shared.made.time_at(now), requests);
         }
     }
 
     /// The counts of the current window, and when the next begins.
     #[must_use]
     pub fn seen(&self) -> Usage {
-        self.seen_at(self.moment(now()))
+        self.seen_at(self.shared.made.time_at(Moment::now()))
     }
 
     /// [`Quota::seen`] at a moment of a host with a clock of its own.
@@ -358,12 +357,12 @@ impl Quota {
     /// The quota's moment at `now`: the time since it was made.
     #[must_use]
     pub fn moment(&self, now: Instant) -> Duration {
-        now.saturating_duration_since(self.shared.made.began)
+        self.shared.made.time_at(Moment::of(now))
     }
 
     /// The same in whole milliseconds.
-    pub(crate) fn millis_at(&self, now: Instant) -> u64 {
-        whole_millis(self.moment(now))
+    pub(crate) fn millis_at(&self, now: Moment) -> u64 {
+        now.millis_since(self.shared.made.began)
     }
 
     /// Closes the quota if no other clone, no pass and no retry of it is alive, and returns the exact number of tickets
@@ -417,6 +416,11 @@ impl Root for Quota {
 }
 
 impl Made {
+    /// The time since moment 0.
+    fn time_at(&self, now: Moment) -> Duration {
+        now.since(self.began)
+    }
+
     /// A first pass of these terms.
     fn root(&self, reserve: u64, share: u64) -> Result<Handle<PassKind>, Status> {
         Handle::quota(self.from, reserve, share, self.period, self.carries)
@@ -551,19 +555,13 @@ impl QuotaPass {
 
     /// The present moment of the quota.
     fn now(&self) -> Duration {
-        self.part.limit.moment(now())
+        self.part.limit.shared.made.time_at(Moment::now())
     }
 }
 
 fn usage(used: Used) -> Usage {
     let Used { window, asked, given, left, next, .. } = used;
     Usage { window, asked, given, left, next: Duration::from_millis(next) }
-}
-
-/// Moment 0 of a host whose clock tells this moment now.
-fn beginning(moment: Duration) -> Instant {
-    let now = now();
-    now.checked_sub(moment).unwrap_or(now)
 }
 
 /// The shortest window, in milliseconds.

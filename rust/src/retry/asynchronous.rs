@@ -1,5 +1,6 @@
 //! Retries of futures, on any runtime.
 
+use crate::clock::Clock;
 #[cfg(feature = "tokio")]
 use crate::limits::grants::Grants;
 use crate::limits::grants::Unlimited;
@@ -12,7 +13,7 @@ use crate::retry::host::SystemSleep;
 use crate::retry::host::{Host, Random};
 use crate::retry::retrying::Retrying;
 use std::future::Future;
-use std::time::{Duration, Instant};
+use std::time::Duration;
 
 /// A way to wait without blocking: any function of a [`Duration`] that returns a future.
 pub trait AsyncSleep {
@@ -169,7 +170,7 @@ retryable!(F: [AsyncFnMut() -> Result<T, E>] [] []);
 #[cfg(not(hikebox_async_closures))]
 retryable!(F: [FnMut() -> P] [, P] [P: Future<Output = Result<T, E>>]);
 
-impl<E, H: Hooked<E>, K: Fn() -> Instant, S: AsyncSleep, R: Random> Retrying<'_, E, (), H, Host<K, S, R>> {
+impl<E, H: Hooked<E>, K: Clock, S: AsyncSleep, R: Random> Retrying<'_, E, (), H, Host<K, S, R>> {
     /// [`Retrying::call`] for futures. Without the feature `tokio` it needs a [`Retrying::sleep`] of your runtime.
     ///
     /// # Errors
@@ -248,7 +249,7 @@ impl<E, H: Hooked<E>, K: Fn() -> Instant, S: AsyncSleep, R: Random> Retrying<'_,
     }
 }
 
-impl<E, F, H: Hooked<E>, K: Fn() -> Instant, S: AsyncSleep, R: Random> Retrying<'_, E, Async<F>, H, Host<K, S, R>> {
+impl<E, F, H: Hooked<E>, K: Clock, S: AsyncSleep, R: Random> Retrying<'_, E, Async<F>, H, Host<K, S, R>> {
     /// Runs the call until it succeeds. Between runs the task waits.
     ///
     /// # Errors
@@ -303,7 +304,7 @@ where
     F: FnMut() -> P + Send + 'a,
     P: Future<Output = Result<T, E>> + Send + 'a,
     H: Hooked<E> + Send + Sync + 'a,
-    K: Fn() -> Instant + Send + Sync + 'a,
+    K: Clock + Send + Sync + 'a,
     S: AsyncSleep + Send + Sync + 'a,
     S::Sleeping: Send,
     R: Random + Send + Sync + 'a,

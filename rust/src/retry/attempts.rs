@@ -1,12 +1,13 @@
 //! What the loops of a retry have in common: each attempt, and what follows it.
 
+use crate::clock::{Clock, Moment};
 use crate::retry::error::RetryError;
 use crate::retry::hooks::Hooked;
 use crate::retry::host::{Host, Random};
 use crate::retry::machine::Ending;
-use crate::retry::progress::{later, Lost, Progress};
+use crate::retry::progress::{Lost, Progress};
 use crate::retry::retrying::Retrying;
-use std::time::{Duration, Instant};
+use std::time::Duration;
 
 /// A run of a call, as [`Retrying::call_with`] passes it.
 #[derive(Clone, Copy, Debug, PartialEq, Eq, Hash)]
@@ -42,31 +43,51 @@ pub(crate) enum Then<T, E> {
     End(Result<T, RetryError<E>>),
 }
 
-impl<E, H: Hooked<E>, K: Fn() -> Instant, S, R: Random> Retrying<'_, E, (), H, Host<K, S, R>> {
+impl<E, H: Hooked<E>, K: Clock, S, R: Random> Retrying<'_, E, (), H, Host<K, S, R>> {
     /// A request, and its retry, whose first run begins.
+    #[inline]
     pub(crate) fn begin(&self) -> Progress {
-        let now = (self.host.clock)();
+        Progress::new(self.begins())
+    }
+
+    /// The moment at which a request begins, which is counted.
+    #[inline]
+    pub(crate) fn begins(&self) -> Moment {
+        let now = self.host.clock.moment();
         self.budget.get().count_request(now);
-        Progress::new(now)
+        now
+    }
+
+    /// A request whose first run succeeded.
+    #[inline]
+    pub(crate) fn succeeds_at_once(&self) {
+        if self.budget.get().hears_of_successes() {
+            self.budget.get().count_success(None, &|| self.host.clock.moment());
+        }
     }
 
     /// The first run, which begins with the retry.
+    #[inline]
     pub(crate) fn first(&self) -> Attempt {
         Attempt { number: 1, left: self.options.deadline }
     }
 
     /// What follows a run that ended so.
     pub(crate) fn after<T>(&self, progress: &mut Progress, ran: Result<T, E>) -> Then<T, E> {
-        let error = match ran {
+        match ran {
             Ok(value) => {
                 if self.budget.get().hears_of_successes() {
                     self.succeeded(progress);
                 }
-                return Then::End(Ok(value));
+                Then::End(Ok(value))
             }
-            Err(error) => error,
-        };
-        let now = (self.host.clock)();
+            Err(error) => self.fails(progress, error),
+        }
+    }
+
+    /// What follows a run that failed.
+    pub(crate) fn fails<T>(&self, progress: &mut Progress, error: E) -> Then<T, E> {
+        let now = self.host.clock.moment();
         if !self.hooks.when(&error) {
             return Then::End(Err(RetryError::NotRetried(error)));
         }
@@ -77,21 +98,21 @@ impl<E, H: Hooked<E>, K: Fn() -> Instant, S, R: Random> Retrying<'_, E, (), H, H
             Err(ended) => return Then::End(Err(progress.error(ended, error))),
         };
         self.hooks.notify(&error, wait);
-        if wait.is_zero() {
+        if wait.is_zero() || !self.options.notifies {
             return Then::Again { wait, error };
         }
-        Then::Again { wait: later(now, wait).saturating_duration_since((self.host.clock)()), error }
+        Then::Again { wait: now.after(wait).since(self.host.clock.moment()), error }
     }
 
     #[cold]
     fn succeeded(&self, progress: &mut Progress) {
-        self.budget.get().count_success(progress.won(), &self.host.clock);
+        self.budget.get().count_success(progress.won(), &|| self.host.clock.moment());
     }
 
     /// The next run, which begins after the wait for it, or how the retry ended.
     pub(crate) fn next(&self, progress: &mut Progress, last: Attempt) -> Result<Attempt, Ending> {
-        let began = progress.resume(&self.host.clock)?;
-        let left = |(deadline, now): (Duration, Instant)| deadline.saturating_sub(progress.passed(now));
+        let began = progress.resume(|| self.host.clock.moment())?;
+        let left = |(deadline, now): (Duration, Moment)| deadline.saturating_sub(progress.passed(now));
         Ok(Attempt { number: last.number + 1, left: self.options.deadline.zip(began).map(left) })
     }
 }

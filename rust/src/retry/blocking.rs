@@ -1,13 +1,14 @@
 //! Retries of calls that block their thread.
 
+use crate::clock::Clock;
 use crate::limits::grants::{Grants, Unlimited};
 use crate::policy::Policy;
 use crate::retry::attempts::{Attempt, Then};
 use crate::retry::error::RetryError;
 use crate::retry::hooks::Hooked;
 use crate::retry::host::{Host, Random, Sleep};
+use crate::retry::progress::Progress;
 use crate::retry::retrying::Retrying;
-use std::time::Instant;
 
 /// Runs the call until it succeeds: again after each failure, as the policy says, with a ticket of the budget for each
 /// retry. The first run takes none, and counts as a request of a [`Quota`](crate::Quota).
@@ -35,6 +36,7 @@ use std::time::Instant;
 /// # Errors
 ///
 /// [`RetryError`] with the last error of the call.
+#[inline]
 pub fn retry<T, E>(
     policy: &Policy,
     budget: &impl Grants,
@@ -72,12 +74,13 @@ impl<T, E, F: FnMut() -> Result<T, E>> BlockingRetryable<T, E> for F {}
 #[derive(Clone, Copy)]
 pub struct Blocking<F>(F);
 
-impl<E, H: Hooked<E>, K: Fn() -> Instant, S: Sleep, R: Random> Retrying<'_, E, (), H, Host<K, S, R>> {
+impl<E, H: Hooked<E>, K: Clock, S: Sleep, R: Random> Retrying<'_, E, (), H, Host<K, S, R>> {
     /// Runs the call until it succeeds. Between runs the thread sleeps.
     ///
     /// # Errors
     ///
     /// [`RetryError`] with the last error of the call.
+    #[inline]
     pub fn call<T>(&self, mut call: impl FnMut() -> Result<T, E>) -> Result<T, RetryError<E>> {
         self.call_with(|_| call())
     }
@@ -102,11 +105,30 @@ impl<E, H: Hooked<E>, K: Fn() -> Instant, S: Sleep, R: Random> Retrying<'_, E, (
     /// # Errors
     ///
     /// [`RetryError`] with the last error of the call.
+    #[inline]
     pub fn call_with<T>(&self, mut call: impl FnMut(Attempt) -> Result<T, E>) -> Result<T, RetryError<E>> {
-        let mut progress = self.begin();
-        let mut attempt = self.first();
+        let (began, first) = (self.begins(), self.first());
+        match call(first) {
+            Ok(value) => {
+                self.succeeds_at_once();
+                Ok(value)
+            }
+            Err(error) => self.calls_again(Progress::new(began), first, error, call),
+        }
+    }
+
+    /// The same after a first run that failed so.
+    #[cold]
+    fn calls_again<T>(
+        &self,
+        mut progress: Progress,
+        mut attempt: Attempt,
+        error: E,
+        mut call: impl FnMut(Attempt) -> Result<T, E>,
+    ) -> Result<T, RetryError<E>> {
+        let mut then = self.fails(&mut progress, error);
         loop {
-            let (wait, error) = match self.after(&mut progress, call(attempt)) {
+            let (wait, error) = match then {
                 Then::Again { wait, error } => (wait, error),
                 Then::End(result) => return result,
             };
@@ -117,11 +139,12 @@ impl<E, H: Hooked<E>, K: Fn() -> Instant, S: Sleep, R: Random> Retrying<'_, E, (
                 Ok(attempt) => attempt,
                 Err(ended) => return Err(progress.error(ended, error)),
             };
+            then = self.after(&mut progress, call(attempt));
         }
     }
 }
 
-impl<E, F, H: Hooked<E>, K: Fn() -> Instant, S: Sleep, R: Random> Retrying<'_, E, Blocking<F>, H, Host<K, S, R>> {
+impl<E, F, H: Hooked<E>, K: Clock, S: Sleep, R: Random> Retrying<'_, E, Blocking<F>, H, Host<K, S, R>> {
     /// Runs the call until it succeeds. Between runs the thread sleeps.
     ///
     /// # Errors

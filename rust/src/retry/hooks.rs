@@ -31,6 +31,7 @@ pub trait Hooked<E>: sealed::Hooks {
 }
 
 impl<E> PlainHooks<E> {
+    #[inline]
     pub(crate) fn plain() -> Self {
         Self { when: |_| true, code: |_| 0, retry_after: |_| None, notify: |_, _| () }
     }

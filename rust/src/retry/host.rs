@@ -1,8 +1,9 @@
 //! Where a retry takes its clock, its waits and its random words from.
 
-use crate::{clock, random};
+use crate::clock::SystemClock;
+use crate::random;
 use std::thread;
-use std::time::{Duration, Instant};
+use std::time::Duration;
 
 /// Where a retry takes its clock, its waits and its random words from.
 #[derive(Clone, Copy)]
@@ -13,7 +14,7 @@ pub struct Host<K, S, R> {
 }
 
 /// The system's clock, waits and random words; with the feature `tokio` tokio's clock, and its waits in futures.
-pub type SystemHost = Host<fn() -> Instant, SystemSleep, SystemRandom>;
+pub type SystemHost = Host<SystemClock, SystemSleep, SystemRandom>;
 
 /// Blocks the thread, or with the feature `tokio` lets the task wait.
 #[derive(Clone, Copy, Debug, Default)]
@@ -36,8 +37,9 @@ pub trait Random {
 }
 
 impl SystemHost {
+    #[inline]
     pub(crate) fn system() -> Self {
-        Self { clock: clock::now, sleep: SystemSleep, random: SystemRandom }
+        Self { clock: SystemClock, sleep: SystemSleep, random: SystemRandom }
     }
 }
 

@@ -1,7 +1,7 @@
 //! A retry as a machine that its host steps.
 
 use crate::clock::whole_millis;
-use crate::engine::{self, Handle, Next, RetryKind, MAX_NUMBER, NO_DEADLINE};
+use crate::engine::{self, Handle, Next, RetryKind, Run, MAX_NUMBER, NO_DEADLINE};
 use crate::limits::budget::BudgetError;
 use crate::limits::grants::{Grants, Source, Tickets};
 use crate::limits::part::Root;
@@ -42,7 +42,7 @@ pub struct Machine {
     handle: Option<Handle<RetryKind>>,
     source: Source,
     /// What was drawn of the source, where that is a store.
-    drawn: Drawn,
+    drawn: Option<Box<Drawn>>,
     /// The process in which it began.
     generation: u64,
     deadline: u64,
@@ -116,6 +116,10 @@ pub enum Cause {
     StoreFailed,
 }
 
+/// What was told of a machine before its first step.
+const NOTHING_TOLD: Next =
+    Next { size: mem::size_of::<Next>(), what: 0, how: 0, until: 0, granted: 0, runs: 0, left: 0 };
+
 impl Machine {
     /// A retry by this policy on this limit, which has not begun.
     ///
@@ -158,18 +162,35 @@ impl Machine {
             Source::Quota(quota) => quota.with(|root| Handle::begun(policy, root, deadline)),
             Source::Store(_) | Source::Unlimited => Handle::on_nothing(policy, deadline),
         });
-        let handle = Some(handle.map_err(BudgetError::of)?);
-        let told = Next { size: mem::size_of::<Next>(), ..Next::default() };
-        Ok(Self {
-            handle,
-            source,
-            drawn: Drawn::default(),
-            generation: generation(),
-            deadline,
-            told,
-            waits: false,
-            won: false,
-        })
+        Ok(Self::of(handle.map_err(BudgetError::of)?, source, deadline, NOTHING_TOLD))
+    }
+
+    /// The machine of a retry whose first run was this, and what it is at then, as [`Machine::step_at`] answers it.
+    pub(crate) fn after(
+        policy: &Policy,
+        source: Source,
+        deadline: u64,
+        run: &Run,
+    ) -> Result<(Self, Result<Option<u64>, Ending>), BudgetError> {
+        let mut told = NOTHING_TOLD;
+        let handle = policy.with(|policy| match &source {
+            Source::Budget(budget) => budget.with_own(|pass| Handle::after(policy, pass, deadline, run, &mut told)),
+            Source::Quota(quota) => quota.with(|root| Handle::after(policy, root, deadline, run, &mut told)),
+            Source::Store(_) | Source::Unlimited => Handle::after_on_nothing(policy, deadline, run, &mut told),
+        });
+        let mut machine = Self::of(handle.map_err(BudgetError::of)?, source, deadline, told);
+        let next = machine.next();
+        Ok((machine, next))
+    }
+
+    #[inline]
+    fn of(handle: Handle<RetryKind>, source: Source, deadline: u64, told: Next) -> Self {
+        let drawn = match source {
+            Source::Store(_) => Some(Box::default()),
+            _ => None,
+        };
+        let generation = generation();
+        Self { handle: Some(handle), source, drawn, generation, deadline, told, waits: false, won: false }
     }
 
     /// Steps the machine at the moment `now`, which is not before that of the last step, with the system's random
@@ -196,8 +217,24 @@ impl Machine {
         words: &[u32; 4],
     ) -> Result<Option<u64>, Ending> {
         self.poll(now, report, words);
-        if let Source::Store(store) = &self.source {
-            if let Some(ended) = self.drawn.refuses(&**store, self.told.granted) {
+        self.next()
+    }
+
+    /// A run is made, where one may begin: the moment to wait for then, or `None` where the next run is under way.
+    #[inline]
+    pub(crate) fn ran(&mut self, run: &Run) -> Result<Option<u64>, Ending> {
+        if let Some(handle) = &mut self.handle {
+            let told = handle.ran(run, &mut self.told);
+            debug_assert!(!told || self.told.left == self.left_at(run.ended));
+        }
+        self.next()
+    }
+
+    /// What it is at, as its last step told.
+    #[inline]
+    fn next(&mut self) -> Result<Option<u64>, Ending> {
+        if let (Source::Store(store), Some(drawn)) = (&self.source, &mut self.drawn) {
+            if let Some(ended) = drawn.refuses(&**store, self.told.granted) {
                 self.cancel();
                 return Err(ended);
             }
@@ -226,7 +263,7 @@ impl Machine {
     /// Its run succeeded, and it is not stepped any more: the ticket of its last retry, of a store.
     pub(crate) fn succeeded(&mut self) -> Option<Ticket> {
         self.won = true;
-        self.drawn.ticket.take()
+        self.drawn.as_mut().and_then(|drawn| drawn.ticket.take())
     }
 
     fn poll(&mut self, now: u64, report: Option<Report>, words: &[u32; 4]) {
@@ -244,9 +281,9 @@ impl Machine {
     /// The number of retries that were granted.
     #[must_use]
     pub fn granted(&self) -> u64 {
-        match self.source {
-            Source::Store(_) => self.drawn.granted,
-            _ => self.told.granted,
+        match &self.drawn {
+            Some(drawn) => drawn.granted,
+            None => self.told.granted,
         }
     }
 
@@ -278,7 +315,7 @@ impl Machine {
     /// Why the store of tickets failed, if it did.
     #[must_use]
     pub fn store_failure(&self) -> Option<&StoreFailure> {
-        self.drawn.failure.as_ref()
+        self.drawn.as_ref().and_then(|drawn| drawn.failure.as_ref())
     }
 
     /// Ends the retry as cancelled, if it is not over. On a quota, the latest ticket goes back when the machine is
@@ -299,11 +336,22 @@ impl Drop for Machine {
             _ => return,
         };
         match &self.source {
-            Source::Budget(budget) => budget.with(|root| handle.end(root)),
+            Source::Budget(budget) => {
+                let mut handle = Some(handle);
+                let ended = budget.with_own(|pass| {
+                    if let Some(handle) = handle.take() {
+                        handle.end(pass);
+                    }
+                    Ok(())
+                });
+                debug_assert_eq!(ended, Ok(()));
+            }
             Source::Quota(quota) => quota.end(handle, self.waits || (self.won && quota.returns_tickets())),
             Source::Store(store) => {
-                if let (true, Some(ticket)) = (self.waits, self.drawn.ticket.take()) {
-                    store.hand_back(ticket);
+                if let (true, Some(drawn)) = (self.waits, &mut self.drawn) {
+                    if let Some(ticket) = drawn.ticket.take() {
+                        store.hand_back(ticket);
+                    }
                 }
             }
             Source::Unlimited => (),

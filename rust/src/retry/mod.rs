@@ -16,6 +16,7 @@ mod tower;
 
 #[cfg(feature = "tower")]
 pub use self::tower::{Noted, RetryPolicy, RetryWait, Since, Whenever};
+pub use crate::clock::{Clock, SystemClock};
 #[cfg(feature = "tokio")]
 pub use asynchronous::retry_async;
 #[cfg(all(feature = "tokio", hikebox_async_closures))]

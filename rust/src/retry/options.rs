@@ -9,6 +9,8 @@ pub(crate) struct Options {
     pub(crate) deadline: Option<Duration>,
     /// How long an error may ask to wait.
     pub(crate) max_retry_after: Duration,
+    /// Whether a function is called before each retry, which may take its time.
+    pub(crate) notifies: bool,
 }
 
 impl Options {
@@ -30,6 +32,6 @@ impl Default for Options {
     /// No deadline, and waits of six hours at most.
     #[inline]
     fn default() -> Self {
-        Self { deadline: None, max_retry_after: Duration::from_secs(6 * 3600) }
+        Self { deadline: None, max_retry_after: Duration::from_secs(6 * 3600), notifies: false }
     }
 }

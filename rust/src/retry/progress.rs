@@ -1,14 +1,14 @@
 //! A retry under way, whoever drives it.
 
-use crate::clock::whole_millis;
-use crate::engine::{MAX_NUMBER, NO_DEADLINE};
+use crate::clock::{whole_millis, Moment};
+use crate::engine::{Run, LOST, MAX_NUMBER, NO_DEADLINE};
 use crate::limits::grants::Limit;
 use crate::limits::ticket::Ticket;
 use crate::policy::Policy;
 use crate::retry::error::RetryError;
 use crate::retry::machine::{Cause, Ending, Machine, Report};
 use crate::retry::options::Options;
-use std::time::{Duration, Instant};
+use std::time::Duration;
 
 /// What a retry goes by.
 #[derive(Clone, Copy)]
@@ -21,19 +21,19 @@ pub(crate) struct Rules<'a> {
 /// A run that failed.
 #[derive(Clone, Copy)]
 pub(crate) struct Lost {
-    pub(crate) now: Instant,
+    pub(crate) now: Moment,
     pub(crate) code: u64,
     pub(crate) words: [u32; 4],
     /// How long the error asks to wait.
     pub(crate) retry_after: Option<Duration>,
 }
 
-/// A retry from its first run on. The engine hears of it at its first failure, with the moments at which the first run
-/// began and failed: until then there is nothing to decide, and nothing is drawn, locked or allocated. Of a success it
-/// hears nothing: the retry is dropped then, and gives its tickets to be counted.
+/// A retry from its first run on. The engine hears of each run when it has failed, in one call: with the moments at which
+/// it began and ended. Until the first failure there is nothing to decide, and nothing is drawn, locked or allocated. Of
+/// a success it hears nothing: the retry is dropped then, and gives its tickets to be counted.
 #[derive(Debug)]
 pub(crate) struct Progress {
-    began: Instant,
+    began: Moment,
     running: Option<Running>,
 }
 
@@ -43,42 +43,41 @@ struct Running {
     machine: Machine,
     /// When the first run began.
     origin: u64,
-    /// The latest moment that the engine was told.
+    /// The latest moment that the engine was told, or that the run under way began at.
     latest: u64,
-    /// When the next run is due, where the engine has not begun it yet.
+    /// When the run under way began, where the engine has not begun it.
+    began: Option<u64>,
+    /// When the next run is due, where it was not due at once.
     due: Option<u64>,
     /// How long after the first run began the last one may begin. Where it has one, moments are rounded up, so that a
     /// run which is due by it in whole milliseconds is so by the clock.
     deadline: Option<Duration>,
 }
 
-/// The random words of a step at which the schedule is not asked.
-const NO_WORDS: [u32; 4] = [0; 4];
-
 impl Progress {
     /// One whose first run begins now.
-    pub(crate) fn new(now: Instant) -> Self {
+    #[inline]
+    pub(crate) fn new(now: Moment) -> Self {
         Self { began: now, running: None }
     }
 
     /// How long ago the first run began.
-    pub(crate) fn passed(&self, now: Instant) -> Duration {
-        now.saturating_duration_since(self.began)
+    #[inline]
+    pub(crate) fn passed(&self, now: Moment) -> Duration {
+        now.since(self.began)
     }
 
     /// The run under way failed: how long it is to be waited from then on, or how the retry ended. The wait is the
     /// planned one in full, whatever part of a millisecond the run ended at, or what the error asks for.
     pub(crate) fn lost(&mut self, rules: &Rules<'_>, lost: &Lost) -> Result<Duration, Ending> {
-        let passed = self.passed(lost.now);
         let asked = match lost.retry_after {
-            Some(asked) => rules.options.granted(asked, passed).ok_or(Ending::Deadline)?,
+            Some(asked) => rules.options.granted(asked, self.passed(lost.now)).ok_or(Ending::Deadline)?,
             None => Duration::ZERO,
         };
         let running = match &mut self.running {
-            Some(running) => running,
-            None => self.running.insert(Running::new(rules, self.began)?),
+            Some(running) => running.lost(self.began, lost)?,
+            running => Running::begin(running, rules, self.began, lost)?,
         };
-        running.due = running.step(passed, Some(Report::Lost(lost.code)), &lost.words)?;
         let wait = match running.due {
             Some(due) => asked.max(Duration::from_millis(due - running.latest)),
             None => asked,
@@ -93,21 +92,21 @@ impl Progress {
         self.running.as_mut().and_then(|running| running.machine.succeeded())
     }
 
-    /// Begins the run that was waited for: in the engine, too, where that did not at the failure before. Past the
-    /// deadline the retry is over. `None` is answered where nobody had to look at the clock.
-    pub(crate) fn resume(&mut self, clock: impl FnOnce() -> Instant) -> Result<Option<Instant>, Ending> {
+    /// Begins the run that was waited for. Past the deadline the retry is over. `None` is answered where nobody had to
+    /// look at the clock: a retry without a deadline takes the run to begin when it is due.
+    #[inline]
+    pub(crate) fn resume(&mut self, clock: impl FnOnce() -> Moment) -> Result<Option<Moment>, Ending> {
         let began = self.began;
-        match &mut self.running {
-            Some(running) if running.due.is_some() || running.deadline.is_some() => {
-                let now = clock();
-                running.resume(now.saturating_duration_since(began)).map(|()| Some(now))
-            }
-            Some(running) => {
-                running.machine.set_waits(false);
-                Ok(None)
-            }
-            None => Ok(None),
+        let running = match &mut self.running {
+            Some(running) => running,
+            None => return Ok(None),
+        };
+        if running.deadline.is_none() {
+            running.begins_at(running.latest);
+            return Ok(None);
         }
+        let now = clock();
+        running.resume(began, now).map(|()| Some(now))
     }
 
     /// The error of a retry that ended so.
@@ -127,58 +126,73 @@ impl Progress {
 }
 
 impl Running {
-    /// A retry whose first run began then.
-    fn new(rules: &Rules<'_>, began: Instant) -> Result<Self, Ending> {
+    /// A retry whose first run, which began then, has failed. It is put into its place, also where that ends it.
+    fn begin<'a>(
+        place: &'a mut Option<Self>,
+        rules: &Rules<'_>,
+        began: Moment,
+        lost: &Lost,
+    ) -> Result<&'a mut Self, Ending> {
         let origin = rules.limit.origin(began);
         let deadline = rules.options.deadline.map(|deadline| Duration::from_millis(whole_millis(deadline)));
         let until =
             deadline.map_or(NO_DEADLINE, |deadline| origin.saturating_add(whole_millis(deadline)).min(MAX_NUMBER));
-        let machine = Machine::on(rules.policy, rules.limit.source(), until);
+        let latest = told_at(origin, deadline, began, lost.now);
+        let run =
+            Run { began: origin, ended: latest, code: lost.code.min(MAX_NUMBER), report: LOST, words: lost.words };
         // (for want of passes 2^42 of them would have to be alive)
-        let machine = machine.map_err(|_| Ending::Broken(Cause::NoMemory))?;
-        let mut running = Self { machine, origin, latest: origin, due: None, deadline };
-        running.step(Duration::ZERO, None, &NO_WORDS)?;
+        let (machine, next) = Machine::after(rules.policy, rules.limit.source(), until, &run)
+            .map_err(|_| Ending::Broken(Cause::NoMemory))?;
+        let running = place.insert(Self { machine, origin, latest, began: None, due: None, deadline });
+        running.due = next?;
         Ok(running)
     }
 
-    /// Begins the run that is due, or that the engine has begun and an error had wait. A clock that did not move while
-    /// it was waited is taken to have moved.
-    fn resume(&mut self, passed: Duration) -> Result<(), Ending> {
-        let due = self.due.take();
-        if self.deadline.map_or(false, |deadline| passed > deadline) {
+    /// The run under way failed.
+    fn lost(&mut self, began: Moment, lost: &Lost) -> Result<&mut Self, Ending> {
+        let ended = self.latest.max(told_at(self.origin, self.deadline, began, lost.now));
+        let code = lost.code.min(MAX_NUMBER);
+        self.latest = ended;
+        self.due = match self.began.take() {
+            Some(began) => self.machine.ran(&Run { began, ended, code, report: LOST, words: lost.words })?,
+            None => self.machine.step_at(ended, Some(Report::Lost(code)), &lost.words)?,
+        };
+        Ok(self)
+    }
+
+    /// Begins the run that is due, or that an error had wait, where that is not past the deadline.
+    fn resume(&mut self, began: Moment, now: Moment) -> Result<(), Ending> {
+        if self.deadline.map_or(false, |deadline| now.since(began) > deadline) {
             self.machine.set_waits(true);
             self.machine.cancel();
             return Err(Ending::Deadline);
         }
-        match due {
-            Some(due) => {
-                self.latest = self.latest.max(due);
-                self.step(passed, None, &NO_WORDS)?;
-            }
-            None => self.machine.set_waits(false),
-        }
+        self.begins_at(told_at(self.origin, self.deadline, began, now));
         Ok(())
     }
 
-    /// A step so long after the first run began, and not before the latest: when the next run is due, or `None` where
-    /// it is under way.
-    fn step(&mut self, passed: Duration, report: Option<Report>, words: &[u32; 4]) -> Result<Option<u64>, Ending> {
-        let passed = match self.deadline {
-            Some(_) => passed.saturating_add(Duration::from_nanos(999_999)),
-            None => passed,
-        };
-        let now = (self.origin + whole_millis(passed)).min(MAX_NUMBER);
+    /// The next run begins at this moment, or when it is due where that is later: a clock that did not move while it was
+    /// waited is taken to have moved.
+    #[inline]
+    fn begins_at(&mut self, now: u64) {
         self.latest = self.latest.max(now);
-        self.machine.step_at(self.latest, report, words)
+        if let Some(due) = self.due.take() {
+            self.latest = self.latest.max(due);
+            self.began = Some(self.latest);
+        }
+        self.machine.set_waits(false);
     }
 }
 
-/// The moment after so long, or after a century where the system's clock can't tell it.
-pub(crate) fn later(now: Instant, wait: Duration) -> Instant {
-    now.checked_add(wait).unwrap_or_else(|| now + A_CENTURY)
+/// What the engine is told of a moment, of a retry whose first run began then, at `origin`.
+#[inline]
+fn told_at(origin: u64, deadline: Option<Duration>, began: Moment, now: Moment) -> u64 {
+    let passed = match deadline {
+        Some(_) => now.millis_begun_since(began),
+        None => now.millis_since(began),
+    };
+    (origin + passed).min(MAX_NUMBER)
 }
-
-const A_CENTURY: Duration = Duration::from_secs(100 * 365 * 86_400);
 
 #[cfg(test)]
 mod tests {

@@ -1,5 +1,6 @@
 //! Repeats of calls that succeed, and polls until an answer is there.
 
+use crate::clock::Clock;
 use crate::engine::MAX_NUMBER;
 use crate::limits::grants::Unlimited;
 use crate::policy::{Policy, PolicyError};
@@ -192,7 +193,7 @@ impl<'a, T, C, K, S, R> Repeating<'a, T, C, Host<K, S, R>> {
     }
 }
 
-impl<T, C: Fn(&T) -> u64, K: Fn() -> Instant, S: Sleep, R: Random> Repeating<'_, T, C, Host<K, S, R>> {
+impl<T, C: Fn(&T) -> u64, K: Clock, S: Sleep, R: Random> Repeating<'_, T, C, Host<K, S, R>> {
     /// Runs the call again after each success, and returns the last value. Between runs the thread sleeps.
     ///
     /// # Errors
@@ -228,7 +229,7 @@ impl<T, C: Fn(&T) -> u64, K: Fn() -> Instant, S: Sleep, R: Random> Repeating<'_,
     }
 }
 
-impl<T, C: Fn(&T) -> u64, K: Fn() -> Instant, S: AsyncSleep, R: Random> Repeating<'_, T, C, Host<K, S, R>> {
+impl<T, C: Fn(&T) -> u64, K: Clock, S: AsyncSleep, R: Random> Repeating<'_, T, C, Host<K, S, R>> {
     /// [`Repeating::call`] for futures. Without the feature `tokio` it needs a [`Repeating::sleep`] of your runtime.
     ///
     /// # Errors
@@ -270,15 +271,15 @@ impl<T, C: Fn(&T) -> u64, K: Fn() -> Instant, S: AsyncSleep, R: Random> Repeatin
     }
 }
 
-impl<T, C: Fn(&T) -> u64, K: Fn() -> Instant, S, R: Random> Repeating<'_, T, C, Host<K, S, R>> {
+impl<T, C: Fn(&T) -> u64, K: Clock, S, R: Random> Repeating<'_, T, C, Host<K, S, R>> {
     fn begin(&self) -> Progress {
-        Progress::new((self.host.clock)())
+        Progress::new(self.host.clock.moment())
     }
 
     /// How long it is waited after a run that gave this value now. To the engine each run whose value is not wanted is
     /// one that failed, on nothing that could refuse a retry.
     fn after<E>(&self, progress: &mut Progress, value: T) -> Result<(Duration, T), RepeatError<T, E>> {
-        let (now, code) = ((self.host.clock)(), (self.code)(&value).min(MAX_NUMBER));
+        let (now, code) = (self.host.clock.moment(), (self.code)(&value).min(MAX_NUMBER));
         let lost = Lost { now, code, words: self.host.random.draw(), retry_after: None };
         match progress.lost(&Rules { policy: &self.policy, limit: &Unlimited, options: &self.options }, &lost) {
             Ok(wait) => Ok((wait, value)),
@@ -288,7 +289,7 @@ impl<T, C: Fn(&T) -> u64, K: Fn() -> Instant, S, R: Random> Repeating<'_, T, C, 
 
     /// Begins the next run, which was waited for after this value.
     fn resume<E>(&self, progress: &mut Progress, value: T) -> Result<(), RepeatError<T, E>> {
-        progress.resume(&self.host.clock).map(|_| ()).map_err(|ended| RepeatError::of(ended, value))
+        progress.resume(|| self.host.clock.moment()).map(|_| ()).map_err(|ended| RepeatError::of(ended, value))
     }
 }
 

@@ -83,6 +83,7 @@ pub(super) enum CowLimit<'a> {
 }
 
 impl CowLimit<'_> {
+    #[inline]
     pub(super) fn get(&self) -> &dyn Limit {
         match self {
             Self::Borrowed(budget) => *budget,
@@ -93,6 +94,7 @@ impl CowLimit<'_> {
 
 impl<'a, E> Retrying<'a, E> {
     /// Retries every error; each has the code 0.
+    #[inline]
     pub fn new(policy: &'a Policy, budget: &'a impl Grants) -> Self {
         Self::of(policy, budget, ())
     }
@@ -242,7 +244,8 @@ impl<'a, E, F, W, C, A, N, M> Retrying<'a, E, F, Hooks<W, C, A, N>, M> {
     }
 
     /// Called before each retry with the error and the wait.
-    pub fn notify<X: Fn(&E, Duration)>(self, notify: X) -> Retrying<'a, E, F, Hooks<W, C, A, X>, M> {
+    pub fn notify<X: Fn(&E, Duration)>(mut self, notify: X) -> Retrying<'a, E, F, Hooks<W, C, A, X>, M> {
+        self.options.notifies = true;
         self.with(|Hooks { when, code, retry_after, .. }| Hooks { when, code, retry_after, notify }, |host| host)
     }
 }

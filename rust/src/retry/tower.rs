@@ -1,6 +1,6 @@
 //! A `tower` retry policy by a schedule and a budget.
 
-use crate::clock::now;
+use crate::clock::Moment;
 use crate::limits::grants::{Grants, Limit, Source};
 use crate::policy::Policy;
 use crate::random;
@@ -13,7 +13,7 @@ use std::future::Future;
 use std::pin::Pin;
 use std::sync::Arc;
 use std::task::{Context, Poll};
-use std::time::{Duration, Instant};
+use std::time::Duration;
 
 /// A [`tower::retry::Policy`](::tower::retry::Policy) that retries a request as a schedule says, with a ticket of a
 /// [`Budget`](crate::Budget) or a [`Quota`](crate::Quota) for each retry. It takes the place of `tower::retry::budget`.
@@ -54,7 +54,7 @@ pub struct Whenever;
 
 /// When a request began, from which its deadline counts.
 #[derive(Clone, Copy, Debug)]
-pub struct Since(Instant);
+pub struct Since(Moment);
 
 /// Whether a [`RetryPolicy`] notes when its request began: [`Since`] does, for a deadline, and [`Whenever`] does not.
 /// The trait is sealed.
@@ -64,13 +64,13 @@ impl Noted for Whenever {}
 impl Noted for Since {}
 
 mod sealed {
-    use super::{now, Instant, Since, Whenever};
+    use super::{Moment, Since, Whenever};
 
     pub trait Begins: Copy + Send + Sync + Unpin + 'static {
         /// That of a request that begins now.
         fn begins() -> Self;
         /// When it began, of one that has failed now.
-        fn began(&self, now: Instant) -> Instant;
+        fn began(&self, now: Moment) -> Moment;
     }
 
     impl Begins for Whenever {
@@ -80,18 +80,18 @@ mod sealed {
         }
 
         #[inline]
-        fn began(&self, now: Instant) -> Instant {
+        fn began(&self, now: Moment) -> Moment {
             now
         }
     }
 
     impl Begins for Since {
         fn begins() -> Self {
-            Self(now())
+            Self(Moment::now())
         }
 
         #[inline]
-        fn began(&self, _: Instant) -> Instant {
+        fn began(&self, _: Moment) -> Moment {
             self.0
         }
     }
@@ -194,7 +194,7 @@ impl<Request, Response, E, B: Noted> RetryPolicy<Request, Response, E, B> {
     /// To end a run that is under way, add a layer of `tower::timeout`.
     pub fn deadline(mut self, deadline: Duration) -> RetryPolicy<Request, Response, E, Since> {
         self.set().options.deadline = Some(deadline);
-        RetryPolicy { settings: self.settings, progress: ToTake::none(), began: Since(now()) }
+        RetryPolicy { settings: self.settings, progress: ToTake::none(), began: Since(Moment::now()) }
     }
 
     /// The settings, which other copies of the policy keep as they are.
@@ -205,7 +205,7 @@ impl<Request, Response, E, B: Noted> RetryPolicy<Request, Response, E, B> {
     /// The wait before a request that failed so is made again, or `None` where it is not.
     #[inline(never)]
     fn again(&self, code: u64, result: Result<&Response, &E>) -> Option<RetryWait<Request, Response, E, B>> {
-        let (settings, now) = (&*self.settings, now());
+        let (settings, now) = (&*self.settings, Moment::now());
         let mut progress = match self.progress.take() {
             Some(progress) => progress,
             None => Box::new(Progress::new(self.began.began(now))),
@@ -273,7 +273,7 @@ impl<Request, Response, E, B: Noted> Future for RetryWait<Request, Response, E, 
         let mut next = this.next.take().expect("it is not polled after its end");
         if this.sleep.is_some() {
             // Where the engine refuses it, the run that tower makes all the same is the last one.
-            let _ = next.progress.get_mut().map(|progress| progress.resume(now));
+            let _ = next.progress.get_mut().map(|progress| progress.resume(Moment::now));
         }
         Poll::Ready(next)
     }

@@ -9,7 +9,11 @@ mod try_lock;
 
 #[cfg(feature = "leased")]
 pub(crate) use files::{boottime, try_lock, unlock, OwnFile};
+#[cfg(not(feature = "tokio"))]
+use std::ptr;
 use std::sync::atomic::{AtomicBool, AtomicPtr, AtomicU64, Ordering};
+#[cfg(not(feature = "tokio"))]
+use std::time::Instant;
 #[cfg(feature = "tower")]
 pub(crate) use to_take::ToTake;
 pub(crate) use try_lock::TryLock;
@@ -19,6 +23,57 @@ type Handler = Option<unsafe extern "C" fn()>;
 
 extern "C" {
     fn pthread_atfork(prepare: Handler, parent: Handler, child: Handler) -> i32;
+    #[cfg(not(feature = "tokio"))]
+    fn clock_gettime(clock: i32, time: *mut Timespec) -> i32;
+}
+
+/// A time as the system tells it, on the 64-bit machines of this crate.
+#[cfg(not(feature = "tokio"))]
+#[repr(C)]
+struct Timespec {
+    seconds: i64,
+    nanos: i64,
+}
+
+/// Linux's monotonic clock.
+#[cfg(not(feature = "tokio"))]
+const CLOCK_MONOTONIC: i32 = 1;
+
+/// The nanoseconds that the system's monotonic clock, which is that of an [`Instant`], tells.
+#[cfg(not(feature = "tokio"))]
+#[inline]
+pub(crate) fn monotonic() -> u64 {
+    let mut time = Timespec { seconds: 0, nanos: 0 };
+    // SAFETY: the call writes the time alone, and Linux always has this clock.
+    unsafe { clock_gettime(CLOCK_MONOTONIC, &mut time) };
+    time.seconds as u64 * 1_000_000_000 + time.nanos as u64
+}
+
+/// An instant, and what [`monotonic`] told at it: the same pair each time.
+#[cfg(not(feature = "tokio"))]
+pub(crate) fn known_instant() -> (Instant, u64) {
+    static KNOWN: AtomicPtr<(Instant, u64)> = AtomicPtr::new(ptr::null_mut());
+    let known = KNOWN.load(Ordering::Acquire);
+    if known.is_null() {
+        return know_instant(&KNOWN);
+    }
+    // SAFETY: the pointer is to a pair that is never freed.
+    unsafe { *known }
+}
+
+#[cfg(not(feature = "tokio"))]
+#[cold]
+fn know_instant(known: &AtomicPtr<(Instant, u64)>) -> (Instant, u64) {
+    let made = Box::into_raw(Box::new((Instant::now(), monotonic())));
+    match known.compare_exchange(ptr::null_mut(), made, Ordering::AcqRel, Ordering::Acquire) {
+        // SAFETY: this pair is never freed.
+        Ok(_) => unsafe { *made },
+        // SAFETY: nobody else has the one pointer, and the other is to a pair that is never freed.
+        Err(others) => unsafe {
+            drop(Box::from_raw(made));
+            *others
+        },
+    }
 }
 
 /// How many forks lie between the process in which this was first asked for and this one.

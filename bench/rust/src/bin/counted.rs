@@ -1,7 +1,7 @@
 //! `counted CASE FAILURES COUNT` makes so many calls, each of which fails so often and then succeeds, by the crate that the
 //! case names, for bench/crates.sh, which counts the instructions. No run waits.
 
-use hikebox::{Budget, Policy, Quota, RetryPolicy};
+use hikebox::{Budget, Policy, Quota, RetryPolicy, Retrying, Schedule};
 use std::convert::Infallible;
 use std::future::{ready, Future, Ready};
 use std::sync::Arc;
@@ -16,7 +16,16 @@ fn main() {
     let numbers: Vec<u32> = words[2..].iter().map(|word| word.parse().expect("a number")).collect();
     let (failures, count) = (numbers[0], numbers[1]);
     match words[1].as_str() {
-        "hikebox" => hikebox_calls(failures, count),
+        "hikebox" => hikebox_calls(&policy(), failures, count),
+        "hikebox-six" => hikebox_calls(&six_nodes(), failures, count),
+        "hikebox-refused" => refused_calls(&six_nodes(), count),
+        "hikebox-quota" => {
+            let quota = Quota::new(10_000_000, 1.0, WINDOW).expect("a quota");
+            let (policy, mut call) = (policy(), call(failures));
+            for _ in 0..count {
+                black_box(hikebox::retry(&policy, &quota, &mut call).expect("a success"));
+            }
+        }
         "backoff" => backoff_calls(failures, count),
         "tower" => {
             let budget = Arc::new(budget::Budget::new(WINDOW, 1_000_000, 1.0));
@@ -56,10 +65,27 @@ fn call(failures: u32) -> impl FnMut() -> Result<u32, u32> {
     }
 }
 
-fn hikebox_calls(failures: u32, count: u32) {
-    let (policy, budget, mut call) = (policy(), Budget::new(1 << 32).expect("a budget"), call(failures));
+/// The policy of README.md, within a minute, with more retries.
+fn six_nodes() -> Policy {
+    let delays = Schedule::exponential(Duration::from_millis(100), 2).cap(Duration::from_secs(1)).jittered(0.8..1.2);
+    let schedule = (Schedule::recurs(50) & delays).up_to(Duration::from_secs(60));
+    Policy::new(&schedule).expect("a policy")
+}
+
+/// Calls by this policy, which are not waited for.
+fn hikebox_calls(policy: &Policy, failures: u32, count: u32) {
+    let (budget, mut call) = (Budget::new(1 << 32).expect("a budget"), call(failures));
+    let retrying = Retrying::new(policy, &budget).sleep(|_: Duration| ());
     for _ in 0..count {
-        black_box(hikebox::retry(&policy, &budget, &mut call).expect("a success"));
+        black_box(retrying.call(&mut call).expect("a success"));
+    }
+}
+
+/// Calls that fail, and are refused a retry.
+fn refused_calls(policy: &Policy, count: u32) {
+    let budget = Budget::new(0).expect("a budget");
+    for _ in 0..count {
+        black_box(hikebox::retry(policy, &budget, || Err::<(), u32>(black_box(2))).expect_err("no ticket"));
     }
 }
 

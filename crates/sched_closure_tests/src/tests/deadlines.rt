@@ -1,7 +1,6 @@
 ghost use Rattle.std.specs.Prelude.{◌≡◌, ⊤, []};
 ghost use Rattle.sched_ticket.specs.Held.{IsOf};
-ghost use Rattle.sched_driver_stepper.specs.Standing.{standing_after};
-ghost use Rattle.sched_run_machine.specs.Until.{FreshUntil};
+ghost use Rattle.sched_run_machine.specs.Drives.{by_stepper, by_until};
 
 use super::*;
 use sched_run_machine::Until;
@@ -9,7 +8,7 @@ use sched_ticket_draws::Unlimited;
 
 // A plan of at most so many recurrences, 100 milliseconds apart, with this deadline, before its first step.
 fn until(rt: &impl Abort, alloc: Global, recurs: u64, deadline: Option<u64>) -> Until<Stepper>
-    ensures { FreshUntil (λ v. v ≡ standing_after v.plan []) result }
+    ensures { (by_until by_stepper).fresh result }
 {
     let deadline = deadline.map(|at| moment(rt, at));
     Until::new(stepper(rt, alloc, recurs), deadline)

@@ -1,5 +1,5 @@
 use super::*;
-use sched_driver_stepper::{StepFault, Stepper};
+use sched_driver_stepper::{Compiled, StepFault, Stepper};
 use sched_plan::{Side, Test};
 
 // How many events a poll takes that is played out.
@@ -99,6 +99,45 @@ fn stepper_steps_a_plan_that_reads_a_part_of_a_part(rt: HostRuntime) {
     goes_on_twice(&rt, alloc, &mut stepper);
     stepper.reset();
     goes_on_twice(&rt, alloc, &mut stepper);
+}
+
+// A stepper of this compiled plan.
+fn stepper_by(rt: &impl Abort, alloc: Global, compiled: &Compiled) -> Stepper {
+    compiled.stepper(alloc).expect(rt, "there is memory")
+}
+
+// The plan, compiled.
+fn compiled(rt: &impl Abort, alloc: Global, plan: Plan) -> Compiled {
+    Compiled::new(alloc, plan).expect(rt, "there is memory")
+}
+
+#[test]
+fn steppers_of_a_compiled_plan_share_no_state(rt: HostRuntime) {
+    let alloc = rt.alloc();
+    let first = compiled(&rt, alloc, spaced_recurs(&rt, alloc));
+    let second = first.again().expect(&rt, "there is memory");
+    assert!(rt;
+        first
+            .share()
+            .expect(&rt, "there is memory")
+            .get()
+            .same(second.get())
+    );
+    let mut one = stepper_by(&rt, alloc, &first);
+    let mut other = stepper_by(&rt, alloc, &first);
+    steps_once(&rt, alloc, &mut one);
+    steps_once(&rt, alloc, &mut other);
+    begins_again(&rt, alloc, &mut one);
+    steps_once(&rt, alloc, &mut stepper_by(&rt, alloc, &second));
+}
+
+#[test]
+fn a_compiled_plan_may_have_no_record(rt: HostRuntime) {
+    let alloc = rt.alloc();
+    let first = compiled(&rt, alloc, nested(&rt, alloc));
+    let second = first.again().expect(&rt, "there is memory");
+    goes_on_twice(&rt, alloc, &mut stepper_by(&rt, alloc, &first));
+    goes_on_twice(&rt, alloc, &mut stepper_by(&rt, alloc, &second));
 }
 
 // Events at these moments, without input.

@@ -8,7 +8,7 @@ use sched_time::Millis;
 use std::process::Abort;
 
 fn admit(millis: u64) -> Call {
-    Call::Admit(at(millis))
+    Call::Admit(at(millis), 0, 0)
 }
 
 fn failed(millis: u64, generation: u64) -> Call {
@@ -51,7 +51,7 @@ fn one_probe(rt: HostRuntime) {
             (failed(130, 0), None),
             (admit(319), open(320)),
             (Call::Draw(at(320), 0, 0), None),
-            (Call::Succeeded(5, 0), None),
+            (Call::Succeeded(at(0), 5, 0), None),
             (failed(331, 0), None),
             (failed(332, 4), None),
             (admit(333), None),
@@ -96,14 +96,14 @@ fn two_probes(rt: HostRuntime) {
             (admit(100), None),
             (admit(150), None),
             (admit(150), PROBING),
-            (Call::Succeeded(3, 0), None),
+            (Call::Succeeded(at(0), 3, 0), None),
             (admit(1149), PROBING),
             (admit(1150), None),
             (failed(1151, 3), None),
-            (Call::Succeeded(5, 0), None),
+            (Call::Succeeded(at(0), 5, 0), None),
             (admit(1153), None),
             (admit(1154), PROBING),
-            (Call::Succeeded(5, 0), None),
+            (Call::Succeeded(at(0), 5, 0), None),
             (admit(1156), None),
             (failed(1157, 4), None),
             (admit(1158), open(1257)),

@@ -7,7 +7,7 @@ use sched_limit_word::Call;
 const FULL: Option<Refusal> = Some(Refusal::Full);
 
 fn admit() -> Call {
-    Call::Admit(at(0))
+    Call::Admit(at(0), 0, 0)
 }
 
 fn draw(slots: u64) -> Call {

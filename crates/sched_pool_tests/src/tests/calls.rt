@@ -117,7 +117,7 @@ fn adds<'a, N: Naming>(
 fn told(end: &JobEnd<Call>) -> &'static str {
     match end.ending() {
         Some(Ending::Won(reply)) => reply.body,
-        Some(Ending::ScheduleDone(outage)) => outage.reason,
+        Some(Ending::ScheduleDone(Err(outage))) => outage.reason,
         _ => "",
     }
 }

@@ -77,7 +77,9 @@ where
 // The failure that it ended with.
 fn failure(ending: &Ending<Code, Code>) -> Option<u64> {
     match ending {
-        Ending::ScheduleDone(Code(fault)) | Ending::BudgetRefused(Code(fault)) => Some(fault.get()),
+        Ending::ScheduleDone(Err(Code(fault))) | Ending::BudgetRefused(Code(fault)) => Some(
+            fault.get(),
+        ),
         _ => None,
     }
 }

@@ -154,8 +154,8 @@ where
     (won, drawing_of(retry))
 }
 
-// A worker makes a request each 10 ms, and a hundred in each of the thousand seconds, where each adds a tenth of a ticket
-// to one that is there: the first, the tenth, the twentieth and so on to the hundredth are retried.
+// A worker makes a request each 10 ms, and a hundred in each of the thousand seconds, where each adds a tenth of a
+// ticket to one that is there: the first, the tenth, the twentieth and so on to the hundredth are retried.
 #[test]
 fn retries_of_a_worker(rt: HostRuntime) {
     let (quota, pass) = quota(&rt, rt.alloc(), 1, 100);

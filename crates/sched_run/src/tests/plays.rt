@@ -142,7 +142,7 @@ where
     let mut repeat = Repeat::new(alloc, effect, driver(rt, alloc, plan));
     play(rt, &mut repeat, steps);
     let counts = repeat.counts();
-    let (effect, driver) = repeat.into_parts();
+    let (effect, driver, _) = repeat.into_parts();
     assert_parts(rt, counts, effect, driver, 0);
 }
 

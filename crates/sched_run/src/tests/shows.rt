@@ -45,18 +45,18 @@ pub(super) trait Shows: Task {
     fn told(&mut self) -> Option<Told>;
 }
 
-impl<X: Effect, D: Draws> Shows for Retry<X, D> {
+impl<X: Effect, D: Draws, A: Aims> Shows for Rerun<X, D, Driver, A> {
     fn begun(&self) -> &[Moment] {
-        Retry::begun(self)
+        Rerun::begun(self)
     }
 
     fn driver(&self) -> &Driver {
-        Retry::driver(self)
+        Rerun::driver(self)
     }
 
     fn counts(&self) -> Counts {
         let runs = self.effect().runs().len();
-        Counts::of(runs, Retry::driver(self).journal().len(), self.granted())
+        Counts::of(runs, Rerun::driver(self).journal().len(), self.granted())
     }
 
     fn told(&mut self) -> Option<Told> {
@@ -70,8 +70,11 @@ impl<X: Effect, D: Draws> Shows for Retry<X, D> {
 fn told_of<I: Coded + Drop, F: Coded + Drop>(ending: Ending<I, F>) -> Told {
     match ending {
         Ending::Won(item) => Told::Won(item.code().get()),
-        Ending::ScheduleDone(fault) => Told::Lost(How::ScheduleDone, fault.code().get()),
+        Ending::Failed(fault) => Told::Lost(How::Failed, fault.code().get()),
+        Ending::ScheduleDone(Ok(_)) => Told::Bare(How::ScheduleDone),
+        Ending::ScheduleDone(Err(fault)) => Told::Lost(How::ScheduleDone, fault.code().get()),
         Ending::BudgetRefused(fault) => Told::Lost(How::BudgetRefused, fault.code().get()),
+        Ending::DeadlinePassed => Told::Bare(How::DeadlinePassed),
         Ending::Cancelled => Told::Bare(How::Cancelled),
         Ending::Broken(cause) => Told::Bare(How::Broken(cause)),
     }
@@ -104,39 +107,9 @@ fn told_of_or<I: Coded + Drop, F: Coded + Drop>(ending: RetryOrEnding<I, F>) -> 
         RetryOrEnding::Won(item) => Told::Won(item.code().get()),
         RetryOrEnding::Fallen(Ok(item)) => Told::Fallen(Ok(item.code().get())),
         RetryOrEnding::Fallen(Err(fault)) => Told::Fallen(Err(fault.code().get())),
+        RetryOrEnding::DeadlinePassed => Told::Bare(How::DeadlinePassed),
         RetryOrEnding::Cancelled => Told::Bare(How::Cancelled),
         RetryOrEnding::Broken(cause) => Told::Bare(How::Broken(cause)),
-    }
-}
-
-impl<X: Effect> Shows for Repeat<X> {
-    fn begun(&self) -> &[Moment] {
-        Repeat::begun(self)
-    }
-
-    fn driver(&self) -> &Driver {
-        Repeat::driver(self)
-    }
-
-    fn counts(&self) -> Counts {
-        let runs = self.effect().runs().len();
-        Counts::of(runs, Repeat::driver(self).journal().len(), 0)
-    }
-
-    fn told(&mut self) -> Option<Told> {
-        match self.take_ending() {
-            Some(ending) => Some(told_of_repeat(ending)),
-            None => None,
-        }
-    }
-}
-
-fn told_of_repeat<F: Coded + Drop>(ending: RepeatEnding<F>) -> Told {
-    match ending {
-        RepeatEnding::ScheduleDone => Told::Bare(How::ScheduleDone),
-        RepeatEnding::Failed(fault) => Told::Lost(How::Failed, fault.code().get()),
-        RepeatEnding::Cancelled => Told::Bare(How::Cancelled),
-        RepeatEnding::Broken(cause) => Told::Bare(How::Broken(cause)),
     }
 }
 

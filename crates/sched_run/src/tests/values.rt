@@ -60,11 +60,15 @@ trait Hands: Task {
     fn handed(&mut self) -> Option<Told>;
 }
 
-impl<D: Draws> Hands for Retry<Call<Tries>, D> {
+impl<D: Draws, A: Aims> Hands for Rerun<Call<Tries>, D, Driver, A> {
     fn handed(&mut self) -> Option<Told> {
         match self.take_ending() {
             Some(Ending::Won(item)) => Some(Told::Won(item.value)),
-            Some(Ending::ScheduleDone(fault)) => Some(Told::Lost(How::ScheduleDone, fault.value)),
+            Some(Ending::Failed(fault)) => Some(Told::Lost(How::Failed, fault.value)),
+            Some(Ending::ScheduleDone(Ok(item))) => Some(Told::Won(item.value)),
+            Some(Ending::ScheduleDone(Err(fault))) => {
+                Some(Told::Lost(How::ScheduleDone, fault.value))
+            }
             Some(Ending::BudgetRefused(fault)) => Some(Told::Lost(How::BudgetRefused, fault.value)),
             _ => None,
         }
@@ -104,8 +108,8 @@ fn retry_hands_out_the_last_value(rt: HostRuntime) {
     retry_hands(&rt, Tries::winning(99), 5, 1, refused);
 }
 
-// A fallback that answers with a hundred more than the value of the fault that it is asked with: an item where it spares
-// one, else a fault.
+// A fallback that answers with a hundred more than the value of the fault that it is asked with: an item where it
+// spares one, else a fault.
 #[derive(Drop)]
 struct Hundred {
     alloc: Global,
@@ -189,15 +193,6 @@ fn retry_or_hands_out_the_last_value(rt: HostRuntime) {
     retry_or_hands(&rt, Tries::winning(99), false, Told::Fallen(Err(103)));
 }
 
-impl Hands for Repeat<Call<Tries>> {
-    fn handed(&mut self) -> Option<Told> {
-        match self.take_ending() {
-            Some(RepeatEnding::Failed(fault)) => Some(Told::Lost(How::Failed, fault.value)),
-            _ => None,
-        }
-    }
-}
-
 #[test]
 fn repeat_hands_out_the_last_value(rt: HostRuntime) {
     let alloc = rt.alloc();
@@ -205,4 +200,13 @@ fn repeat_hands_out_the_last_value(rt: HostRuntime) {
     let calls = Call::new(alloc, Tries::losing(3));
     let repeat = Repeat::new(alloc, calls, driver);
     assert_hands(&rt, repeat, Told::Lost(How::Failed, 3));
+}
+
+#[test]
+fn repeat_that_is_done_hands_out_its_last_item(rt: HostRuntime) {
+    let alloc = rt.alloc();
+    let driver = driver(&rt, alloc, Plan::recurs(2));
+    let calls = Call::new(alloc, Tries::losing(99));
+    let repeat = Repeat::new(alloc, calls, driver);
+    assert_hands(&rt, repeat, Told::Won(3));
 }

@@ -1,15 +1,15 @@
 -- The words of a state tell it: they have the schedule's width, and what is read of them is what was kept.
-use Rattle.std.proofs.Common.{◌≡◌, ℕ, ◌+◌, List, [], ◌∷◌, ◌++◌, length, take, drop, Bool, true, false, Option, Some}
+use Rattle.std.proofs.Common.{◌≡◌, ℕ, ◌+◌, List, [], ◌∷◌, ◌++◌, length, take, drop, Option, Some}
 use Rattle.std.proofs.Common.{None, refl, sym, ap, ◌∙◌, arith, get_or}
 use Rattle.sched_time.specs.Capped.{capped}
 use Rattle.sched_plan.specs.Schedule.{Schedule, leaf, one, two}
 use Rattle.sched_plan.specs.Answer.{answer, crossing}
 use Rattle.sched_plan.specs.Rounds.{last_block}
 use Rattle.sched_plan.specs.declared.leaves.Leaf.{Leaf}
-use Rattle.sched_plan.specs.declared.leaves.Leaf.TheVariants.{Forever, Fixed, Windowed, Elapsed, Lone}
+use Rattle.sched_plan.specs.declared.leaves.Leaf.TheVariants.{Fixed, Windowed, Elapsed, Lone}
 use Rattle.sched_plan.specs.declared.nodes.Fold.TheVariants.{Sum, Count, Max, List as Listing}
 use Rattle.sched_plan.specs.declared.nodes.One.{One}
-use Rattle.sched_plan.specs.declared.nodes.One.TheVariants.{Gather, Within, EndsBy, Renew, RenewIdle, Nothing}
+use Rattle.sched_plan.specs.declared.nodes.One.TheVariants.{Gather, Within, EndsBy, Renew, RenewIdle}
 use Rattle.sched_plan.specs.declared.nodes.Two.{Two}
 use Rattle.sched_plan.specs.declared.nodes.Two.TheVariants.{Meet, Join, Follow, Feed}
 use Rattle.sched_plan.specs.declared.history.Event.{Event}
@@ -17,7 +17,6 @@ use Rattle.sched_plan.specs.declared.history.Answer.{Answer}
 use Rattle.sched_step.specs.Progress.{Kept, none_kept, since, round_since, last_at}
 use Rattle.sched_step.specs.StateOf.{began_at, ended_at, first_and_start, leaf_state, kept_of, seen, turn_of}
 use Rattle.sched_step.specs.StateOf.{first_seen, second_seen, first_kept, first_turn, state_of}
-use Rattle.sched_step.specs.declared.leaves.LeafState.{LeafState}
 use Rattle.sched_step.specs.declared.leaves.LeafState.TheVariants.{Planned, Windows, Started}
 use Rattle.sched_step.proofs.laws.First.{first_one, first_two}
 use Rattle.std.proofs.lemmas.List.{length-append}

@@ -1,12 +1,9 @@
 -- The law of a step on words, over all schedules.
-use Rattle.std.proofs.Common.{◌≡◌, ℕ, List, [], ◌∷◌, ◌++◌, take, drop, IsTrue, refl, sym, ap, ◌∙◌}
+use Rattle.std.proofs.Common.{◌≡◌, ℕ, List, [], ◌∷◌, ◌++◌, take, drop, IsTrue, ap, ◌∙◌}
 use Rattle.std.proofs.lemmas.Bool.{and_parts}
-use Rattle.sched_time.specs.declared.starts.Decision.{Decision}
 use Rattle.sched_plan.specs.Schedule.{Schedule, leaf, one, two, is_valid}
 use Rattle.sched_plan.specs.Answer.{answer}
 use Rattle.sched_plan.specs.declared.history.Event.{Event}
-use Rattle.sched_plan.specs.declared.history.Answer.{Answer}
-use Rattle.sched_step.specs.Progress.{Progress}
 use Rattle.sched_step.specs.StateOf.{kept_of, seen, turn_of, first_seen, second_seen, state_of}
 use Rattle.sched_step.specs.Step.{step_of}
 use Rattle.sched_step.proofs.laws.Law.{step_law}

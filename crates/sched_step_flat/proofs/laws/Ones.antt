@@ -1,11 +1,10 @@
 -- The step of a node over one schedule, on words.
 use Rattle.std.proofs.lemmas.Bool.{false≢true}
-use Rattle.std.proofs.Common.{◌≡◌, ℕ, List, [], ◌++◌, Bool, true, false, if◌then◌else◌, IsTrue, Option, Some, None}
-use Rattle.std.proofs.Common.{get_or, max, ◌+◌, ◌-◌, nat_le, refl, ap, ◌∙◌}
+use Rattle.std.proofs.Common.{◌≡◌, ℕ, List, [], ◌++◌, Bool, true, false, if◌then◌else◌, IsTrue}
+use Rattle.std.proofs.Common.{◌+◌, ◌-◌, nat_le, refl, ap, ◌∙◌}
 use Rattle.sched_time.specs.Capped.{capped}
 use Rattle.sched_time.specs.declared.starts.Decision.{Decision}
-use Rattle.sched_plan.specs.Datum.{Datum, unit, num, list, items_of, as_number}
-use Rattle.sched_plan.specs.Outputs.{goes_on, number_of}
+use Rattle.sched_plan.specs.Datum.{Datum, num, items_of, as_number}
 use Rattle.sched_plan.specs.Gates.{passes, is_wanted}
 use Rattle.sched_plan.specs.Changes.{ended, goes_past, moved_decision}
 use Rattle.sched_plan.specs.declared.nodes.Side.TheVariants.{Input, Output}
@@ -19,7 +18,7 @@ use Rattle.sched_step.specs.Progress.{Kept, Progress}
 use Rattle.sched_step.specs.StateOf.{kept_of, seen}
 use Rattle.sched_step.specs.Step.{answered, kept_or_now, since_of, total_of, listed_of, begins, one_next, one_answers}
 use Rattle.sched_step.specs.Step.{one_step}
-use Rattle.sched_step_flat.specs.Words.{kept_words, kept_from, words_of}
+use Rattle.sched_step_flat.specs.Words.{kept_words, words_of}
 use Rattle.sched_step_flat.specs.Parts.{wanted, number_datum, under, one_is_flat}
 use Rattle.sched_step_flat.specs.FlatStep.{read_of, answer_of, one_reply, flat_one}
 use Rattle.sched_step_flat.specs.declared.parts.Part.{Part}

@@ -8,15 +8,15 @@ use Rattle.sched_plan.specs.Delays.{added_out}
 use Rattle.sched_plan.specs.Gates.{passes}
 use Rattle.sched_plan.specs.Changes.{ended, ended_where}
 use Rattle.sched_plan.specs.declared.leaves.Leaf.{Leaf}
-use Rattle.sched_plan.specs.declared.leaves.Leaf.TheVariants.{Forever, Identity}
+use Rattle.sched_plan.specs.declared.leaves.Leaf.TheVariants.{Identity}
 use Rattle.sched_plan.specs.declared.nodes.Test.{Test}
 use Rattle.sched_plan.specs.declared.history.Event.{Event}
 use Rattle.sched_plan.specs.declared.history.Answer.{Answer}
 use Rattle.sched_step.specs.declared.leaves.LeafState.{LeafState}
 use Rattle.sched_step.specs.Progress.{Progress}
 use Rattle.sched_step.specs.StateOf.{leaf_state}
-use Rattle.sched_step.specs.Step.{answered, leaf_next, leaf_gives, leaf_decides, leaf_answers}
-use Rattle.sched_step_flat.specs.Words.{leaf_words, leaf_from, words_of}
+use Rattle.sched_step.specs.Step.{answered, leaf_next, leaf_gives, leaf_decides}
+use Rattle.sched_step_flat.specs.Words.{leaf_words, words_of}
 use Rattle.sched_step_flat.specs.Parts.{wanted, number_datum, if_whole, is_undivided, leaf_is_flat}
 use Rattle.sched_step_flat.specs.FlatStep.{read_of, flat_leaf}
 use Rattle.sched_step_flat.specs.declared.parts.Part.{Part}

@@ -1,9 +1,9 @@
 -- The step of a node over two schedules, on words.
-use Rattle.std.proofs.Common.{◌≡◌, ℕ, List, [], ◌∷◌, ◌++◌, Bool, true, false, cond, Option, Some, None, refl, ap, ◌∙◌}
+use Rattle.std.proofs.Common.{◌≡◌, ℕ, List, ◌∷◌, ◌++◌, Bool, true, false, cond, refl, ap, ◌∙◌}
 use Rattle.sched_time.specs.declared.starts.Decision.{Decision}
 use Rattle.sched_plan.specs.Datum.{Datum, pair}
 use Rattle.sched_plan.specs.Outputs.{with_input}
-use Rattle.sched_plan.specs.Answer.{meet_answer, join_answer, feed_answer, meet_decisions, join_decisions, is_done}
+use Rattle.sched_plan.specs.Answer.{meet_decisions, join_decisions, is_done}
 use Rattle.sched_plan.specs.declared.nodes.Two.{Two}
 use Rattle.sched_plan.specs.declared.nodes.Two.TheVariants.{Meet, Join, Follow, Feed}
 use Rattle.sched_plan.specs.declared.history.Event.{Event}

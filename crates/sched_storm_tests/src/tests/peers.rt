@@ -87,8 +87,8 @@ fn patience_to_the_millisecond(rt: HostRuntime) -> Result<(), Fail> {
     Ok(())
 }
 
-// What its client gave up is done all the same: the retry waits behind it, and is late too. Taken at 0 and at 60, each is
-// 100 ms of work, done by 100 and by 200; at the windows' ends less than a call is left.
+// What its client gave up is done all the same: the retry waits behind it, and is late too. Taken at 0 and at 60, each
+// is 100 ms of work, done by 100 and by 200; at the windows' ends less than a call is left.
 #[test]
 fn late_work_is_done_all_the_same(rt: HostRuntime) -> Result<(), Fail> {
     let parameters = Parameters {

@@ -7,6 +7,8 @@ from typing import Any, List, Tuple
 
 __all__ = [
     "Asking",
+    "BreakerTerms",
+    "BucketTerms",
     "Course",
     "Event",
     "Grant",
@@ -70,6 +72,14 @@ class Next(_Sized):
 
 class Usage(_Sized):
     _fields_ = [_SIZE, *_numbers("window asked given left next")]
+
+
+class BucketTerms(_Sized):
+    _fields_ = [_SIZE, *_numbers("capacity floor debit credit"), ("refund", c_bool)]
+
+
+class BreakerTerms(_Sized):
+    _fields_ = [_SIZE, *_numbers("failures probes deadline")]
 
 
 class Storm(_Sized):

@@ -7,7 +7,7 @@ from typing import Any, Awaitable, Callable, Optional, Protocol
 from .passes import Keep, Passes
 from .tickets import Refusal, RefusalReason
 
-__all__ = ["ByCall", "ByPass", "Drawing"]
+__all__ = ["ByCall", "ByPass", "Drawing", "ask"]
 
 
 class Drawing(Protocol):
@@ -18,6 +18,11 @@ class Drawing(Protocol):
 
     def end(self, hands_back: bool) -> None:
         """The retry is over: its latest ticket comes back, where that is so and what granted it takes it."""
+
+
+def ask(drawing: Drawing) -> Any:
+    """Draws a ticket."""
+    return drawing.draw()
 
 
 class ByCall:

@@ -17,7 +17,7 @@ from .._engine.machine import Loan, Machine, end_retry
 from .._forks import begins_anew_in_a_child
 from ..errors import BudgetClosed, BudgetError, BudgetInUse, EngineError, TicketError
 
-__all__ = ["NO_BUDGET", "DrawnOn", "Keep", "NoBudget", "Passes"]
+__all__ = ["UNLIMITED", "Grants", "Keep", "Passes", "Unlimited"]
 
 
 class Keep(ref[Any]):
@@ -238,8 +238,8 @@ class Passes:
                 drawn.free()
 
 
-class DrawnOn(Protocol):
-    """What the engine's retry draws on by itself."""
+class Grants(Protocol):
+    """What the engine's retry draws on by itself: a budget, a quota of the same clock, or nothing."""
 
     @property
     def generation(self) -> int:
@@ -256,8 +256,8 @@ class DrawnOn(Protocol):
         """The moment at which a retry begins that begins at so many seconds of its clock."""
 
 
-class NoBudget:
-    """What a retry draws on that has no budget: nothing. Its policy alone bounds it."""
+class Unlimited:
+    """Nothing to draw on: the policy alone bounds the retry, or a `Drawing` does."""
 
     __slots__ = ()
 
@@ -273,4 +273,4 @@ class NoBudget:
         return 0
 
 
-NO_BUDGET = NoBudget()
+UNLIMITED = Unlimited()

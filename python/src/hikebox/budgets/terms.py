@@ -9,7 +9,7 @@ from .._engine.calls import MAX_SHARE, MAX_TICKETS, MIN_PERIOD
 from .._time import Duration, seconds, seconds_text
 from ..errors import PolicyError, TermsError
 
-__all__ = ["CountsRequests", "Terms", "requests_of", "terms_of"]
+__all__ = ["CountsRequests", "Terms", "requests_of", "terms_of", "thousandths_of"]
 
 
 class Terms(NamedTuple):
@@ -80,19 +80,20 @@ def terms_of(reserve: int, share: float, per: Duration) -> Terms:
 
 def requests_of(requests: int) -> int:
     """Returns a number of requests that can be counted at once, or raises a `TermsError`."""
-    if isinstance(requests, bool) or not isinstance(requests, int):
-        raise TypeError(f"expected a whole number of requests, got {requests!r}")
-    if not 0 <= requests <= MAX_TICKETS:
-        raise TermsError(f"expected 0 to {MAX_TICKETS} requests at once, got {requests}")
-    return requests
+    return _tickets_of(requests, "requests", f"0 to {MAX_TICKETS} requests at once")
 
 
 def _reserve_of(reserve: int) -> int:
-    if isinstance(reserve, bool) or not isinstance(reserve, int):
-        raise TypeError(f"expected a whole number of retries as the reserve, got {reserve!r}")
-    if not 0 <= reserve <= MAX_TICKETS:
-        raise TermsError(f"expected a reserve from 0 to {MAX_TICKETS} retries a window, got {reserve}")
-    return reserve
+    return _tickets_of(reserve, "retries as the reserve", f"a reserve from 0 to {MAX_TICKETS} retries a window")
+
+
+def _tickets_of(number: int, of: str, bounds: str) -> int:
+    """Returns a number of tickets, or raises an error that says of what, and from where to where."""
+    if isinstance(number, bool) or not isinstance(number, int):
+        raise TypeError(f"expected a whole number of {of}, got {number!r}")
+    if not 0 <= number <= MAX_TICKETS:
+        raise TermsError(f"expected {bounds}, got {number}")
+    return number
 
 
 def _share_of(share: float) -> int:
@@ -103,6 +104,22 @@ def _share_of(share: float) -> int:
     thousandths = round(share * 1000)
     if share > 0 and thousandths == 0:
         raise TermsError(f"expected a share of 0 or at least 0.001 retries a request, got {share!r}")
+    return thousandths
+
+
+def thousandths_of(name: str, value: float, most: int) -> int:
+    """Returns a number in thousandths, of which there are at most so many, or raises a `TermsError`.
+
+    >>> thousandths_of("the ratio", 0.1, 1000)
+    100
+    """
+    if isinstance(value, bool) or not isinstance(value, (int, float)):
+        raise TypeError(f"expected a number as {name}, got {value!r}")
+    if not (math.isfinite(value) and 0 <= value and round(value * 1000) <= most):
+        raise TermsError(f"expected {name} from 0 to {most / 1000:g}, got {value!r}")
+    thousandths = round(value * 1000)
+    if value > 0 and thousandths == 0:
+        raise TermsError(f"expected 0 or at least 0.001 as {name}, got {value!r}")
     return thousandths
 
 

@@ -3,11 +3,11 @@
 from __future__ import annotations
 
 import enum
-from typing import Any, List, Literal, Optional, Protocol, Union
+from typing import Any, List, Literal, Optional, Protocol
 
 from ..errors import StoreError, TicketError
 
-__all__ = ["Drawn", "Refusal", "RefusalReason", "Ticket", "checked_ticket"]
+__all__ = ["Refusal", "RefusalReason", "Ticket", "checked_ticket"]
 
 
 class Owner(Protocol):
@@ -74,6 +74,12 @@ class RefusalReason(enum.Enum):
     USED_UP = "used up"
     UNREACHABLE = "the store can't be reached"
     LOST = "the store lost its count"
+    LEVEL_LOW = "the bucket's level is too low"
+    REQUESTS_FULL = "too many calls are in flight"
+    RETRIES_FULL = "too many retries are in flight"
+    BREAKER_OPEN = "the breaker is open"
+    PROBING = "the breaker's probes are out"
+    THROTTLED = "the throttle refuses"
 
 
 class Refusal:
@@ -103,7 +109,3 @@ class Refusal:
     def __repr__(self) -> str:
         until = "" if self.again_at is None else f" until {self.again_at:.3f}"
         return f"<Refusal: {self.reason.value}{until}>"
-
-
-#: What a draw returns.
-Drawn = Union[Ticket, Refusal]

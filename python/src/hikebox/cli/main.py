@@ -118,14 +118,15 @@ def _parser() -> Parser:
     return parser
 
 
+def _with_epilog(commands: Any, name: str, does: str, words: str, epilog: str) -> Any:
+    """The parser of a command whose help ends with a text of several lines."""
+    layout = argparse.RawDescriptionHelpFormatter
+    usage = f"hikebox {name} [OPTION..] {words}"
+    return commands.add_parser(name, help=does, usage=usage, epilog=epilog, formatter_class=layout)
+
+
 def _add_run(commands: Any) -> None:
-    run = commands.add_parser(
-        "run",
-        help="run a command until it succeeds",
-        usage="hikebox run [OPTION..] -- COMMAND [WORD..]",
-        epilog=_RUN,
-        formatter_class=argparse.RawDescriptionHelpFormatter,
-    )
+    run = _with_epilog(commands, "run", "run a command until it succeeds", "-- COMMAND [WORD..]", _RUN)
     run.add_argument("--policy", metavar="POLICY", default=DEFAULT, help="when to run it again")
     bounds = run.add_mutually_exclusive_group()
     bounds.add_argument(
@@ -141,10 +142,10 @@ def _add_run(commands: Any) -> None:
     run.add_argument("--deadline", metavar="SECONDS", type=values.duration, help=within)
     run.add_argument("--replay-input", action="store_true", help="give each attempt the whole standard input")
     run.add_argument("--last-output", action="store_true", help="print the standard output of the last attempt only")
-    limit = "with --last-output, fail where an attempt has more output, in bytes or as 10K, 10M, 10G (1G)"
+    limit = "with --last-output, fail if an attempt has more output, in bytes or as 10K, 10M, 10G (1G)"
     run.add_argument("--output-limit", metavar="SIZE", type=values.size, default=MAX_OUTPUT, help=limit)
     tells = run.add_mutually_exclusive_group()
-    tells.add_argument("--verbose", "-v", action="store_true", help="tell on standard error what happens")
+    tells.add_argument("--verbose", "-v", action="store_true", help="print what happens, on standard error")
     tells.add_argument("--quiet", "-q", action="store_true", help="on a terminal, show no line while it waits")
     run.add_argument("command", nargs=argparse.REMAINDER, metavar="COMMAND")
     run.set_defaults(does=_run, parser=run)
@@ -184,13 +185,8 @@ def _add_check(commands: Any) -> None:
 
 
 def _add_storm(commands: Any) -> None:
-    storm = commands.add_parser(
-        "storm",
-        help="show what a policy does to a peer that fails for a while",
-        usage="hikebox storm [OPTION..] [POLICY..]",
-        epilog=_STORM,
-        formatter_class=argparse.RawDescriptionHelpFormatter,
-    )
+    does = "show what a policy does to a peer that fails for a while"
+    storm = _with_epilog(commands, "storm", does, "[POLICY..]", _STORM)
     add_storm_options(storm)
     compare = "play this policy too; you can give it again"
     storm.add_argument("--compare", metavar="POLICY", action="append", default=[], help=compare)

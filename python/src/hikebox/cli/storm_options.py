@@ -58,11 +58,11 @@ def add_storm_options(storm: argparse.ArgumentParser) -> None:
     limits: Any = {"dest": "limits", "action": "append", "default": []}
     budget = "limit all retries to N; each --budget and --quota is a storm of its own"
     storm.add_argument("--budget", type=values.number(MAX_TICKETS), metavar="N", help=budget, **limits)
-    quota = "limit the retries in each PERIOD to RESERVE and a SHARE of its requests, as 10/10%/1s"
+    quota = "limit the retries in each PERIOD to RESERVE and a SHARE of its requests, such as 10/10%/1s"
     shown = quota.replace("%", "%%")
     storm.add_argument("--quota", type=_quota, metavar="RESERVE/SHARE%/PERIOD", help=shown, **limits)
     storm.add_argument("--without", action="store_true", help="also play each policy without a limit")
-    along = "play the storms for each value of a parameter, as rate=200..1600/8 (see below)"
+    along = "play the storms for each value of a parameter, such as rate=200..1600/8 (see below)"
     storm.add_argument("--sweep", action=_Once, metavar="NAME=VALUES", help=along)
     drawn = "what a sweep shows (succeeded); you can give it again"
     storm.add_argument("--measure", choices=list(MEASURES), action="append", default=[], help=drawn)
@@ -97,7 +97,7 @@ def tickets_of(text: str) -> Union[None, int, Terms]:
             raise BudgetError(f"expected a budget from 0 to {MAX_TICKETS}, got {spelt}")
         return int(spelt)
     if "/" not in spelt or len(spelt) > _MAX_TEXT:
-        raise BudgetError(f"expected N or RESERVE/SHARE%/PERIOD, as 10/10%/1s, got {fitted(spelt, 300)!r}")
+        raise BudgetError(f"expected N or RESERVE/SHARE%/PERIOD, such as 10/10%/1s, got {fitted(spelt, 300)!r}")
     return terms_of(*values.terms(spelt))
 
 

@@ -135,7 +135,7 @@ thousandths and milliseconds, which zsched reads, 1/50%/100ms
             f"{text!r} has no units: as retries a request and seconds it is {ours}, as thousandths and milliseconds, "
             f"which zsched reads, {theirs}"
         )
-    raise BudgetError(f"expected RESERVE/SHARE%/PERIOD, as 10/20%/60s (units: ms, s, m, h, d), got {text!r}")
+    raise BudgetError(f"expected RESERVE/SHARE%/PERIOD, such as 10/20%/60s (units: ms, s, m, h, d), got {text!r}")
 
 
 def _exact(value: float) -> float:

@@ -24,11 +24,11 @@ _TRIES = 100
 class FileStore:
     """Counts in a folder, for the processes of one machine.
 
-    Each budget, and each quota, has a file of its own in the folder, which is made where it is missing. A lease is one
-    change of that file under its lock (`flock`). That of a budget without windows is on the disk before the lease is
-    granted. Windows are counted by the machine's uptime, so a clock that is set, or off, changes nothing, and neither
-    does the time namespace of a container. The folder has to be on a local disk. If you delete it, all its budgets and
-    quotas begin anew. A damaged file grants nothing (`StoreLost`).
+    Each budget and each quota has a file of its own in the folder, which is made if it is missing. A lease is one
+    change of that file under its lock (`flock`). For a budget without windows the change is on the disk before the
+    lease is granted. Windows follow the machine's uptime, so a clock that is set or wrong changes nothing, nor does the
+    time namespace of a container. The folder must be on a local disk. If you delete it, all its budgets and quotas
+    begin anew. A damaged file grants nothing (`StoreLost`).
 
     `patience` is how many seconds a lease waits for the lock.
     """

@@ -1,4 +1,4 @@
-"""Budgets and quotas that draw of leases from a store."""
+"""Budgets and quotas that draw from leases of a store."""
 
 from __future__ import annotations
 
@@ -22,15 +22,15 @@ class Leased(Leases):
     `limit`
         The most tickets over all processes: in all, or with `per` in each window.
     `per`
-        How long a window is: seconds, or a `timedelta`.
+        The length of a window: seconds, or a `timedelta`.
     `lease`
-        How many tickets are leased at a time. A process that ends loses at most so many; a store is asked once for so
-        many draws. A sixty-fourth of the limit where it is None, from 1 to 1000.
+        How many tickets a process leases at a time. It asks the store once for that many draws, and loses at most that
+        many when it ends. The default is a sixty-fourth of the limit, from 1 to 1000.
     `spare`
-        How many tickets this process may draw while the store can't be reached, beyond the limit: in all, or with
-        `per` in each window.
+        How many tickets this process may draw beyond the limit while the store can't be reached: in all, or with `per`
+        in each window.
     `again_after`
-        How many seconds a store that could not be reached is left alone.
+        How many seconds to wait before asking a store again that could not be reached.
     """
 
     def __init__(
@@ -67,22 +67,22 @@ class LeasedQuota(Leases, CountsRequests):
     """A quota that all processes with the same store and name share. Threads may share it too.
 
     `reserve`, `share`, `per`
-        As of a `Quota`, over all processes: in each window of the store's clock they draw no more tickets than the
-        reserve, and the share of the requests that they told the store in it.
+        The same as for a `Quota`, over all processes: in each window of the store's clock they draw at most the reserve
+        and the share of the requests that they reported in it.
     `lease`
-        How many tickets are leased at a time, at most. A process that ends loses at most so many; a store is asked once
-        for so many draws. A sixty-fourth of what the window allows where it is None, from 1 to 1000.
+        The most tickets that a process leases at a time. It asks the store once for that many draws, and loses at most
+        that many when it ends. The default is a sixty-fourth of what the window allows, from 1 to 1000.
     `counts_successes`, `returns_tickets`
-        As of a `Quota`. A ticket that comes back, so or of a retry that ends while it waits, is drawn again in this
-        process while its window lasts; the store is not told.
+        The same as for a `Quota`. A ticket that comes back, also from a retry that ended while it waited, is drawn
+        again by this process while its window lasts. The store does not learn of it.
     `spare`
-        How many tickets this process may draw in each window while the store can't be reached, beyond the quota.
+        How many tickets this process may draw beyond the quota in each window, while the store can't be reached.
     `again_after`
-        How many seconds a store that could not be reached is left alone, and one that had no ticket left, where the
-        requests since then are not worth a lease.
+        How many seconds to wait before asking a store again that could not be reached, or that had no ticket left,
+        unless the requests since then are worth a lease.
 
-    Requests are counted in the process, and told to the store when a lease is asked for, or by `seen`; those of the
-    present window alone count. So a process whose calls all succeed never asks the store.
+    A process counts its requests, and reports those of the present window when it asks for a lease or calls `seen`. So
+    a process whose calls all succeed never asks the store.
     """
 
     def __init__(
@@ -119,24 +119,23 @@ class LeasedQuota(Leases, CountsRequests):
         self._asked_by = self.terms
 
     def set_terms(self, reserve: Optional[int] = None, share: Optional[float] = None) -> None:
-        """Sets the reserve and the share that this process names to the store, from its next lease on. Each process
-        sets its own. A window gives no more than the most generous that were named in it allow."""
+        """Sets the reserve and the share that this process sends to the store, from its next lease on. Each process
+        sets its own. A window gives at most what the most generous terms sent in it allow."""
         with self._terms_lock:
             self.terms = self.terms.changed(reserve, share)
         self._may_ask_again()
 
     def deposit(self, requests: int = 1) -> None:
-        """Counts a request, or so many at once. Calls that are retried under the quota count themselves. The store is
-        not asked."""
+        """Counts a request, or several at once for an expensive one. Calls that are retried under the quota count
+        themselves. This does not ask the store."""
         self.leased.deposit(self.moments.now(), requests_of(requests))
 
     def seen(self) -> Usage:
-        """Tells the store the requests that were counted since it was asked last, and answers what it has of its
-        present window. It is a `StoreError` where the store can't be reached. `lost` says that the store may have lost
-        what it counted of the window, and grants nothing until the next one.
+        """Reports the requests counted since the store was asked last, and returns the store's use of the present
+        window. If the store can't be reached, it raises a `StoreError`. `lost` says that the store may have lost its
+        count of the window, and grants nothing until the next one.
 
-        A process whose calls hardly ever fail may call it now and then, so that others draw on the share of its
-        requests.
+        A process whose calls seldom fail can call this now and then, so that others draw on the share of its requests.
         """
         with self.lock:
             found = self._asked(self.terms, 0)

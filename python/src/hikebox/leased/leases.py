@@ -11,7 +11,7 @@ from .._engine.leasing import Grant, LeasedPass, LeasedTicket
 from .._forks import begins_anew_in_a_child
 from .._time import MAX_NUMBER, FLOAT_ERROR
 from ..budgets.drawing import Drawing
-from ..budgets.tickets import Drawn, Refusal, RefusalReason, Ticket, checked_ticket
+from ..budgets.tickets import Refusal, RefusalReason, Ticket, checked_ticket
 from ..errors import StoreError, StoreLost, TicketError
 from .stores import Range, checked_name
 
@@ -111,7 +111,7 @@ class Leases:
 
     # Draws
 
-    def draw(self) -> Drawn:
+    def draw(self) -> Union[Ticket, Refusal]:
         """A `Ticket` of what was leased, or of a new lease where that is used up: or a `Refusal`, which is false and
         says why there is none. It waits for the store where that is asked.
 
@@ -124,7 +124,7 @@ class Leases:
         with self.lock:
             return self._drawn_anew()
 
-    async def draw_async(self) -> Drawn:
+    async def draw_async(self) -> Union[Ticket, Refusal]:
         """The same for a coroutine: it waits for the store on another thread."""
         found = self._at_hand()
         if isinstance(found, Ticket):
@@ -181,7 +181,7 @@ class Leases:
         """Whether the store may be asked now, which is to be left alone until this moment."""
         return moment <= self.moments.now() or self._is_worth_asking()
 
-    def _drawn_anew(self) -> Drawn:
+    def _drawn_anew(self) -> Union[Ticket, Refusal]:
         """A ticket: what another thread leased meanwhile, or of a new lease, or one without the store."""
         for _ in range(_TRIES):
             found = self._at_hand()
@@ -265,7 +265,7 @@ class ByLease:
     async def _draw_async(self) -> Optional[Refusal]:
         return self._drawn(await self._leases.draw_async())
 
-    def _drawn(self, drawn: Drawn) -> Optional[Refusal]:
+    def _drawn(self, drawn: Union[Ticket, Refusal]) -> Optional[Refusal]:
         if isinstance(drawn, Refusal):
             return drawn
         self._latest, self._generation = drawn, self._leases.generation

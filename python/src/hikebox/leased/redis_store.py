@@ -38,14 +38,13 @@ return {given, tickets, asked}
 class RedisStore:
     """Counts in a Redis server, for the processes of many machines: each lease is one atomic step.
 
-    The connection is handed in: a client of the `redis` library, best with a `socket_timeout`. The server's clock alone
-    counts, for windows too.
+    Pass a client of the `redis` library, with a `socket_timeout`. Only the server's clock counts, for windows too.
 
-    A budget without a period is begun once, by `begin`. It grants nothing (`StoreLost`) where its count is not there,
-    and after the server was started anew, since what it was told last may be lost; with `durable`, where the server has
-    `appendonly yes` and `appendfsync always`, it goes on after that. A window, of a budget or of a quota, that began
-    before the server was started grants nothing. Not seen are a failover to a replica that lags, a clock of the server
-    that is set back, and someone who writes to its keys.
+    Begin a budget without a period once, by `begin`. It grants nothing (`StoreLost`) if its count is missing, or if the
+    server was restarted, since its last writes may be lost. With `durable` it goes on after a restart; say that only of
+    a server with `appendonly yes` and `appendfsync always`. A window of a budget or a quota that began before the
+    restart grants nothing. The store can't notice a failover to a replica that lags, a server's clock that is set back,
+    or someone else who writes to its keys.
     """
 
     def __init__(self, client: Any, *, prefix: str = "hikebox", durable: bool = False) -> None:
@@ -57,7 +56,7 @@ class RedisStore:
         return f"RedisStore({self.client!r})"
 
     def begin(self, name: str) -> None:
-        """Begins a budget of this name with no ticket leased: to be called once for each budget, by one process."""
+        """Begins a budget of this name with no ticket leased. Call it once for each budget, in one process."""
         key = self._key(name)
         with _errors():
             server = self.client.info("server")["run_id"]

@@ -86,10 +86,11 @@ class _File(io.FileIO):
     @classmethod
     def opened(cls, path: str, mode: str) -> _File:
         """The file at this path, open."""
-        # a child has to know of each file that is open
+        # a child has to know of each file that is open, also of one that a signal's handler forks in here
         with no_fork:
-            file = cls(path, mode)
+            file = cls.__new__(cls)
             begins_anew_in_a_child(file)
+            file.__init__(path, mode)  # type: ignore[misc]
             return file
 
     def begin_anew(self) -> None:

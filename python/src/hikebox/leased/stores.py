@@ -12,12 +12,12 @@ __all__ = ["Present", "QuotaRange", "QuotaStore", "Range", "Store", "checked_nam
 
 
 def uptime() -> float:
-    """Seconds since the machine started, also those for which it slept. Nobody can set this clock."""
+    """Seconds since the machine started, including those in which it slept. Nobody can set this clock."""
     return time.clock_gettime(time.CLOCK_BOOTTIME)
 
 
 class Range(NamedTuple):
-    """A range of tickets that a store granted: so many `tickets` from `first` on, or none."""
+    """A range of tickets that a store granted: `tickets` of them from `first` on, or none."""
 
     first: int
     tickets: int
@@ -30,7 +30,7 @@ class Range(NamedTuple):
 
 
 class QuotaRange(NamedTuple):
-    """A range of the tickets of a quota's window that a store granted: so many `tickets` from `first` on, or none."""
+    """A range of a quota's window that a store granted: `tickets` of its tickets from `first` on, or none."""
 
     first: int
     tickets: int
@@ -47,8 +47,8 @@ class Store(Protocol):
     """Where leases come from."""
 
     def take(self, name: str, count: int, limit: int, period: Optional[int], clock: Callable[[], float]) -> Range:
-        """Adds `count` to the count of this name, or of its present window of `period` milliseconds, and gives those
-        of the numbers added that are below the limit. A `StoreError` where the store can't be reached, or has lost
+        """Adds `count` to the count of this name, or of its present window of `period` milliseconds, and returns those
+        of the added numbers that are below the limit. Raises a `StoreError` if the store can't be reached, or has lost
         its count."""
 
 
@@ -59,8 +59,8 @@ class QuotaStore(Protocol):
         self, name: str, terms: Terms, count: int, asked: Callable[[float], int], clock: Callable[[], float]
     ) -> QuotaRange:
         """Adds requests to the count of this name's present window, and grants `count` tickets of it, or as many as
-        its requests allow. The requests are those that `asked` gives; it is handed the moment, by the clock, at which
-        the window began, and called at most once. A `StoreError` where the store can't be reached."""
+        its requests allow. `asked` returns the requests; it gets the moment, by the clock, at which the window began,
+        and is called at most once. Raises a `StoreError` if the store can't be reached."""
 
 
 class Present(NamedTuple):

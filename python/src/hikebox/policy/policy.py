@@ -71,7 +71,7 @@ class Policy:
 
     @classmethod
     def from_json(cls, text: Union[str, bytes]) -> Policy:
-        """The policy that a JSON text spells, as `zsched plan` reads it.
+        """Reads a policy from a JSON text, as `zsched plan` does.
 
         >>> Policy.from_json('{"recurs":3}')
         recurs(3)
@@ -86,7 +86,7 @@ class Policy:
 
     @classmethod
     def from_dict(cls, value: Any) -> Policy:
-        """The policy that a value of `json.loads` spells: a dict, or a string for a node without parameters.
+        """Reads a policy from a value of `json.loads`: a dict, or a string for a node without parameters.
 
         >>> Policy.from_dict({"cap": [1000, {"exponential": [100, 2]}]})
         exponential(0.1, 2).cap(1)
@@ -99,13 +99,13 @@ class Policy:
 
     @classmethod
     def from_file(cls, path: Union[str, os.PathLike[str]]) -> Policy:
-        """The policy that a file spells in JSON."""
+        """Reads a policy from a file of JSON."""
         with open(path, "rb") as file:
             return cls.from_json(file.read())
 
     @classmethod
     def parse(cls, text: str) -> Policy:
-        """The policy that an expression builds, as `repr` writes it; nothing but builders and numbers is run.
+        """Reads a policy from an expression, as `repr` writes it. It accepts builders and numbers, and runs no Python.
 
         >>> Policy.parse("recurs(5) & exponential(0.1, 2).cap(1)").nodes
         4
@@ -116,7 +116,7 @@ class Policy:
 
     @classmethod
     def of(cls, value: Union[Policy, str, bytes, Dict[str, Any]]) -> Policy:
-        """A policy as it is, or the one that a JSON text or a dict spells."""
+        """Returns a policy itself, or reads one from a JSON text or a dict."""
         if isinstance(value, Policy):
             return value
         if isinstance(value, (str, bytes)):
@@ -134,11 +134,11 @@ class Policy:
     # What it is
 
     def to_json(self) -> str:
-        """The policy as JSON, which `from_json` and `zsched plan` read."""
+        """Returns the policy as JSON, which `from_json` and `zsched plan` read."""
         return self.plan.text
 
     def to_dict(self) -> Any:
-        """The policy as a value of its own that `from_dict` reads."""
+        """Returns the policy as a new value that `from_dict` reads."""
         return json.loads(self.plan.text)
 
     @property

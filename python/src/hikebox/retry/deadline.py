@@ -1,4 +1,4 @@
-"""How long a call has left that is retried with a deadline."""
+"""Deadlines: how much time a retried call has left."""
 
 from __future__ import annotations
 
@@ -22,7 +22,7 @@ class Deadline:
         self.outer: Optional[Deadline] = None
 
     def left(self) -> float:
-        """How many seconds it is until then, and 0 afterwards."""
+        """The seconds until then, and 0 afterwards."""
         return max(0.0, self.at - self.clock() - self.ahead)
 
 
@@ -44,10 +44,10 @@ def leave(token: Token[Optional[Deadline]]) -> None:
 
 
 def seconds_left() -> Optional[float]:
-    """How many seconds the call that is made here has up to the deadline of its retry, or None where it has none.
+    """Returns the seconds until the deadline of the retry that makes this call, or None if it has no deadline.
 
-    It is the time that an attempt may be given: `urlopen(url, timeout=seconds_left())`, or
-    `asyncio.wait_for(fetch(), seconds_left())`. Where one retry is made in another, it is the least of both.
+    Use it as the timeout of an attempt: `urlopen(url, timeout=seconds_left())`, or
+    `asyncio.wait_for(fetch(), seconds_left())`. Inside two retries, it is the lesser of both.
 
     >>> from hikebox import recurs, retry
     >>> @retry(recurs(3), deadline=30)

@@ -149,16 +149,24 @@ async def run_async(owner: BaseRetrying, fn: Callable[..., Any], args: Any, kwar
                         settings.deposit_won()
                     return result
                 await settle_async(progress.returned(result))
-            awaitable = None if wait is None else _waits(progress, wait)  # (and no longer what was awaited)
-            if awaitable is not None:
-                await awaitable
-            goes_on = await settle_async(progress.begins()) if wait is None else progress.goes_on()
+            awaitable = None  # (the call's coroutine is let go before the wait)
+            goes_on = await _next_begins(progress, wait)
         return None if progress is None else answer_of(progress)
     finally:
         if token is not None:
             leave(token)
         if progress is not None:
             progress.close()
+
+
+async def _next_begins(progress: Progress, wait: Optional[float]) -> Any:
+    """The same as `next_begins`, and awaits what has to be awaited."""
+    if wait is None:
+        return await settle_async(progress.begins())
+    awaitable = _waits(progress, wait)
+    if awaitable is not None:
+        await awaitable
+    return progress.goes_on()
 
 
 def _waits(progress: Progress, wait: float) -> Any:

@@ -54,6 +54,8 @@ def _fields(state: RetryState, **more: Any) -> Dict[str, Any]:
 
 def _told(outcome: Optional[Outcome]) -> str:
     """How an attempt ended, as text: a log record that is kept keeps no exception, and with it no frames."""
+    if outcome is None:
+        return "was not made"
     try:
         return repr(outcome)
     except Exception as error:

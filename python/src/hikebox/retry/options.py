@@ -24,8 +24,9 @@ from typing import (
 from .._time import Duration, seconds
 from ..budget import Budget
 from ..budgets.drawing import ByCall, Drawing
-from ..budgets.passes import NO_BUDGET, DrawnOn
+from ..budgets.passes import UNLIMITED, Grants
 from ..errors import BudgetClosed, TryAgain
+from ..limits import Limit
 from ..policy import Policy
 from ..quota import Quota
 from .kinds import hooks_of, look_at_function, parts_of_on, stop_of
@@ -133,23 +134,24 @@ def _waits_follow(settings: Settings) -> None:
 
 def _drawing_follows(settings: Settings) -> None:
     budget = settings.budget
-    settings.drawn_on, settings.drawing = _drawn_on(budget, settings.clock, settings.awaits)
+    settings.grants, settings.drawing = _grants_of(budget, settings.clock, settings.awaits)
     settings.deposit, settings.deposit_won = _deposits(budget)
+    settings.asks_limit = isinstance(budget, Limit)
     settings.returns_tickets = bool(getattr(budget, "returns_tickets", False))
 
 
-def _drawn_on(budget: Any, clock: Any, awaits: bool) -> Tuple[DrawnOn, Optional[Callable[[], Drawing]]]:
-    """What the engine's retry draws on, and what makes the drawing of one that does not."""
+def _grants_of(budget: Any, clock: Any, awaits: bool) -> Tuple[Grants, Optional[Callable[[], Drawing]]]:
+    """What grants the engine's retry its tickets, and what makes the drawing of a retry that draws elsewhere."""
     if budget is None:
-        return NO_BUDGET, None
+        return UNLIMITED, None
     draw = getattr(budget, "draw", None)
     if not callable(draw):
         raise TypeError(f"budget: expected a Budget, a Quota, or something with draw(), got {budget!r}")
     if isinstance(budget, Budget) or (isinstance(budget, Quota) and budget.clock == clock):
         return budget, None
     if hasattr(budget, "retry_drawing"):
-        return NO_BUDGET, partial(budget.retry_drawing, awaits)
-    return NO_BUDGET, partial(ByCall, getattr(budget, "draw_async", draw) if awaits else draw)
+        return UNLIMITED, partial(budget.retry_drawing, awaits)
+    return UNLIMITED, partial(ByCall, getattr(budget, "draw_async", draw) if awaits else draw)
 
 
 def _deposits(budget: Any) -> Tuple[Optional[Callable[[], Any]], Optional[Callable[[], Any]]]:
@@ -232,10 +234,11 @@ class Options:
         kw_only=False, metadata={"about": """When to call again: a `Policy`, or its JSON as text or a dict."""}
     )
 
-    budget: Union[Budget, Quota, Tickets, None] = option(
+    budget: Union[Budget, Quota, Limit, Tickets, None] = option(
         None,
-        """A `Budget` or a `Quota` that limits all calls together, or other `Tickets`; None for no limit. A quota counts
-        each call as a request.""",
+        """A `Budget`, a `Quota` or a `Limit` such as a `Breaker` that limits all calls together, or other `Tickets`;
+        None for no limit. A quota counts each call as a request. A limit may refuse a first attempt too, which raises a
+        `NotAdmitted`.""",
         _drawing_follows,
         shapes=True,
     )

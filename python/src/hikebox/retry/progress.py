@@ -14,9 +14,11 @@ from typing import TYPE_CHECKING, Any, Callable, Generator, Mapping, Optional, T
 from .._engine.calls import LOST, NO_DEADLINE, NO_REPORT, OVER, RUN, WAIT
 from .._engine.machine import Machine, is_crowded, lend_machine, park, resumed, take_machine_back
 from .._time import MAX_NUMBER, FLOAT_ERROR
-from ..budgets.drawing import Drawing
+from ..budgets.drawing import Drawing, ask
+from ..limits import Request
 from ..errors import ResultRefused
 from ..policy.preview import word_of
+from .admission import is_admitted
 from .deadline import Deadline
 from .marks import log_end, log_wait, logger, mark
 from .state import ENDINGS, Ending, Outcome, RetryState
@@ -134,6 +136,10 @@ class Progress:
             if not (yield from self._waits()):
                 yield from self._ends_later()
                 return False
+        elif settings.asks_limit and settings.drawing is not None:
+            self._drawing = settings.drawing()
+            if not (yield from is_admitted(self, self._drawing)):
+                return False
         elif settings.deposit is not None:
             settings.deposit()
         outcome, state.outcome = state.outcome, None
@@ -146,6 +152,11 @@ class Progress:
         state.attempt_number -= 1
         yield from self._ends_later()
         return False
+
+    def _tells(self, succeeded: bool) -> None:
+        """Tells a limit how the attempt ended."""
+        if isinstance(self._drawing, Request):
+            self._drawing.tell(succeeded)
 
     def _waits(self) -> Steps[bool]:
         """Waits for the next attempt: whether it begins."""
@@ -168,9 +179,11 @@ class Progress:
         outcome = Outcome(value, attempt_number=state.attempt_number)
         refuses = settings.on_result
         if refuses is not None and (yield refuses, value):
+            self._tells(False)
             if not (yield from self.judges(outcome)):
                 yield from self._ends()
             return
+        self._tells(True)
         if settings.repeats and (yield from self.judges(outcome)):
             return
         if not settings.repeats or state.ending is None:
@@ -208,6 +221,8 @@ class Progress:
         """The attempt raised this exception: False where that is to be raised now."""
         settings, state = self.settings, self.state
         outcome = Outcome(None, error, state.attempt_number)
+        if isinstance(error, Exception):
+            self._tells(False)
         retried = isinstance(error, settings.types)
         if not retried and isinstance(error, Exception):
             for test in settings.tests:
@@ -240,9 +255,11 @@ class Progress:
             return False
         if settings.drawing is None:
             return True
-        if self._drawing is None:
-            self._drawing = settings.drawing()
-        state.refusal = yield _called, self._drawing.draw
+        drawing = self._drawing = self._drawing or settings.drawing()
+        if isinstance(drawing, Request):
+            state.refusal = drawing.draw(outcome.exception())
+        else:
+            state.refusal = yield ask, drawing
         if state.refusal is not None:
             state.ending = Ending.BUDGET_REFUSED
             return False
@@ -385,13 +402,13 @@ class Progress:
         state = self.state
         won = self.settings.returns_tickets and state.ending is Ending.WON and state.granted > 0
         machine = self._resumed() if self._parked else self._machine
-        drawing, drawn_on, hands_back = self._drawing, self.settings.drawn_on, self._holds_ticket or won
+        drawing, grants, hands_back = self._drawing, self.settings.grants, self._holds_ticket or won
         self._machine = self._drawing = None
         try:
             if drawing is not None:
                 drawing.end(hands_back)
-            if machine is not None and self._generation == drawn_on.generation:
-                drawn_on.end_retry(machine, hands_back)
+            if machine is not None and self._generation == grants.generation:
+                grants.end_retry(machine, hands_back)
         finally:
             if machine is not None:
                 take_machine_back(machine)
@@ -434,11 +451,11 @@ class Progress:
         """A retry of the engine, whose first attempt began at the start."""
         settings = self.settings
         machine = lend_machine()
-        drawn_on, plan, most = settings.drawn_on, settings.policy.plan, settings.deadline_millis
-        self._origin = drawn_on.moment_of(self.state.start_time)
+        grants, plan, most = settings.grants, settings.policy.plan, settings.deadline_millis
+        self._origin = grants.moment_of(self.state.start_time)
         deadline = NO_DEADLINE if most is None else min(MAX_NUMBER, self._origin + most)
-        drawn_on.begin_retry(machine, plan, deadline)
-        self._generation = drawn_on.generation
+        grants.begin_retry(machine, plan, deadline)
+        self._generation = grants.generation
         self._machine = machine
         self._logs = logger.isEnabledFor(logging.DEBUG)
         if machine.poll(self._origin, NO_REPORT, 0)[0] != RUN:
@@ -474,10 +491,6 @@ class Progress:
 
 #: In the place of an attempt that failed, and of which nobody asks how.
 _FAILED = Outcome()
-
-
-def _called(fn: Callable[[], Any]) -> Any:
-    return fn()
 
 
 def _through(steps: Steps[None]) -> None:

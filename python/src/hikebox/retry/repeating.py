@@ -14,10 +14,10 @@ __all__ = ["AsyncRepeating", "Repeating", "poll_until", "repeat"]
 
 
 class Repeating(Retrying):
-    """Calls a function again and again, as long as its policy goes on, and gives the last result.
+    """Calls a function again as long as its policy goes on, and returns the last result.
 
-    Each call that gives a result is an event of the policy, which is given the result's number (`code_of`). The first
-    exception ends it, and is raised. It takes what `Retrying` takes, but `on`.
+    Each call that returns is an event of the policy, which sees the result's number (`code_of`). The first exception
+    ends the repeat and is raised. It takes the options of `Retrying`, except `on`.
 
     >>> from hikebox import recurs, spaced
     >>> answers = iter([202, 202, 200, 404])
@@ -67,10 +67,11 @@ def repeat(policy: PolicyLike, **how: Any) -> Decorator:
 
 
 def poll_until(policy: PolicyLike, accepts: Callable[[Any], Any], **how: Any) -> Decorator:
-    """Calls a function or a coroutine function again until `accepts` is true of its result, and gives that.
+    """Calls a function or a coroutine function again until `accepts` is true of its result, and returns that.
 
-    Where the policy is done before, it is a `ResultRefused` with the last result, or what `fallback` gives. An
-    exception is raised at once, but one that `on` names is followed by one more call. It takes what `Retrying` takes.
+    If the policy is done before that, it raises a `ResultRefused` with the last result, or returns what `fallback`
+    returns. An exception is raised at once, unless `on` names it: then it calls again. It takes the options of
+    `Retrying`.
 
     >>> from hikebox import recurs, spaced
     >>> states = iter(["queued", "running", "done"])

@@ -7,7 +7,7 @@ from typing import TYPE_CHECKING, Any, Callable, Dict, Iterable, List, Optional,
 
 from .._time import MAX_NUMBER
 from ..budgets.drawing import Drawing
-from ..budgets.passes import DrawnOn
+from ..budgets.passes import Grants
 from ..policy import Policy
 from .deadline import Deadline
 from .options import DEFAULTS, OPTIONS, Hook, Options
@@ -45,9 +45,11 @@ class Settings(HasOptions):
     pause: Optional[Callable[[float], Any]]
     #: What the engine's retry draws on by itself. On a quota it draws at moments of that quota's clock, so the retry
     #: goes by the same one.
-    drawn_on: DrawnOn
+    grants: Grants
     #: What makes a retry's drawing where the engine's retry does not draw itself, or None.
     drawing: Optional[Callable[[], Drawing]]
+    #: Whether what it draws on is a limit that calls ask before their first attempt, and that hears how each ended.
+    asks_limit: bool
     #: What counts a request at the first attempt, and what counts it at the success, where the budget counts any.
     deposit: Optional[Callable[[], Any]]
     deposit_won: Optional[Callable[[], Any]]
@@ -92,7 +94,7 @@ class Settings(HasOptions):
         """Works out what a retry can leave out."""
         has_hooks = bool(self.hooks_before or self.hooks_on_success)
         self.asks = self.retry_after is not None or self.wait is not None
-        self.is_quiet = not (self.repeats or has_hooks) and self.on_result is None
+        self.is_quiet = not (self.repeats or has_hooks or self.asks_limit) and self.on_result is None
         calls_at_failures = self.hooks_after or self.hooks_before_sleep or self.asks or self.stop is not None
         gives_up_by_itself = self.fallback is None and self.drawing is None
         self.is_plain = gives_up_by_itself and not (has_hooks or calls_at_failures)

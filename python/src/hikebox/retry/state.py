@@ -30,6 +30,8 @@ class Ending(enum.Enum):
     DEADLINE = "the deadline left no time for another attempt"
     #: The last call failed, the policy went on, and the budget had no ticket.
     BUDGET_REFUSED = "the budget had no ticket"
+    #: The limit did not admit the call, so no attempt was made.
+    NOT_ADMITTED = "the limit did not admit the call"
     #: The last call failed in a way that `on` does not name.
     NOT_RETRIED = "the error is not one that is retried"
     #: What was given as `stop` said so.
@@ -266,6 +268,7 @@ class Statistics:
     cancelled: int = 0
     broken: int = 0
     stopped: int = 0
+    not_admitted: int = 0
 
     @property
     def retries(self) -> int:

@@ -1,3 +1,4 @@
+-- The first two turns of the retry that is made, and those after; or the two that break one that cannot be made.
 use Rattle.std.proofs.Common.{◌≡◌, [], ◌∷◌, Some, None, Err, true, refl, sym, ap, ◌∙◌}
 use Rattle.sched_time.specs.declared.numbers.Tick.{Tick}
 use Rattle.sched_task_law.specs.Kind.{a_retry}
@@ -16,36 +17,46 @@ returns-in_default-clause-unbegun g c = λ clock call told gave. (
   c.args.call,
   (
     (c.alloc-alloc.result, c.in_default.field-0, c.in_default.ensures),
-    broken_at_once g.D.Draws.grants g.met.D.Draws.lawful g.S.Drives.keeps g.K.Clock.tells g.K.Clock.waits (C-step g) g.I.Coded.coded g.F.Coded.coded
-        c.args.begin.now c.begin.new.self clock c.args.clock.now c.now.new.self (g.G.Rng.stream c.args.words.now) (g.G.Rng.stream c.four_words.new.rng)
+    broken_at_once g.D.Draws.grants g.met.D.Draws.lawful g.S.Drives.driving.keeps g.K.Clock.tells g.K.Clock.waits
+        (C-step g) g.I.Coded.coded g.F.Coded.coded
+        c.args.begin.now c.begin.new.self clock c.args.clock.now c.now.new.self (g.G.Rng.stream c.args.words.now)
+        (g.G.Rng.stream c.four_words.new.rng)
         (g.G.Rng.stream c.four_words-2.new.rng) call c.args.call c.args.first.1
-        (record { now = c.args.first.0; words = c.four_words.result }) (record { now = c.now.result; words = c.four_words-2.result })
+        (record { now = c.args.first.0; words = c.four_words.result }) (record {
+          now = c.now.result;
+          words =
+              c.four_words-2.result;
+        })
         told c.four_words.ensures gave c.now.ensures c.four_words-2.ensures,
   ),
 )
 
 pub returns-clause-begun : goal.returns-clause-begun
 returns-clause-begun g c = λ clock call told gave.
-    let on = machine_turning g.D.Draws.grants (a_retry g.S.Drives.keeps) g.S.Drives.stands g.S.Drives.goes_by g.S.Drives.ends in
+    let on = machine_turning g.D.Draws.grants (a_retry g.S.Drives.driving.keeps) g.S.Drives.driving in
     let began : Tick = record { now = c.args.first.0; words = c.four_words.result } in
     let ended : Tick = record { now = c.now.result; words = c.four_words-2.result } in
     let made = begins g.D.Draws.grants c.in-Ok.driver c.in-Ok.drawing in
-    let runs : c.begun-retry.result.under_way ≡ true = ap (λ (m : Machine _ _). m.under_way) c.begun-retry.ensures.begun in
+    let runs : c.begun-retry.result.under_way ≡ true =
+    ap (λ (m : Machine _ _). m.under_way) c.begun-retry.ensures.begun in
     let fault = Err c.args.first.1 in
     let between = calling c.begun-retry.result c.args.clock.now (g.G.Rng.stream c.four_words.new.rng) call None in
-    let then = calling c.tell.new.self c.now.new.self (g.G.Rng.stream c.four_words-2.new.rng) c.args.call (Some fault) in
-    let first = idle_turn on g.K.Clock.tells g.K.Clock.waits (C-step g) g.I.Coded.coded g.F.Coded.coded made c.begun-retry.result clock
-    c.args.clock.now (g.G.Rng.stream c.args.words.now) (g.G.Rng.stream c.four_words.new.rng) call None began c.begun-retry.ensures.due refl
+    let then = calling c.tell.new.self c.now.new.self (g.G.Rng.stream c.four_words-2.new.rng) c.args.call (Some fault)
+    in
+    let first = idle_turn on g.K.Clock.tells g.K.Clock.waits (C-step g) g.I.Coded.coded g.F.Coded.coded made
+    c.begun-retry.result clock
+    c.args.clock.now (g.G.Rng.stream c.args.words.now) (g.G.Rng.stream c.four_words.new.rng) call None began
+    c.begun-retry.ensures.due refl
     told c.four_words.ensures c.begun-retry.ensures.polls in
-    let second = run_turn on g.K.Clock.tells g.K.Clock.waits (C-step g) g.I.Coded.coded g.F.Coded.coded c.begun-retry.result c.tell.new.self
-    c.args.clock.now c.now.new.self (g.G.Rng.stream c.four_words.new.rng) (g.G.Rng.stream c.four_words-2.new.rng) call c.args.call None ended
+    let second = run_turn on g.K.Clock.tells g.K.Clock.waits (C-step g) g.I.Coded.coded g.F.Coded.coded
+    c.begun-retry.result c.tell.new.self
+    c.args.clock.now c.now.new.self (g.G.Rng.stream c.four_words.new.rng) (g.G.Rng.stream c.four_words-2.new.rng) call
+    c.args.call None ended
     fault (λ v st. none_waited v.past (sym st.under_way ∙ runs)) runs gave c.now.ensures c.four_words-2.ensures
     (rw (← c.ran_of.ensures) c.tell.ensures.polls) in
-    let so = goes_so g.S.Drives.stands g.S.Drives.keeps g.S.Drives.goes_by g.S.Drives.ends g.D.Draws.grants g.K.Clock.tells g.K.Clock.waits (C-step g)
+    let so = goes_so g.S.Drives.driving g.D.Draws.grants g.K.Clock.tells g.K.Clock.waits (C-step g)
     g.I.Coded.coded g.F.Coded.coded made c.match-tell.retry clock c.match-tell.clock (g.G.Rng.stream c.args.words.now)
     (g.G.Rng.stream c.match-tell.words) call in
-    let plan = g.S.Drives.plan c.match-tell.retry.driver in
-    let goes = g.met.S.Drives.goes c.match-tell.retry.driver in
     let over = sym c.over.ensures ∙ c.retry_ending-ending.ensures.over in
     elim c.match-tell.branch [
       | in-Some w ↦ (
@@ -53,9 +64,9 @@ returns-clause-begun g c = λ clock call told gave.
         c.alloc-alloc.result,
         c.in-Ok.ensures,
         c.args.call,
-        so c.args.call (began ∷ ended ∷ []) c.match-tell.outcome c.retry_ending-ending.result plan
+        so c.args.call (began ∷ ended ∷ []) c.match-tell.outcome c.retry_ending-ending.result
             (rw (w.retry-is, w.clock-is, w.words-is, w.outcome-is) (between, first, (then, second, refl)))
-            c.retry_ending-ending.ensures.gave over c.begun-retry.ensures.stands goes,
+            c.retry_ending-ending.ensures.gave over c.begun-retry.ensures.stands,
       )
       | in-None w ↦ (
           let rest = w.call_on-outcome.ensures.turns in (
@@ -63,9 +74,9 @@ returns-clause-begun g c = λ clock call told gave.
             c.alloc-alloc.result,
             c.in-Ok.ensures,
             rest.1,
-            so rest.1 (began ∷ ended ∷ rest.0) c.match-tell.outcome c.retry_ending-ending.result plan
+            so rest.1 (began ∷ ended ∷ rest.0) c.match-tell.outcome c.retry_ending-ending.result
                 (rw (w.retry-is, w.clock-is, w.words-is, w.outcome-is) (between, first, (then, second, rest.2)))
-                c.retry_ending-ending.ensures.gave over c.begun-retry.ensures.stands goes,
+                c.retry_ending-ending.ensures.gave over c.begun-retry.ensures.stands,
           )
           )
     ]

@@ -1,3 +1,4 @@
+-- A first success needs no retry, and a first failure goes on.
 use Rattle.std.proofs.Common.{refl}
 use Rattle.std.proofs.lemmas.Fn.{called}
 use Rattle.sched_closure.proofs.Unbegun.{wins_once}
@@ -12,8 +13,9 @@ returns-in-Ok-clause-unbegun g c = (
     words = refl;
     nothing = refl;
     calls = called g.C.FnMut c.call.ensures c.in-Ok.is;
-    wins = λ plan drawing holds.
-        wins_once g.D.Draws.grants g.met.D.Draws.lawful g.S.Drives.keeps plan drawing holds c.now-began.result _;
+    wins = λ plan deadline drawing holds.
+        wins_once g.D.Draws.grants g.met.D.Draws.lawful g.S.Drives.driving.keeps plan deadline drawing holds
+        c.now-began.result _;
   },
 )
 
@@ -23,4 +25,5 @@ returns-in-Err-clause-begun g c =
 
 pub returns-in-Err-clause-unbegun : goal.returns-in-Err-clause-unbegun
 returns-in-Err-clause-unbegun g c =
-    c.go_on.ensures.unbegun c.args.clock.now c.args.call c.now-began.ensures (called g.C.FnMut c.call.ensures c.in-Err.is)
+    c.go_on.ensures.unbegun c.args.clock.now c.args.call c.now-began.ensures
+    (called g.C.FnMut c.call.ensures c.in-Err.is)

@@ -1,3 +1,4 @@
+-- Each pass of the loop is one turn more.
 use Rattle.std.proofs.Common.{[], ◌∷◌, ◌++◌, refl, sym, ◌∙◌, of_calls}
 use Rattle.std.proofs.lemmas.Fn.{called}
 use Rattle.sched_effect.specs.Runs.{ran_by}
@@ -15,9 +16,15 @@ returns-then-is_some-clause-turns g c =
     let next = c.next-next in (
       was.2.0 ++ tick.result ∷ [],
       c.call-outcome.new.self,
-      one_more g.K.Clock.tells g.K.Clock.waits _ g.I.Coded.coded g.F.Coded.coded g.M.Turns.turning _ _ _ was.2.0 tick.result
+      one_more g.K.Clock.tells g.K.Clock.waits _ g.I.Coded.coded g.F.Coded.coded g.M.Turns.turning _ _ _ was.2.0
+          tick.result
           (ran_by g.I.Coded.coded g.F.Coded.coded c.call-outcome.result ∷ []) _ was.2.1 next.ensures.due
-          (rw (c.in-Run.ensures.finds.1) (c.call-outcome.result, called g.C.FnMut c.call-outcome.ensures refl, refl, refl))
+          (rw (c.in-Run.ensures.finds.1) (
+            c.call-outcome.result,
+            called g.C.FnMut c.call-outcome.ensures refl,
+            refl,
+            refl,
+          ))
           tick.ensures.moment tick.ensures.lanes (rw (← c.ran_of.ensures) c.tell.ensures.polls),
     )
 
@@ -31,9 +38,15 @@ loop-preserved-in-Run g c =
       search of_calls,
       (
         was.2.0 ++ tick.result ∷ [],
-        one_more g.K.Clock.tells g.K.Clock.waits _ g.I.Coded.coded g.F.Coded.coded g.M.Turns.turning _ _ _ was.2.0 tick.result
+        one_more g.K.Clock.tells g.K.Clock.waits _ g.I.Coded.coded g.F.Coded.coded g.M.Turns.turning _ _ _ was.2.0
+            tick.result
             (ran_by g.I.Coded.coded g.F.Coded.coded c.call-outcome.result ∷ []) _ was.2.1 next.ensures.due
-            (rw (c.in-Run.ensures.finds.1) (c.call-outcome.result, called g.C.FnMut c.call-outcome.ensures refl, refl, refl))
+            (rw (c.in-Run.ensures.finds.1) (
+              c.call-outcome.result,
+              called g.C.FnMut c.call-outcome.ensures refl,
+              refl,
+              refl,
+            ))
             tick.ensures.moment tick.ensures.lanes (rw (← c.ran_of.ensures) c.tell.ensures.polls),
       ),
       λ none. absurd cc,
@@ -48,8 +61,10 @@ returns-then-is_some-2-clause-turns g c =
     let idle = idle_found _ _ next.result next.ensures.finds c.in-Poll.is in (
       was.2.0 ++ tick.result ∷ [],
       c.loop.call,
-      rw (← c.unwrap.ensures) (one_more g.K.Clock.tells g.K.Clock.waits _ g.I.Coded.coded g.F.Coded.coded g.M.Turns.turning _ _ _ was.2.0
-          tick.result [] _ was.2.1 next.ensures.due (rw idle (refl, refl, refl)) tick.ensures.moment tick.ensures.lanes c.poll.ensures.polls),
+      rw (← c.unwrap.ensures) (one_more g.K.Clock.tells g.K.Clock.waits _ g.I.Coded.coded g.F.Coded.coded
+          g.M.Turns.turning _ _ _ was.2.0
+          tick.result [] _ was.2.1 next.ensures.due (rw idle (refl, refl, refl)) tick.ensures.moment tick.ensures.lanes
+          c.poll.ensures.polls),
     )
 
 pub loop-preserved : goal.loop-preserved
@@ -62,8 +77,10 @@ loop-preserved g c =
       was.1,
       (
         was.2.0 ++ tick.result ∷ [],
-        one_more g.K.Clock.tells g.K.Clock.waits _ g.I.Coded.coded g.F.Coded.coded g.M.Turns.turning _ _ _ was.2.0 tick.result [] _
-            was.2.1 next.ensures.due (rw idle (refl, refl, refl)) tick.ensures.moment tick.ensures.lanes c.poll.ensures.polls,
+        one_more g.K.Clock.tells g.K.Clock.waits _ g.I.Coded.coded g.F.Coded.coded g.M.Turns.turning _ _ _ was.2.0
+            tick.result [] _
+            was.2.1 next.ensures.due (rw idle (refl, refl, refl)) tick.ensures.moment tick.ensures.lanes
+            c.poll.ensures.polls,
       ),
       λ none. c.poll.ensures.has_run ∙ was.3 none,
       was.4,

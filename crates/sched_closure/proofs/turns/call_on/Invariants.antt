@@ -1,3 +1,4 @@
+-- The turns so far, and what the last call gave.
 use Rattle.std.specs.Prelude.{◌≡◌, false, List, None, IfSome}
 use Rattle.std.specs.List.{FoldsTo}
 use Rattle.sched_time.specs.declared.numbers.Tick.{Tick}

@@ -1,18 +1,17 @@
 -- What C is told of a retry is so of each retry that the machine may stand for.
-use Rattle.std.proofs.Common.{◌≡◌, ℕ, Bool, false, ◌||◌, ◌-◌, nat_eq, length, min, is_some, option_map, sym, ap, ◌∙◌}
-use Rattle.std.proofs.Common.{subst}
+use Rattle.std.proofs.Common.{◌≡◌, ℕ, Bool, false, ◌||◌, ◌-◌, nat_eq, length, min, Option, None, is_some, option_map}
+use Rattle.std.proofs.Common.{sym, ap, ◌∙◌, subst}
 use Rattle.sched_run_machine.specs.declared.next.Next.{Next}
 use Rattle.sched_handle.specs.declared.replies.Reply.{Reply}
 use Rattle.sched_run_machine.specs.Retrying.{Retrying}
 use Rattle.sched_ticket_draws.specs.declared.drawing.Drawing.{Drawing}
 use Rattle.sched_handle.specs.Retries.{MayBe, reply_to, reply_of, plan_is_done, left_number, left_at}
-use Rattle.sched_driver.specs.Driven.{Driven, next_start_of}
+use Rattle.sched_driver.specs.Driven.{Driven}
 use Rattle.sched_driver_stepper.specs.Standing.{Standing}
-use Rattle.sched_task_law.specs.Past.{schedule_is_done}
-use Rattle.sched_run_machine.specs.Deadline.{late}
-use Rattle.sched_run_machine.specs.Drives.{IsStepped}
-use Rattle.sched_run_machine.specs.Until.{Until, beneath, StandsUntil, schedule_until}
-use Rattle.sched_handle.proofs.Deadlines.{TellsEnding, goes_by, tells_ending, waits_in_time}
+use Rattle.sched_task_law.specs.Deadline.{late}
+use Rattle.sched_task_law.specs.Past.{schedule_is_done, next_start_by}
+use Rattle.sched_run_machine.specs.Drives.{Until, IsStepped}
+use Rattle.sched_handle.proofs.Deadlines.{TellsEnding, tells_ending, waits_in_time}
 use Rattle.sched_handle.proofs.retries.reply.Goals as goal
 
 -- of equal parts the same is told
@@ -29,21 +28,19 @@ returns c =
     let m = c.args.retry.now in
     let deadline = m.driver.deadline in
     let start = c.late_start-late.result in
-    let late_is : (d : Driven) → StandsUntil IsStepped m.driver d
-    → start ≡ late deadline (next_start_of (beneath deadline d)) =
-    subst (λ (v : Until Standing). (d : Driven) → StandsUntil IsStepped v d
-    → start ≡ late v.deadline (next_start_of (beneath v.deadline d)))
+    let late_is : (d : Driven) → IsStepped m.driver.driver d → start ≡ late deadline (next_start_by None d) =
+    subst (λ (v : Until Standing). (d : Driven) → IsStepped v.driver d → start ≡ late v.deadline (next_start_by None d))
     c.driver.ensures c.late_start-late.ensures.late in
-    let done_is : (d : Driven) → StandsUntil IsStepped m.driver d →
-    schedule_is_done d ≡ (schedule_is_done (beneath deadline d) || is_some start) =
-    subst (λ (v : Until Standing). (d : Driven) → StandsUntil IsStepped v d
-    → schedule_is_done d ≡ (schedule_is_done (beneath v.deadline d) || is_some start))
+    let done_is : (d : Driven) → IsStepped m.driver.driver d →
+    schedule_is_done deadline d ≡ (schedule_is_done None d || is_some start) =
+    subst (λ (v : Until Standing). (d : Driven) → IsStepped v.driver d →
+    schedule_is_done v.deadline d ≡ (schedule_is_done None d || is_some start))
     c.driver.ensures c.late_start-late.ensures.done in
     let now = c.args.now in
     let left_is : c.left_of-left.result ≡ left_at deadline now =
     c.left_of-left.ensures
-    ∙ ap left_number (c.left.ensures
-    ∙ ap (λ (v : Until Standing). option_map (λ (end : ℕ). end - now) v.deadline) c.driver-2.ensures) in
+    ∙ ap left_number (c.left.ensures ∙ ap (λ (v : Until Standing). option_map (λ (end : ℕ). end - now) v.deadline)
+    c.driver-2.ensures) in
     let tells : (u : Retrying Drawing) → MayBe m u → c.reply_to.result ≡ reply_of deadline now u.past =
     λ u st. same_reply _ _ _ _ _ _ _ _ _ _ _ c.reply_to.ensures (c.next-next.ensures.next u st)
     (c.is_some.ensures ∙ ap is_some (late_is u.past.driver st.driver))
@@ -51,11 +48,10 @@ returns c =
     let ending : (u : Retrying Drawing) → MayBe m u → TellsEnding deadline u.past (reply_of deadline now u.past).how =
     λ u st. tells_ending false deadline u.past u.past.granted (min (length u.past.runs) 18446744073709551615)
     (left_at deadline now) st.law.law
-    (done_is u.past.driver st.driver
-    ∙ ap (λ b. plan_is_done deadline u.past || b) (ap is_some (late_is u.past.driver st.driver))) in
+    (ap (λ (end : Option ℕ). schedule_is_done end u.past.driver) (sym st.deadline) ∙ done_is u.past.driver st.driver
+    ∙ ap (λ b. plan_is_done u.past || b) (ap is_some (late_is u.past.driver st.driver))) in
     record {
-      stands = let was = c.granted-granted.ensures.stands (schedule_until m.driver m.driver.driver.plan)
-          (goes_by m.driver) in (was.0, was.2);
+      stands = c.granted-granted.ensures.stands;
       tells = tells;
       in_time = rw c.reply_to.ensures (waits_in_time deadline c.next-next.result _ _ _ _ c.next-next.ensures.in_time);
       done = λ u st. (ending u st).0 ∙ ap (λ (r : Reply). nat_eq r.how 2) (sym (tells u st));

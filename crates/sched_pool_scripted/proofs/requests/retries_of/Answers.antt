@@ -1,7 +1,7 @@
 -- Each turn adds a retry on the quota, and leaves the pass unused.
 use Rattle.std.proofs.Common.{rules, ◌≡◌, [], ◌∷◌, ◌++◌}
 use Rattle.std.proofs.lemmas.List.Elements.{All-push}
-use Rattle.sched_pool_scripted.specs.Driven.{IsDriven}
+use Rattle.sched_pool_scripted.specs.Driven.{IsOnQuota}
 use Rattle.sched_pool_scripted.proofs.requests.retries_of.Goals as goal
 
 pub loop-job-preserved : goal.loop-job-preserved
@@ -11,7 +11,7 @@ loop-job-preserved c =
     record {
       retries =
           rw pushed
-          (All-push (IsDriven c.args.quota.now) before.retries.items c.in_ok-retry.retry before.invariant.retries
+          (All-push (IsOnQuota c.args.quota.now) before.retries.items c.in_ok-retry.retry before.invariant.retries
           c.in_ok-retry.ensures.retry);
       of = c.requested.ensures.of;
       unused = c.requested.ensures.unused;

@@ -1,11 +1,10 @@
+-- It waits for what the retry beneath waits for.
 use Rattle.std.proofs.Common.{ap, ◌∙◌}
-use Rattle.sched_task_law.specs.Past.{waits_for}
-use Rattle.sched_retry_or.specs.Falling.{Falling}
-use Rattle.sched_retry_or.proofs.Polls.{waits_as}
+use Rattle.sched_retry_or.specs.Falling.{Falling, falls_due}
+use Rattle.sched_retry_or.proofs.Polls.{due_as}
 use Rattle.sched_retry_or.proofs.retry_or.RetryOr.due.Goals as goal
 
 pub returns : goal.returns
 returns g c =
-    let r = c.self.inside in
-    c.due.ensures ∙ waits_as g.X.Fault.Coded.coded r.retry.past r.over r.stopped c.self.invariant.keeps
-    ∙ ap (λ (v : Falling g.row.D.Denot). waits_for v.retrying.past) c.self.view_is
+    c.due.ensures ∙ due_as g.R.Drives.driving g.R.GivesOutput.outputs g.D.Draws.grants _ c.self.invariant.law
+    ∙ ap (λ (v : Falling g.row.R.Denot g.row.D.Denot). falls_due g.R.Drives.driving v) c.self.view_is

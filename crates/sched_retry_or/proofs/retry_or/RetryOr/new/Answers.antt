@@ -1,13 +1,11 @@
-use Rattle.sched_retry_or.proofs.Polls.{past_so, new_so}
+-- A retry that has not begun keeps its law.
+use Rattle.std.proofs.Common.{refl, ap, ◌∙◌}
+use Rattle.sched_task_law.specs.Past.{PastOf}
+use Rattle.sched_retry_or.proofs.Polls.{new_is}
 use Rattle.sched_retry_or.proofs.retry_or.RetryOr.new.Goals as goal
-
-pub returns-clause-past : goal.returns-clause-past
-returns-clause-past g c =
-    past_so g.D.Draws.grants g.met.D.Draws.lawful c.new-retry.result.past c.over-over.result c.args.driver.plan
-    c.over-over.ensures.over c.new-retry.ensures.past
 
 pub invariant_of-result : goal.invariant_of-result
 invariant_of-result g c =
-    new_so g.D.Draws.grants g.met.D.Draws.lawful g.X.Item.Coded.coded g.X.Fault.Coded.coded c.new-retry.result c.over-over.result c.args.driver.plan
-    (g.F.Fallback.asked c.args.fallback) (g.F.Fallback.answered c.args.fallback) c.over-over.ensures.over c.new-retry.ensures.past
+    new_is g.R.Drives.driving g.R.GivesOutput.outputs g.D.Draws.grants g.X.Item.Coded.coded g.X.Fault.Coded.coded _
     c.over-over.ensures.law
+    c.over-over.ensures.over (ap (λ (p : PastOf g.row.R.Denot). p.over) c.new-retry.ensures.past) refl

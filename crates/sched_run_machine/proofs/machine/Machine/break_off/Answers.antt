@@ -1,10 +1,13 @@
+-- Memory is refused to the run of each task, or to its beginning.
 use Rattle.sched_run_machine.proofs.Calls.{left, breaks_run}
 use Rattle.sched_run_machine.proofs.machine.Machine.break_off.Goals as goal
 
 pub returns-clause-polls : goal.returns-clause-polls
 returns-clause-polls g c =
-    breaks_run g.R.Drives.stands (g.A.Aims.kind g.R.Drives.keeps) g.R.Drives.goes_by g.D.Draws.grants g.met.D.Draws.lawful (g.met.A.Aims.alone g.R.Drives.keeps) _ c.args._tick.now c.args.self.now c.self.view_is c.requires.looks c.args.begun c.requires.begun
+    breaks_run g.R.Drives.driving (g.A.Aims.kind g.R.Drives.driving.keeps) g.D.Draws.grants g.met.D.Draws.lawful
+    _ c.args._tick.now c.args.self.now c.self.view_is c.requires.looks c.requires.in_time c.args.begun c.requires.begun
 
 pub invariant_of-self : goal.invariant_of-self
 invariant_of-self g c =
-    left g.R.Drives.stands (g.A.Aims.kind g.R.Drives.keeps) g.R.Drives.goes_by g.D.Draws.grants g.met.D.Draws.lawful (g.met.A.Aims.alone g.R.Drives.keeps) _ c.args._tick.now c.args.self.now _ _ c.self.view_is (returns-clause-polls g c) c.self.invariant
+    left g.R.Drives.driving (g.A.Aims.kind g.R.Drives.driving.keeps) g.D.Draws.grants g.met.D.Draws.lawful
+    _ c.args._tick.now c.args.self.now _ _ c.self.view_is (returns-clause-polls g c) c.self.invariant

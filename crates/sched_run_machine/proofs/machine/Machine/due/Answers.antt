@@ -1,3 +1,4 @@
+-- The moment to wait for is that of each task.
 use Rattle.std.proofs.Common.{ap, ◌∙◌}
 use Rattle.sched_run_machine.specs.Next.{start_in}
 use Rattle.sched_run_machine.proofs.Waits.{waited}
@@ -5,4 +6,5 @@ use Rattle.sched_run_machine.proofs.machine.Machine.due.Goals as goal
 
 pub returns : goal.returns
 returns g c = λ v st.
-    c.start.ensures ∙ ap start_in (c.next.ensures.next v st) ∙ waited (g.A.Aims.kind g.R.Drives.keeps) v.past (g.met.A.Aims.alone g.R.Drives.keeps) st.law.law
+    c.start.ensures ∙ ap start_in (c.next.ensures.next v st)
+    ∙ waited (g.A.Aims.kind g.R.Drives.driving.keeps) v.past st.law.law

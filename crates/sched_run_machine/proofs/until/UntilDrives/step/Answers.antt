@@ -1,9 +1,11 @@
-use Rattle.sched_run_machine.proofs.TimedSteps.{steps_until}
+-- A step of the driver beneath is one of the driver with its deadline.
+use Rattle.std.proofs.Common.{is_none, ap, ◌∙◌}
+use Rattle.sched_task_law.specs.Deadline.{in_time}
+use Rattle.sched_run_machine.proofs.Deadlines.{steps_until}
 use Rattle.sched_run_machine.proofs.until.UntilDrives.step.Goals as goal
 
-pub returns-in-Ok-clause-stepped : goal.returns-in-Ok-clause-stepped
-returns-in-Ok-clause-stepped g c =
-    rw (← c.self.view_is, c.starts_in_time.ensures.in_time, c.first_step.ensures.first)
-    (steps_until g.R.Drives.stands g.R.Drives.keeps g.R.Drives.goes_by c.self.inside.driver c.step.new.self
-    c.self.inside.deadline c.self.inside.first c.args.tick.now c.args.code c.in-Ok.field-0 c.next_start.result
-    c.first_step.ensures.in_range c.starts_in_time.ensures.in_range c.in-Ok.ensures.stepped c.next_start.ensures.start)
+pub returns-clause-stepped : goal.returns-clause-stepped
+returns-clause-stepped g c =
+    rw (← c.self.view_is, c.starts_in_time.ensures.in_time, c.next_start.ensures.start)
+    (steps_until g.R.Drives.driving g.met.R.Drives.plans c.self.inside.driver c.step.new.self c.self.inside.deadline
+    c.args.tick.now c.args.code _ c.step.ensures.deadline c.in_ok-step.ensures.stepped)

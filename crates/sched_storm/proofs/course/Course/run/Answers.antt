@@ -1,11 +1,34 @@
-use Rattle.std.proofs.Common.{arith}
-use Rattle.sched_storm.proofs.Steps.{sound_agenda}
+-- Each turn that is taken out is played, until nothing is due or one call more would be too many.
+use Rattle.std.proofs.Common.{◌≡◌, ◌<◌, Some, None, IsTrue, subst, ap, ◌∙◌, arith}
+use Rattle.sched_storm.specs.Course.{StandsFirst}
+use Rattle.sched_storm.proofs.Ready.{is_cut, is_done, less_of, few_said}
+use Rattle.sched_storm.proofs.Taken.{none_if}
+use Rattle.sched_storm.specs.declared.parameters.Parameters.{Parameters}
 use Rattle.sched_storm.proofs.course.Course.run.Goals as goal
 
-pub invariant_of-self-clause-sound : goal.invariant_of-self-clause-sound
-invariant_of-self-clause-sound c =
-    let less = c.pop.ensures.less in
-    let under_way = c.loop-key.self.sound.under_way in
-    let planned = c.loop-key.self.sound.planned in
-    let pending = c.loop-key.self.sound.pending in
-    sound_agenda _ _ _ _ _ c.loop-key.self.sound c.pop.new.self less.0 (omega arith) (omega arith) (omega arith)
+pub step-requires-clause-first : goal.step-requires-clause-first
+step-requires-clause-first c = subst (λ o. StandsFirst c.loop-next.self o) c.in-Some.is c.loop-next.invariant.stands
+
+pub step-requires-clause-room : goal.step-requires-clause-room
+step-requires-clause-room c = λ call.
+    less_of c.loop-next.self.calls c.loop-next.self.storm.calls c.loop-next.invariant.stands.stands.few_calls
+    (c.is_full.ensures.no c.if-is_full.false call)
+
+pub returns-then-is_full-clause-over : goal.returns-then-is_full-clause-over
+returns-then-is_full-clause-over c =
+    let first = subst (λ o. StandsFirst c.loop-next.self o) c.in-Some.is c.loop-next.invariant.stands in
+    let yes = c.is_full.ensures.yes c.if-is_full.true in
+    is_cut c.loop-next.self c.in-Some.turn first yes.0 yes.1
+
+pub returns-clause-over : goal.returns-clause-over
+returns-clause-over c =
+    is_done c.loop-next.self (subst (λ o. StandsFirst c.loop-next.self o)
+    (none_if c.loop-next.next c.in_default.not-Some) c.loop-next.invariant.stands)
+
+pub loop-next-smaller : goal.loop-next-smaller
+loop-next-smaller c =
+    let few = few_said c.loop-next.self c.loop-next.next c.loop-next.invariant.stands.stands in
+    let one = c.in_ok-after.ensures.said in
+    let same = c.in_ok-next.ensures.said in
+    let storm = ap (λ (p : Parameters). p.calls) (c.in_ok-next.ensures.storm ∙ c.in_ok-after.ensures.storm) in
+    omega arith

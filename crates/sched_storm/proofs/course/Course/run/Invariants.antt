@@ -1,9 +1,14 @@
+-- Each turn is the first of those that are due, and takes a call or the end of one.
 use Rattle.std.proofs.Common.{◌≡◌, ℕ, ◌+◌, ◌-◌, ◌*◌}
-use Rattle.sched_storm.specs.Tally.{calls_in}
+use Rattle.sched_storm.specs.Course.{StandsFirst}
 use Rattle.sched_storm.proofs.course.Course.run.Given as goal
 
-abbrev pub invariant-loop-key : goal.invariant-loop-key
-invariant-loop-key l = l.self.storm ≡ l.fn.self.storm
+abbrev pub invariant-loop-next : goal.invariant-loop-next
+invariant-loop-next l = record {
+  stands : StandsFirst l.self l.next;
+  storm : l.self.storm ≡ l.fn.self.storm;
+  plan : l.self.plan ≡ l.fn.self.plan;
+}
 
-abbrev pub decreases-loop-key : goal.decreases-loop-key
-decreases-loop-key l = 2 * (l.self.storm.calls - calls_in l.self.tally.score.all) + l.self.pending.flights
+abbrev pub decreases-loop-next : goal.decreases-loop-next
+decreases-loop-next l = 2 * l.self.storm.calls + 1 - l.self.tally.said

@@ -1,3 +1,4 @@
+-- The least moment at which so many units can have been done lies between the two.
 use Rattle.std.proofs.Common.{◌≡◌, ℕ, ◌+◌, ◌-◌, ◌<◌, ◌≤◌, ◌/◌, arith}
 use Rattle.sched_storm.specs.Calls.{can_be_done}
 use Rattle.sched_storm.proofs.Peer.{done_rises}

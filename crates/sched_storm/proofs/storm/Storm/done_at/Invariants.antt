@@ -1,3 +1,4 @@
+-- No moment before the earlier one is enough, and the later one is.
 use Rattle.std.proofs.Common.{ℕ, ◌-◌, ◌<◌, ◌≤◌}
 use Rattle.sched_storm.specs.Calls.{can_be_done}
 use Rattle.sched_storm.proofs.storm.Storm.done_at.Given as goal

@@ -1,0 +1,6 @@
+-- A breaker that is made has the terms that were given.
+use Rattle.std.proofs.Common.{inl}
+use Rattle.hikebox_c.proofs.limits.breaker.Goals as goal
+
+pub returns-in-Some : goal.returns-in-Some
+returns-in-Some c = inl (c.in-Some.breaker, c.in-Some.ensures, c.breaker.ensures)

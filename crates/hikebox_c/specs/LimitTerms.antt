@@ -1,0 +1,42 @@
+-- The terms of limits, as C gives them, and what is made of these.
+use Rattle.std.specs.Prelude.{◌≡◌, ◌⊎◌, ℕ, ◌+◌, Result, Err}
+use Rattle.std.specs.Global.{Global}
+use Rattle.std_alloc.specs.declared.boxed.Box.{Box}
+use Rattle.sched_limit.specs.declared.bucket.Bucket.{Bucket}
+use Rattle.sched_limit.specs.declared.in_flight.InFlight.{InFlight}
+use Rattle.sched_limit.specs.declared.breaker.Breaker.{Breaker}
+use Rattle.sched_limit.specs.declared.throttle.Throttle.{Throttle}
+use Rattle.sched_limit_handle.specs.Held.{MakesBreaker, MakesThrottle}
+use Rattle.sched_limit_handle.specs.declared.held.Held.{Held}
+use Rattle.sched_limit_handle.specs.declared.status.Status.{Status}
+use Rattle.sched_limit_handle.specs.declared.status.Status.TheVariants.{OutOfRange}
+use Rattle.hikebox_c.specs.declared.limits.BucketGiven.{BucketGiven}
+use Rattle.hikebox_c.specs.declared.limits.BreakerGiven.{BreakerGiven}
+
+abbrev pub bucket_of : BucketGiven → Bucket
+bucket_of t =
+    record { capacity = t.capacity; floor = t.floor; debit = t.debit; credit = t.credit; refund = t.refund }
+
+abbrev pub flight_of : ℕ → ℕ → InFlight
+flight_of least share = record { least = least; share = share }
+
+-- a breaker with these terms, and so many open times
+pub record IsBreakerOf (now : ℕ) (t : BreakerGiven) (count : ℕ) (b : Breaker) : Type 0 where
+  pub failures : b.failures ≡ t.failures
+  pub probes : b.probes ≡ t.probes
+  pub deadline : b.deadline ≡ t.deadline
+  pub start : b.start ≡ now
+  pub times : b.last + 1 ≡ count
+
+abbrev pub BreakerMade : ℕ → BreakerGiven → ℕ → Result (Box Held Global) Status → Type 0
+BreakerMade now t count r =
+    ((b : Breaker) × IsBreakerOf now t count b × MakesBreaker b r) ⊎ (r ≡ Err OutOfRange)
+
+pub record IsThrottleOf (now ratio period : ℕ) (t : Throttle) : Type 0 where
+  pub ratio_is : t.ratio ≡ ratio
+  pub period_is : t.period ≡ period
+  pub start : t.start ≡ now
+
+abbrev pub ThrottleMade : ℕ → ℕ → ℕ → Result (Box Held Global) Status → Type 0
+ThrottleMade now ratio period r =
+    ((t : Throttle) × IsThrottleOf now ratio period t × MakesThrottle t r) ⊎ (r ≡ Err OutOfRange)

@@ -1,0 +1,61 @@
+//! What is in flight, by rows worked by hand.
+
+use super::{Act, acts};
+use sched_limit::{InFlight, Refusal};
+use sched_limit_request::OnLimit;
+use std::process::Abort;
+
+const FULL: Option<Refusal> = Some(Refusal::Full);
+
+// With one retry at least, and a fifth: of four requests one retries, and where it ends another may.
+#[test]
+fn slots(rt: HostRuntime) {
+    let on = OnLimit::new(rt.alloc(), InFlight::envoy(20, 1)).expect(&rt, "there is memory");
+    acts(
+        &rt,
+        on,
+        &[
+            (0, 0, Act::Admit(None)),
+            (1, 0, Act::Admit(None)),
+            (2, 0, Act::Admit(None)),
+            (3, 0, Act::Admit(None)),
+            (0, 0, Act::Draw(0, None)),
+            (1, 0, Act::Draw(0, FULL)),
+            (0, 0, Act::Draw(0, None)),
+            (1, 0, Act::Draw(0, FULL)),
+            (0, 0, Act::End),
+            (0, 0, Act::End),
+            (1, 0, Act::Draw(0, None)),
+            (2, 0, Act::Draw(0, FULL)),
+        ],
+    );
+}
+
+// A half of the requests: a request that ends takes its part of the bound with it.
+#[test]
+fn shares(rt: HostRuntime) {
+    let half = InFlight {
+        least: 0,
+        share: 500,
+    };
+    let on = OnLimit::new(rt.alloc(), half).expect(&rt, "there is memory");
+    acts(
+        &rt,
+        on,
+        &[
+            (0, 0, Act::Admit(None)),
+            (0, 0, Act::Draw(0, FULL)),
+            (1, 0, Act::Admit(None)),
+            (0, 0, Act::Draw(0, None)),
+            (1, 0, Act::Draw(0, FULL)),
+            (2, 0, Act::Admit(None)),
+            (3, 0, Act::Admit(None)),
+            (1, 0, Act::Draw(0, None)),
+            (2, 0, Act::Draw(0, FULL)),
+            (3, 0, Act::End),
+            (0, 0, Act::Draw(0, FULL)),
+            (0, 0, Act::End),
+            (1, 0, Act::Draw(0, None)),
+        ],
+    );
+}

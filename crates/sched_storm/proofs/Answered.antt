@@ -1,0 +1,209 @@
+-- How a course answers what is due of a request, by what its parts gave.
+use Rattle.std.proofs.Common.{◌≡◌, ℕ, zero, suc, ◌+◌, ◌<◌, ◌≤◌, Bool, true, false, cond, List, [], ◌∷◌, ◌++◌, length}
+use Rattle.std.proofs.Common.{get_or, set, Option, Some, None, IfSome, refl, sym, ◌∙◌, ap, subst, arith, leb-true}
+use Rattle.std.proofs.lemmas.List.{get_or_default}
+use Rattle.std.specs.Prelude.{nat_le}
+use Rattle.std.specs.Global.{Global}
+use Rattle.std_alloc.specs.declared.boxed.Box.{Box}
+use Rattle.rand_core.specs.Stream.{Stream}
+use Rattle.sched_time.specs.Decision.{start_of}
+use Rattle.sched_plan.specs.Schedule.{Schedule}
+use Rattle.sched_plan.specs.Answer.{answer}
+use Rattle.sched_plan.specs.History.{last_moment}
+use Rattle.sched_plan.specs.declared.history.Event.{Event}
+use Rattle.sched_plan.proofs.HistoryLaws.{last_moment-push}
+use Rattle.sched_task.specs.Words.{next_four}
+use Rattle.sched_driver_stepper.specs.Standing.{Standing}
+use Rattle.sched_storm_trace.specs.Trace.{Due, Answer}
+use Rattle.sched_storm_report.specs.Told.{AreTold}
+use Rattle.sched_storm_report.specs.declared.tally.Tally.{Tally}
+use Rattle.sched_storm_report.specs.declared.peer.Peer.{Peer}
+use Rattle.sched_storm_report.specs.declared.moments.Failure.{Failure}
+use Rattle.sched_storm_report.specs.declared.moments.Happening.{Happening}
+use Rattle.sched_storm_report.specs.declared.moments.Happening.TheVariants as happening
+use Rattle.sched_storm_report.specs.declared.moments.Moment.{Moment}
+use Rattle.sched_storm.specs.Parameters.{peer_of}
+use Rattle.sched_storm.specs.Tickets.{draw_at}
+use Rattle.sched_storm.specs.Drivers.{input_of, with_failure, DriverStands}
+use Rattle.sched_storm.specs.Plays.{Stage, begins, retries, succeeds, fails, Shared, words_of, if_by, ending, moment_at}
+use Rattle.sched_storm.specs.Plays.{coming, ended, drawing, going_on, failing}
+use Rattle.sched_storm.specs.Turns.{kind_of, kind_after, turn_if, turn_by, next_drawn, next_at}
+use Rattle.sched_storm.specs.Course.{shared_of, slot_of, Drives, HasAnswered}
+use Rattle.sched_storm.specs.declared.parameters.Parameters.{Parameters}
+use Rattle.sched_storm.specs.declared.calls.CallEnd.{CallEnd}
+use Rattle.sched_storm.specs.declared.calls.CallEnd.TheVariants.{Succeeded, Failed}
+use Rattle.sched_storm.specs.declared.calls.Called.{Called}
+use Rattle.sched_storm.specs.declared.tickets.Drawn.{Drawn}
+use Rattle.sched_storm.specs.declared.turns.Kind.{Kind}
+use Rattle.sched_storm.specs.declared.turns.Turn.{Turn}
+use Rattle.sched_storm.specs.declared.turns.Next.{Next}
+use Rattle.sched_storm.specs.declared.course.Course.{Course}
+
+-- ---- lists
+
+pub one_place : {X : Type 0} (xs : List X) (i : ℕ) (a b : X) → i < length xs → get_or xs i a ≡ get_or xs i b
+one_place xs i a b h = get_or_default xs i a b h
+
+pub set_twice : {X : Type 0} (xs : List X) (i : ℕ) (a b : X) → set (set xs i a) i b ≡ set xs i b
+set_twice [] i a b = refl
+set_twice (x ∷ xs) zero a b = refl
+set_twice (x ∷ xs) (suc i) a b = ap (λ ys. x ∷ ys) (set_twice xs i a b)
+
+-- ---- what is due next
+
+some_same : {X : Type 0} (a b : X) → Some a ≡ Some b → a ≡ b
+some_same a b h = cc
+
+not_none : {X : Type 0} (a : X) → None ≡ Some a → ⊥
+not_none a h = cc
+
+by_turn : (until t r : ℕ) (what : Stage) (b : Bool) →
+    cond b (Some (record { at = t; request = r; kind = kind_of what })) None
+    ≡ turn_if r (cond b (Some (record { at = t; what = what })) None)
+by_turn until t r what true = refl
+by_turn until t r what false = refl
+
+kind_ends : (how : CallEnd) (h : List Event) → kind_after how ≡ kind_of (ending how h)
+kind_ends Succeeded h = refl
+kind_ends (Failed failure) h = refl
+
+by_is : (until t : ℕ) (what : Stage) (d : Due Stage) (b : Bool) →
+    cond b (Some (record { at = t; what = what })) None ≡ Some d →
+    record { at = t; what = what } ≡ d
+by_is until t what d true h = some_same (record { at = t; what = what }) d h
+by_is until t what d false h = absurd (not_none d h)
+
+-- ---- a call that comes
+
+pub told_so : (peer made : Peer) (m n : Moment) (old new : Tally) →
+    ((ms : List Moment) → AreTold made ms old → AreTold made (ms ++ m ∷ []) new) →
+    made ≡ peer → m ≡ n → (ms : List Moment) → AreTold peer ms old → AreTold peer (ms ++ n ∷ []) new
+told_so peer made m n old new told is same ms h =
+    subst (λ x. AreTold peer (ms ++ x ∷ []) new) same
+    (subst (λ p. AreTold p (ms ++ m ∷ []) new) is (told ms (subst (λ p. AreTold p ms old) (sym is) h)))
+
+end_drives : (plan : Schedule) (slot : Option (Box Standing Global)) (h : List Event) (t m : ℕ) (how : CallEnd) →
+    DriverStands plan slot h →
+    last_moment h ≤ t → t ≤ m → Drives plan slot m (ending how h)
+end_drives plan slot h t m Succeeded stands order later = tt
+end_drives plan slot h t m (Failed failure) stands order later = (stands, omega arith)
+
+module _ (old new : Course) (t r : ℕ) (h : List Event) (what : Happening) (s : Shared) (c : Called) (kind : Kind)
+    (next : Option Turn) (made : Peer)
+    (m : Moment) where
+  coming_so : kind ≡ kind_after c.how → next ≡ turn_by old.storm.until c.ends r kind →
+      shared_of new ≡ record s { busy = c.busy } →
+      ((ms : List Moment) → AreTold made ms old.tally → AreTold made (ms ++ m ∷ []) new.tally) →
+      made ≡ peer_of old.storm →
+      m ≡ record { at = t; what = what; busy = c.busy } → t ≤ c.ends → DriverStands old.plan (slot_of new r) h →
+      last_moment h ≤ t →
+      HasAnswered (coming old.storm s t h what c) t r old new next
+  coming_so kind_is next_is shared told made_is m_is later stands order = record {
+    next_is = next_is ∙ (ap (turn_by old.storm.until c.ends r) (kind_is ∙ kind_ends c.how h)
+        ∙ by_turn old.storm.until c.ends r (ending c.how h) (nat_le c.ends old.storm.until));
+    shared_is = shared;
+    told = λ peer ms is was. told_so peer made m _ old.tally new.tally told (made_is ∙ sym is) m_is ms was;
+    drives = λ d at.
+        (let is = by_is old.storm.until c.ends (ending c.how h) d (nat_le c.ends old.storm.until) at in
+        subst (λ (x : Due Stage). Drives old.plan (slot_of new r) x.at x.what) is
+        (end_drives old.plan (slot_of new r) h t c.ends c.how stands order later));
+    later = λ d at.
+        (let is = by_is old.storm.until c.ends (ending c.how h) d (nat_le c.ends old.storm.until) at in
+        let at_is = ap (λ (x : Due Stage). x.at) is in
+        omega arith);
+  }
+
+  pub coming_answered : (is : Called) → c ≡ is → kind ≡ kind_after c.how →
+      next ≡ turn_by old.storm.until c.ends r kind →
+      shared_of new ≡ record s { busy = c.busy } →
+      ((ms : List Moment) → AreTold made ms old.tally → AreTold made (ms ++ m ∷ []) new.tally) →
+      made ≡ peer_of old.storm → m ≡ record { at = t; what = what; busy = c.busy } → t ≤ c.ends →
+      DriverStands old.plan (slot_of new r) h →
+      last_moment h ≤ t → HasAnswered (coming old.storm s t h what is) t r old new next
+  coming_answered is same kind_is next_is shared told made_is m_is later stands order =
+      subst (λ x. HasAnswered (coming old.storm s t h what x) t r old new next) same
+      (coming_so kind_is next_is shared told made_is m_is later stands order)
+
+-- ---- a call that fails
+
+-- what a course gives where a call failed, and its request's driver stands for that
+pub record Gives (old new : Course) (t r : ℕ) (failure : Failure) (h : List Event) (s : Shared)
+    (n : Next) : Type 0 where
+  pub shared : shared_of new ≡ record s { drawn = n.drawn }
+  pub told : (peer : Peer) (ms : List Moment) → peer ≡ peer_of old.storm → AreTold peer ms old.tally →
+      AreTold peer (ms ++ record { at = t; what = happening.Failed failure n.then; busy = s.busy } ∷ []) new.tally
+  pub stands : DriverStands old.plan (slot_of new r) h
+  pub order : last_moment h ≤ t
+
+module _ (old new : Course) (t r : ℕ) (failure : Failure) (h : List Event) where
+  drawn_answered : (s : Shared) (start : ℕ) (granted : Bool) (drawn : Drawn) → t ≤ start → (n : Next) →
+      n ≡ next_drawn old.storm r start (granted, drawn) → Gives old new t r failure h s n →
+      HasAnswered (drawing old.storm (record s { drawn = drawn }) t failure h start granted) t r old new n.next
+  drawn_answered s start true drawn later n is g = record {
+    next_is = ap (λ (x : Next). x.next) is ∙ by_turn old.storm.until start r (retries h) (nat_le start old.storm.until);
+    shared_is = g.shared ∙ ap (λ (x : Next). let after : Shared = record s { drawn = x.drawn } in after) is;
+    told = λ peer ms made was.
+        subst (λ (x : Next). AreTold peer
+        (ms ++ record { at = t; what = happening.Failed failure x.then; busy = s.busy } ∷ []) new.tally) is
+        (g.told peer ms made was);
+    drives = λ d at.
+        (let same = by_is old.storm.until start (retries h) d (nat_le start old.storm.until) at in
+        let order = g.order in
+        let both : Drives old.plan (slot_of new r) start (retries h) = (g.stands, omega arith) in
+        subst (λ (x : Due Stage). Drives old.plan (slot_of new r) x.at x.what) same both);
+    later = λ d at.
+        (let same = by_is old.storm.until start (retries h) d (nat_le start old.storm.until) at in
+        let at_is = ap (λ (x : Due Stage). x.at) same in
+        omega arith);
+  }
+  drawn_answered s start false drawn later n is g = record {
+    next_is = ap (λ (x : Next). x.next) is;
+    shared_is = g.shared ∙ ap (λ (x : Next). let after : Shared = record s { drawn = x.drawn } in after) is;
+    told = λ peer ms made was.
+        subst (λ (x : Next). AreTold peer
+        (ms ++ record { at = t; what = happening.Failed failure x.then; busy = s.busy } ∷ []) new.tally) is
+        (g.told peer ms made was);
+    drives = λ d at. absurd (not_none d at);
+    later = λ d at. absurd (not_none d at);
+  }
+
+  on_answered : (s : Shared) (start : Option ℕ) → IfSome start (λ x. t ≤ x) → (n : Next) →
+      n ≡ next_at old.storm s.drawn t r start →
+      Gives old new t r failure h s n → HasAnswered (going_on old.storm s t failure h start) t r old new n.next
+  on_answered s None later n is g = record {
+    next_is = ap (λ (x : Next). x.next) is;
+    shared_is = g.shared ∙ ap (λ (x : Next). let after : Shared = record s { drawn = x.drawn } in after) is;
+    told = λ peer ms made was.
+        subst (λ (x : Next). AreTold peer
+        (ms ++ record { at = t; what = happening.Failed failure x.then; busy = s.busy } ∷ []) new.tally) is
+        (g.told peer ms made was);
+    drives = λ d at. absurd (not_none d at);
+    later = λ d at. absurd (not_none d at);
+  }
+  on_answered s (Some start) later n is g =
+      let drawn = draw_at old.storm.draws t s.drawn in drawn_answered s start drawn.0 drawn.1 later n is g
+
+pub failing_answered : (old new : Course) (t r : ℕ) (failure : Failure) (before : List Event) (words : List ℕ)
+    (start : Option ℕ) (n : Next) →
+    (words, words_of new.words) ≡ next_four (words_of old.words) →
+    start ≡ start_of (answer old.plan (with_failure before t words (input_of failure))).decision →
+    IfSome start (λ x. t ≤ x) →
+    n ≡ next_at old.storm old.drawn t r start →
+    Gives old new t r failure (with_failure before t words (input_of failure))
+    (record (shared_of old) { words = words_of new.words }) n →
+    HasAnswered (failing old.storm old.plan (shared_of old) t failure before) t r old new n.next
+failing_answered old new t r failure before words start n drawn planned later is g =
+    let s : Shared = shared_of old in
+    let P : List ℕ × Stream → Type 0 = λ w. HasAnswered (going_on old.storm (record s { words = w.1 }) t failure
+    (with_failure before t w.0 (input_of failure))
+    (start_of (answer old.plan (with_failure before t w.0 (input_of failure))).decision)) t r old new n.next in
+    let here = on_answered old new t r failure (with_failure before t words (input_of failure))
+    (record s { words = words_of new.words }) start later n is g in
+    let there : P (words, words_of new.words) =
+    subst (λ o. HasAnswered (going_on old.storm (record s { words = words_of new.words }) t failure
+    (with_failure before t words (input_of failure)) o) t r old new n.next) planned here in
+    subst P drawn there
+
+pub last_given : (before : List Event) (t : ℕ) (words : List ℕ) (input : ℕ) →
+    last_moment (with_failure before t words input) ≡ t
+last_given before t words input = rw last_moment-push refl

@@ -1,0 +1,94 @@
+-- A course before the first event.
+use Rattle.std.proofs.Common.{◌≡◌, ℕ, ◌≤◌, Bool, false, cond, ltb, le-ltb, List, [], length, get_or, vec_len, Option}
+use Rattle.std.proofs.Common.{Some, None, refl, sym, ◌∙◌, ap, subst, arith}
+use Rattle.rand_xoshiro.specs.Xoshiro128.{of_seed}
+use Rattle.rand_xoshiro.specs.SplitMix64.{splitmix_seed}
+use Rattle.sched_storm_trace.specs.Trace.{Due}
+use Rattle.sched_storm_report.specs.Told.{AreTold}
+use Rattle.sched_storm_report.specs.declared.peer.Peer.{Peer}
+use Rattle.sched_storm.specs.Parameters.{AreInRange, all_requests, comes_at}
+use Rattle.sched_storm.specs.Tickets.{none_drawn, asked_of, given_of}
+use Rattle.sched_storm.specs.Drivers.{DriverStands}
+use Rattle.sched_storm.specs.Plays.{Stage, begins, Shared, words_of, start_at, first}
+use Rattle.sched_storm.specs.Keys.{Holds}
+use Rattle.sched_storm.specs.Course.{shared_of, slot_of, Drives, IsNear, Stands}
+use Rattle.sched_storm.specs.declared.course.Course.{Course}
+use Rattle.sched_storm.specs.declared.tickets.Drawn.{Drawn}
+use Rattle.sched_storm.proofs.Taken.{ComesBy, comes_by}
+
+no_more : (a : ℕ) → a ≤ a
+no_more a = omega arith
+
+-- what a course has before the first event
+pub record HasNothing (c : Course) : Type 0 where
+  pub in_range : AreInRange c.storm
+  pub words : c.words ≡ of_seed (splitmix_seed 16 c.storm.words)
+  pub requests : c.requests ≡ 0
+  pub comes : c.comes ≡ comes_at c.storm 0
+  pub calls : c.calls ≡ 0
+  pub busy : c.busy ≡ 0
+  pub drawn : c.drawn ≡ none_drawn
+  pub slots : c.drivers.slots.items ≡ []
+  pub slots_len : vec_len c.drivers.slots ≡ 0
+  pub agenda : Holds c.agenda (λ _. None)
+  pub told : (peer : Peer) → AreTold peer [] c.tally
+  pub window : c.tally.window ≡ c.storm.window
+  pub from : c.tally.from ≡ 0
+  pub said : c.tally.said ≡ 0
+
+module _ (c : Course) (h : HasNothing c) where
+  shared_is : start_at c.storm ≡ shared_of c
+  shared_is =
+      let words = h.words in
+      let busy = h.busy in
+      let drawn = h.drawn in
+      λ i. record { busy = sym busy i; words = words_of (sym words i); drawn = sym drawn i }
+
+  no_slot : (r : ℕ) → slot_of c r ≡ None
+  no_slot r = ap (λ xs. get_or xs r None) h.slots
+
+  near_first : (r : ℕ) (d : Due Stage) → first c.storm r ≡ Some d → IsNear c r d
+  near_first r d is =
+      let by = comes_by c.storm r d is in
+      let few = by.few in
+      let near = by.by in
+      let from = h.from in
+      let requests = h.requests in
+      subst (λ e. IsNear c r e) (sym by.is) (record {
+        by = near;
+        number = few;
+        begun = no_more (comes_at c.storm r);
+        placed = omega arith;
+        told = omega arith;
+        drives = subst (λ o. DriverStands c.plan o []) (sym (no_slot r)) refl;
+      })
+
+  none_came : (r : ℕ) → first c.storm r ≡ cond (ltb r c.requests) None (first c.storm r)
+  none_came r =
+      let none : ltb r c.requests ≡ false = le-ltb r c.requests (let requests = h.requests in omega arith) in
+      ap (λ b. cond b None (first c.storm r)) (sym none)
+
+  pub stands_at_first : Stands c None
+  stands_at_first = record {
+    events = [];
+    due = first c.storm;
+    held = λ _. None;
+    begun = record { in_order = tt; each_request = λ r. refl; answers = shared_is; none_after = λ r d is. tt };
+    told = λ peer is. h.told peer;
+    holds = h.agenda;
+    out = tt;
+    others = λ r _. none_came r;
+    unheld = λ r more. refl;
+    near = near_first;
+    in_range = h.in_range;
+    comes = h.comes ∙ ap (comes_at c.storm) (sym h.requests);
+    requests = (let requests = h.requests in omega arith);
+    slots = h.slots_len ∙ sym h.requests;
+    calls = h.calls;
+    few_calls = (let calls = h.calls in omega arith);
+    busy = (let busy = h.busy in omega arith);
+    asked = (let asked = ap asked_of h.drawn in let requests = h.requests in omega arith);
+    given = (let given = ap given_of h.drawn in omega arith);
+    said = h.said;
+    window = h.window;
+  }

@@ -1,0 +1,23 @@
+-- Before the first event nothing is due but that requests come.
+use Rattle.std.proofs.Common.{refl, rules, ◌≡◌, ℕ, sym, ◌∙◌, ap}
+use Rattle.sched_storm.specs.Parameters.{AreInRange, comes_at}
+use Rattle.sched_storm.proofs.Begins.{HasNothing, stands_at_first}
+use Rattle.sched_storm.proofs.course.Course.new.Goals as goal
+
+pub returns-clause-stands : goal.returns-clause-stands
+returns-clause-stands c = stands_at_first _ (record {
+  in_range = search rules;
+  words = search rules;
+  requests = refl;
+  comes = search rules;
+  calls = refl;
+  busy = refl;
+  drawn = refl;
+  slots = search rules;
+  slots_len = search rules;
+  agenda = search rules;
+  told = search rules;
+  window = search rules;
+  from = search rules;
+  said = search rules;
+})

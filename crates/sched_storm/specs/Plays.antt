@@ -1,0 +1,120 @@
+-- How a storm is played: what becomes of a request where something is due of it.
+use Rattle.std.specs.Prelude.{◌≡◌, ℕ, ◌+◌, ◌≤◌, Bool, true, false, nat_lt, nat_le, if◌then◌else◌, List, [], ◌∷◌, Option}
+use Rattle.std.specs.Prelude.{Some, None}
+use Rattle.rand_core.specs.Stream.{Stream}
+use Rattle.rand_core.specs.Steps.{stream_of, steps_u32}
+use Rattle.rand_xoshiro.specs.Xoshiro128.{of_seed, plus_plus}
+use Rattle.rand_xoshiro.specs.SplitMix64.{splitmix_seed}
+use Rattle.sched_time.specs.Decision.{start_of}
+use Rattle.sched_plan.specs.Schedule.{Schedule}
+use Rattle.sched_plan.specs.Answer.{answer}
+use Rattle.sched_plan.specs.declared.history.Event.{Event}
+use Rattle.sched_task.specs.Words.{next_four}
+use Rattle.sched_storm_trace.specs.Trace.{Due, Answer}
+use Rattle.sched_storm_report.specs.declared.moments.Failure.{Failure}
+use Rattle.sched_storm_report.specs.declared.moments.Then.{Then}
+use Rattle.sched_storm_report.specs.declared.moments.Then.TheVariants.{Lost, Denied, Waits}
+use Rattle.sched_storm_report.specs.declared.moments.Happening.{Happening}
+use Rattle.sched_storm_report.specs.declared.moments.Happening.TheVariants as happening
+use Rattle.sched_storm_report.specs.declared.moments.Moment.{Moment}
+use Rattle.sched_storm.specs.Parameters.{all_requests, comes_at}
+use Rattle.sched_storm.specs.Calls.{called}
+use Rattle.sched_storm.specs.Tickets.{none_drawn, counted, draw_at}
+use Rattle.sched_storm.specs.Drivers.{input_of, with_failure}
+use Rattle.sched_storm.specs.declared.parameters.Parameters.{Parameters}
+use Rattle.sched_storm.specs.declared.calls.CallEnd.{CallEnd}
+use Rattle.sched_storm.specs.declared.calls.CallEnd.TheVariants.{Succeeded, Failed}
+use Rattle.sched_storm.specs.declared.calls.Called.{Called}
+use Rattle.sched_storm.specs.declared.tickets.Drawn.{Drawn}
+
+-- What is due of a request: its first call; a retry, where its driver was given these failures; the end of a call that
+-- succeeds; the end of one that fails so, where its driver was given these failures before.
+pub data Stage : Type 0 where
+  begins : Stage
+  retries : List Event → Stage
+  succeeds : Stage
+  fails : Failure → List Event → Stage
+
+-- a call begins
+abbrev pub is_call : Stage → Bool
+is_call begins = true
+is_call (retries h) = true
+is_call succeeds = false
+is_call (fails failure h) = false
+
+-- what the requests share: the unit at which the peer is done with all work that it has taken, the random words to
+-- come, and the tickets
+pub record Shared : Type 0 where
+  pub busy : ℕ
+  pub words : Stream
+  pub drawn : Drawn
+
+-- the random words of a state of the generator
+abbrev pub words_of : List ℕ → Stream
+words_of state = stream_of (steps_u32 plus_plus) state
+
+-- before the first event
+abbrev pub start_at : Parameters → Shared
+start_at p = record {
+  busy = 0;
+  words = words_of (of_seed (splitmix_seed 16 p.words));
+  drawn = none_drawn;
+}
+
+-- what lies after this moment is not played
+abbrev pub if_by : ℕ → ℕ → Stage → Option (Due Stage)
+if_by until t what = if nat_le t until then Some (record { at = t; what = what }) else None
+
+-- what is due of a request at first
+abbrev pub first : Parameters → ℕ → Option (Due Stage)
+first p r = if nat_lt r (all_requests p) then if_by p.until (comes_at p r) begins else None
+
+-- how a call ends, where its request's driver was given these failures
+abbrev pub ending : CallEnd → List Event → Stage
+ending Succeeded h = succeeds
+ending (Failed failure) h = fails failure h
+
+abbrev pub moment_at : ℕ → Happening → Shared → Moment
+moment_at t what s = record { at = t; what = what; busy = s.busy }
+
+-- A call comes to the peer.
+abbrev pub coming : Parameters → Shared → ℕ → List Event → Happening → Called → Answer Stage Shared Moment
+coming p s t h what c = let after = record s { busy = c.busy } in
+    record { next = if_by p.until c.ends (ending c.how h); shared = after; told = moment_at t what after }
+
+-- a call failed, and nothing is due of its request any more
+abbrev pub ended : Shared → ℕ → Failure → Then → Answer Stage Shared Moment
+ended s t failure next = record { next = None; shared = s; told = moment_at t (happening.Failed failure next) s }
+
+-- A ticket was drawn, or was not: a retry is due, or its request is denied.
+abbrev pub drawing : Parameters → Shared → ℕ → Failure → List Event → ℕ → Bool → Answer Stage Shared Moment
+drawing p s t failure h start true =
+    record { next = if_by p.until start (retries h); shared = s; told = moment_at t (happening.Failed failure Waits) s }
+drawing p s t failure h start false = ended s t failure Denied
+
+-- The policy goes on at a start, for which a ticket is drawn, or is done.
+abbrev pub going_on : Parameters → Shared → ℕ → Failure → List Event → Option ℕ → Answer Stage Shared Moment
+going_on p s t failure h None = ended s t failure Lost
+going_on p s t failure h (Some start) = let drawn = draw_at p.draws t s.drawn in
+    drawing p (record s { drawn = drawn.1 }) t failure h start drawn.0
+
+-- The driver is given the failure and the next four words, and plans what the policy's definition plans.
+abbrev pub failing : Parameters → Schedule → Shared → ℕ → Failure → List Event → Answer Stage Shared Moment
+failing p plan s t failure before = let words = next_four s.words in
+    let h = with_failure before t words.0 (input_of failure) in
+    going_on p (record s { words = words.1 }) t failure h (start_of (answer plan h).decision)
+
+-- A request that comes is counted, before anything else of it.
+abbrev pub with_request : Parameters → ℕ → Shared → Shared
+with_request p t s = record s { drawn = counted p.draws t s.drawn }
+
+-- What becomes of a request where something is due of it at a moment.
+abbrev pub playing : Parameters → Schedule → Shared → ℕ → ℕ → Stage → Answer Stage Shared Moment
+playing p plan s r t begins = coming p (with_request p t s) t [] happening.Request (called p s.busy t)
+playing p plan s r t (retries h) = coming p s t h happening.Retry (called p s.busy t)
+playing p plan s r t succeeds =
+    record { next = None; shared = s; told = moment_at t (happening.Won (comes_at p r)) s }
+playing p plan s r t (fails failure h) = failing p plan s t failure h
+
+abbrev pub played : Parameters → Schedule → Shared → ℕ → Due Stage → Answer Stage Shared Moment
+played p plan s r due = playing p plan s r due.at due.what

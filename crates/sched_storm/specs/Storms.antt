@@ -1,0 +1,51 @@
+-- Which lists of events are a storm, and which report is that of a storm.
+use Rattle.std.specs.Prelude.{◌≡◌, ℕ, ◌≤◌, Bool, true, false, IsTrue, List, count_by, Option, Some, None}
+use Rattle.sched_plan.specs.Schedule.{Schedule}
+use Rattle.sched_storm_trace.specs.Trace.{Due, Event, NotAfter, IsBeginning, told_by}
+use Rattle.sched_storm_report.specs.Report.{IsReport}
+use Rattle.sched_storm_report.specs.declared.report.Ends.{Ends}
+use Rattle.sched_storm_report.specs.declared.report.Report.{Report}
+use Rattle.sched_storm.specs.Parameters.{peer_of, end_of_trouble, has_draws}
+use Rattle.sched_storm.specs.Plays.{Stage, is_call, Shared, start_at, first, played}
+use Rattle.sched_storm.specs.declared.parameters.Parameters.{Parameters}
+
+-- how many calls begin in these events
+abbrev pub calls_of : List (Event Stage) → ℕ
+calls_of events = count_by (λ (e : Event Stage). is_call e.due.what) events
+
+-- what is least due is a call, of this request
+pub record CallIsNext (due : ℕ → Option (Due Stage)) : Type 0 where
+  pub request : ℕ
+  pub call : Due Stage
+  pub is_due : due request ≡ Some call
+  pub calls : IsTrue (is_call call.what)
+  pub least : (r : ℕ) (d : Due Stage) → due r ≡ Some d → NotAfter call.at request d.at r
+
+-- A storm that is cut has as many calls as it may, and one more would be next. Of one that is not, nothing is due any
+-- more.
+abbrev pub EndsSo : Parameters → Bool → List (Event Stage) → (ℕ → Option (Due Stage)) → Type 0
+EndsSo p true events due = (calls_of events ≡ p.calls) × CallIsNext due
+EndsSo p false events due = (calls_of events ≤ p.calls) × ((r : ℕ) → due r ≡ None)
+
+-- These events are the storm of requests that all have this plan.
+pub record IsStorm (p : Parameters) (plan : Schedule) (is_cut : Bool) (events : List (Event Stage)) : Type 0 where
+  pub due : ℕ → Option (Due Stage)
+  pub last : Shared
+  pub plays : IsBeginning (played p plan) (first p) (start_at p) events due last
+  pub ends : EndsSo p is_cut events due
+
+abbrev pub ends_of : Parameters → Bool → Ends
+ends_of p is_cut = record { trouble = end_of_trouble p; draws = has_draws p.draws; is_cut = is_cut }
+
+-- what these events come to
+abbrev pub IsReportOf : Parameters → Schedule → Bool → List (Event Stage) → Report → Type 0
+IsReportOf p plan is_cut events r =
+    IsReport (peer_of p) (ends_of p is_cut) p.window (told_by (played p plan) (start_at p) events) r
+
+-- The report tells what became of the storm of requests that all have this plan: of some events that are it, and of
+-- all.
+pub record Reports (p : Parameters) (plan : Schedule) (r : Report) : Type 0 where
+  pub events : List (Event Stage)
+  pub is_storm : IsStorm p plan r.totals.is_cut events
+  pub told : IsReportOf p plan r.totals.is_cut events r
+  pub of_all : (is_cut : Bool) (es : List (Event Stage)) → IsStorm p plan is_cut es → IsReportOf p plan is_cut es r

@@ -1,0 +1,55 @@
+-- What is due of a request, as it is kept.
+use Rattle.std.specs.Prelude.{ℕ, nat_le, Bool, true, false, if◌then◌else◌, List, [], Option, Some, None}
+use Rattle.sched_plan.specs.declared.history.Event.{Event}
+use Rattle.sched_storm_trace.specs.Trace.{Due}
+use Rattle.sched_storm.specs.Plays.{Stage, begins, retries, succeeds, fails}
+use Rattle.sched_storm_report.specs.declared.moments.Then.TheVariants.{Lost, Denied, Waits}
+use Rattle.sched_storm.specs.Tickets.{draw_at}
+use Rattle.sched_storm.specs.declared.parameters.Parameters.{Parameters}
+use Rattle.sched_storm.specs.declared.tickets.Drawn.{Drawn}
+use Rattle.sched_storm.specs.declared.turns.Next.{Next}
+use Rattle.sched_storm.specs.declared.calls.CallEnd.{CallEnd}
+use Rattle.sched_storm.specs.declared.calls.CallEnd.TheVariants.{Succeeded, Failed}
+use Rattle.sched_storm.specs.declared.turns.Kind.{Kind}
+use Rattle.sched_storm.specs.declared.turns.Kind.TheVariants.{Begins, Retries, Succeeds, Fails}
+use Rattle.sched_storm.specs.declared.turns.Turn.{Turn}
+
+abbrev pub kind_after : CallEnd → Kind
+kind_after Succeeded = Succeeds
+kind_after (Failed failure) = Fails failure
+
+abbrev pub is_call_kind : Kind → Bool
+is_call_kind Begins = true
+is_call_kind Retries = true
+is_call_kind Succeeds = false
+is_call_kind (Fails failure) = false
+
+-- what is due, without what its request's driver was given
+abbrev pub kind_of : Stage → Kind
+kind_of begins = Begins
+kind_of (retries h) = Retries
+kind_of succeeds = Succeeds
+kind_of (fails failure h) = Fails failure
+
+-- what is due of a request, as it is kept
+abbrev pub turn_for : ℕ → Due Stage → Turn
+turn_for r d = record { at = d.at; request = r; kind = kind_of d.what }
+
+abbrev pub turn_if : ℕ → Option (Due Stage) → Option Turn
+turn_if r None = None
+turn_if r (Some d) = Some (turn_for r d)
+
+-- what is due of a request at a moment, where that is played
+abbrev pub turn_by : ℕ → ℕ → ℕ → Kind → Option Turn
+turn_by until t r kind = if nat_le t until then Some (record { at = t; request = r; kind = kind }) else None
+
+-- what follows a call that failed, where a ticket was drawn for a retry that begins at a start, or was not
+abbrev pub next_drawn : Parameters → ℕ → ℕ → Bool × Drawn → Next
+next_drawn p r start drawn =
+    if drawn.0 then record { next = turn_by p.until start r Retries; «then» = Waits; drawn = drawn.1 }
+    else record { next = None; «then» = Denied; drawn = drawn.1 }
+
+-- what follows it where its policy plans a start, or is done
+abbrev pub next_at : Parameters → Drawn → ℕ → ℕ → Option ℕ → Next
+next_at p drawn t r None = record { next = None; «then» = Lost; drawn = drawn }
+next_at p drawn t r (Some start) = next_drawn p r start (draw_at p.draws t drawn)

@@ -1,0 +1,2 @@
+-- When a list of events is a trace.
+pub mod Trace

@@ -1,0 +1,7 @@
+"""Limits of other systems: a bucket, a bound on retries in flight, a circuit breaker, a throttle, and two at once."""
+
+from .kinds import Breaker, Bucket, InFlight, Throttle
+from .limit import Limit, Request
+from .pairs import both
+
+__all__ = ["Breaker", "Bucket", "InFlight", "Limit", "Request", "Throttle", "both"]

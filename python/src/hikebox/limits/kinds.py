@@ -1,0 +1,274 @@
+"""The four kinds of limits."""
+
+from __future__ import annotations
+
+import random as _random
+import time
+from typing import Any, Callable, List, Optional, Tuple
+
+from .._engine.limits import LimitHandle
+from .._time import Duration, moment, seconds
+from ..budgets.terms import thousandths_of
+from ..errors import TermsError
+from ..policy import Policy
+from .limit import Limit
+
+__all__ = ["Breaker", "Bucket", "InFlight", "Throttle"]
+
+#: The most thousandths of a token that a bucket holds.
+_MAX_CAPACITY = 2**40
+#: The greatest number of failures, retries, or thousandths of a share.
+_MAX_COUNT = 2**32 - 1
+#: The most open times of a breaker.
+_MAX_TIMES = 64
+
+
+class Bucket(Limit):
+    """A bucket of tokens. Failures take tokens, successes give some back, and a retry takes its cost.
+
+    `capacity`
+        The tokens of a full bucket. It is full at first.
+    `floor`
+        The tokens that a retry must leave.
+    `debit`, `credit`
+        The tokens that a failed attempt takes, and that a success gives.
+    `cost`, `timeout_cost`
+        The tokens that a retry takes; and after a `TimeoutError`, if that differs.
+    `refund`
+        A success gives back what the call's last retry took, instead of the credit.
+
+    Tokens are counted in thousandths.
+
+    >>> from hikebox import recurs, retry
+    >>> @retry(recurs(3), budget=Bucket.grpc(max_tokens=10, token_ratio=0.1))
+    ... def fetch():
+    ...     return "fetched"
+    >>> fetch()
+    'fetched'
+    """
+
+    __slots__ = ("_terms", "_cost", "_timeout_cost")
+
+    def __init__(
+        self,
+        capacity: float,
+        *,
+        floor: float = 0,
+        debit: float = 0,
+        credit: float = 0,
+        cost: float = 1,
+        timeout_cost: Optional[float] = None,
+        refund: bool = False,
+    ) -> None:
+        most = thousandths_of("the capacity", capacity, _MAX_CAPACITY)
+        rest = [thousandths_of(f"the {name}", value, most) for name, value in _named(floor, debit, credit)]
+        self._begin_with(most, *rest, refund=bool(refund))
+        self._cost = thousandths_of("the cost", cost, most)
+        self._timeout_cost = self._cost if timeout_cost is None else thousandths_of("the cost", timeout_cost, most)
+
+    def _begin_with(self, capacity: int, floor: int, debit: int, credit: int, *, refund: bool) -> None:
+        self._terms = (capacity, floor, debit, credit, refund)
+        self._cost = self._timeout_cost = 0
+        Limit.__init__(self, time.monotonic)
+
+    @classmethod
+    def grpc(cls, max_tokens: int, token_ratio: float) -> Bucket:
+        """gRPC's `retryThrottling`: a failure takes one token, a success gives `token_ratio` of one, and a retry is
+        granted while more than half of `max_tokens` are left."""
+        most = thousandths_of("max_tokens", max_tokens, _MAX_CAPACITY)
+        made = cls.__new__(cls)
+        credit = thousandths_of("token_ratio", token_ratio, most)
+        if most < 1000:
+            raise TermsError(f"max_tokens: expected 1 token or more, got {max_tokens!r}")
+        made._begin_with(most, most // 2 + 1, 1000, credit, refund=False)
+        return made
+
+    @classmethod
+    def aws(cls) -> Bucket:
+        """The AWS SDKs' standard mode: 500 tokens. A retry takes 5, and 10 after a `TimeoutError`. A success gives back
+        what the call's last retry took, or else 1."""
+        return cls(500, credit=1, cost=5, timeout_cost=10, refund=True)
+
+    def make(self) -> LimitHandle:
+        return LimitHandle.of_bucket(*self._terms)
+
+    def cost_of(self, error: Optional[BaseException]) -> int:
+        return self._timeout_cost if isinstance(error, TimeoutError) else self._cost
+
+    def expression(self) -> str:
+        *levels, refund = self._terms
+        capacity, floor, debit, credit = (f"{level / 1000:g}" for level in levels)
+        told = ", refund=True" if refund else ""
+        return f"Bucket({capacity}, floor={floor}, debit={debit}, credit={credit}{told})"
+
+
+def _named(floor: float, debit: float, credit: float) -> Tuple[Tuple[str, float], ...]:
+    return (("floor", floor), ("debit", debit), ("credit", credit))
+
+
+class InFlight(Limit):
+    """Bounds the retries in flight: the greater of a least number and a share of the calls in flight.
+
+    A retry is in flight from its draw, through its wait, to the end of its attempt.
+
+    `least`
+        The retries that there may be, however few calls there are.
+    `share`
+        The retries that each call in flight allows: 0.2 is one for every five. It is counted in thousandths.
+
+    >>> InFlight.envoy()
+    <InFlight(3, 0.2)>
+    """
+
+    __slots__ = ("_terms",)
+
+    def __init__(self, least: int, share: float) -> None:
+        self._terms = (_count("least", least, 0), thousandths_of("the share", share, _MAX_COUNT))
+        super().__init__(time.monotonic)
+
+    @classmethod
+    def envoy(cls, budget_percent: float = 20, min_retry_concurrency: int = 3) -> InFlight:
+        """Envoy's `retry_budget`, with its defaults."""
+        return cls(min_retry_concurrency, budget_percent / 100)
+
+    def make(self) -> LimitHandle:
+        return LimitHandle.of_flight(*self._terms)
+
+    def expression(self) -> str:
+        least, share = self._terms
+        return f"InFlight({least}, {share / 1000:g})"
+
+
+class Breaker(Limit):
+    """A circuit breaker. After `failures` in a row it is open: no attempt is made for a while. After that it is half
+    open and admits a few probes. When these succeed it is closed; when one fails it is open again.
+
+    `open_for`
+        A policy, whose waits are the times for which it is open: the first one, and the next each time that a probe
+        fails. The last one is used again.
+    `probes`
+        How many probes it admits, and how many successes close it: 1 to 15.
+    `probe_deadline`
+        How long after its last probe it admits others, if the probes told nothing: seconds, or a `timedelta`.
+    `clock`
+        What returns the time in seconds, to be replaced in tests.
+
+    An attempt that began before the breaker changed changes nothing when it ends.
+
+    >>> from hikebox import exponential
+    >>> from hikebox.testing import VirtualClock
+    >>> clock = VirtualClock()
+    >>> breaker = Breaker.consecutive(2, exponential(30, 2).cap(300), clock=clock)
+    >>> with breaker.request() as request:
+    ...     request.admit()
+    ...     request.failed()
+    ...     request.failed()
+    >>> breaker.request().admit()
+    <Refusal: the breaker is open until 30.000>
+    """
+
+    __slots__ = ("_failures", "_policy", "_probes", "_deadline", "_times")
+
+    reads_clock = True
+
+    def __init__(
+        self,
+        failures: int,
+        open_for: Any,
+        *,
+        probes: int = 1,
+        probe_deadline: Duration = 30,
+        clock: Callable[[], float] = time.monotonic,
+    ) -> None:
+        self._failures = _count("failures", failures, 1)
+        self._policy = Policy.of(open_for)
+        self._probes = _count("probes", probes, 1, 15)
+        self._deadline = seconds(probe_deadline, "probe_deadline")
+        self._times = _times_of(self._policy)
+        super().__init__(clock)
+
+    @classmethod
+    def consecutive(
+        cls,
+        failures: int,
+        open_for: Any,
+        *,
+        probes: int = 1,
+        probe_deadline: Duration = 30,
+        clock: Callable[[], float] = time.monotonic,
+    ) -> Breaker:
+        """A breaker that so many failures in a row open."""
+        return cls(failures, open_for, probes=probes, probe_deadline=probe_deadline, clock=clock)
+
+    def make(self) -> LimitHandle:
+        now = moment(self.clock())
+        return LimitHandle.of_breaker(now, self._failures, self._probes, self._deadline, self._times)
+
+    def expression(self) -> str:
+        return f"Breaker({self._failures}, {self._policy!r})"
+
+
+class Throttle(Limit):
+    """Google's client throttling. It counts calls and those that were accepted over two windows, and refuses a first
+    attempt or a retry with the probability (requests - ratio * accepts) / (requests + 1).
+
+    `ratio`
+        The requests that each accepted one allows, 1 or more. It is counted in thousandths.
+    `period`
+        The length of a window: seconds, or a `timedelta`. The present window and the one before count. Of each window
+        1,048,575 requests are counted at most.
+    `clock`, `random`
+        What returns the time in seconds, and numbers from 0 up to 1, to be replaced in tests.
+
+    >>> Throttle.google()
+    <Throttle(2, 60)>
+    """
+
+    __slots__ = ("_ratio", "_period")
+
+    reads_clock = True
+
+    def __init__(
+        self,
+        ratio: float,
+        period: Duration,
+        *,
+        clock: Callable[[], float] = time.monotonic,
+        random: Callable[[], float] = _random.random,
+    ) -> None:
+        self._ratio = thousandths_of("the ratio", ratio, _MAX_COUNT)
+        self._period = seconds(period, "period")
+        if self._ratio < 1000:
+            raise TermsError(f"expected a ratio of 1 or more, got {ratio!r}")
+        if self._period == 0:
+            raise TermsError(f"expected a period of at least a millisecond, got {period!r}")
+        super().__init__(clock, random)
+
+    @classmethod
+    def google(cls, ratio: float = 2.0) -> Throttle:
+        """The SRE book's: two requests for each accepted one, over two minutes."""
+        return cls(ratio, 60)
+
+    def make(self) -> LimitHandle:
+        return LimitHandle.of_throttle(moment(self.clock()), self._ratio, self._period)
+
+    def expression(self) -> str:
+        return f"Throttle({self._ratio / 1000:g}, {self._period / 1000:g})"
+
+
+def _count(name: str, value: int, least: int, most: int = _MAX_COUNT) -> int:
+    if isinstance(value, bool) or not isinstance(value, int):
+        raise TypeError(f"{name}: expected a whole number, got {value!r}")
+    if not least <= value <= most:
+        raise TermsError(f"{name}: expected {least} to {most}, got {value}")
+    return value
+
+
+def _times_of(policy: Policy) -> List[int]:
+    """The open times of a breaker: the first waits of a policy, in milliseconds, on a course whose events have the
+    input 0 and the random words 0."""
+    lines = policy.plan.course(_MAX_TIMES, 0, 0, [(0, 0, 0, 0, 0)])
+    times = [line.start - line.moment for line in lines if line.start is not None]
+    if not times:
+        raise TermsError(f"open_for: expected a policy that goes on, got {policy!r}")
+    return times

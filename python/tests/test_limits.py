@@ -1,0 +1,408 @@
+"""Limits: rows worked by hand, calls under each limit, two at once, and eight threads that count."""
+
+from __future__ import annotations
+
+import asyncio
+import pickle
+import threading
+from typing import Any, Callable, List, Optional
+
+import pytest
+
+from processes import in_a_forked_child
+from hikebox import (
+    AsyncRetrying,
+    Breaker,
+    Bucket,
+    Ending,
+    InFlight,
+    Limit,
+    NotAdmitted,
+    RefusalReason,
+    Request,
+    Retrying,
+    TermsError,
+    Throttle,
+    both,
+    exponential,
+    recurs,
+    retry,
+    spaced,
+    state_of,
+    stop,
+)
+from hikebox.testing import VirtualClock, no_waits
+
+THREADS = 8
+
+
+def admitted(limit: Limit) -> Request:
+    request = limit.request()
+    assert request.admit() is None
+    return request
+
+
+def reason(refusal: Any) -> Optional[RefusalReason]:
+    return None if refusal is None else refusal.reason
+
+
+def fails() -> Any:
+    raise KeyError()
+
+
+# Rows
+
+
+def test_grpc() -> None:
+    # Of four tokens two are left after two failures, which is not more than half; a success gives half a token.
+    bucket = Bucket.grpc(4, 0.5)
+    request, other = admitted(bucket), admitted(bucket)
+    request.failed()
+    assert request.draw() is None
+    request.failed()
+    assert reason(request.draw()) is RefusalReason.LEVEL_LOW
+    other.succeeded()
+    assert request.draw() is None
+    request.failed()
+    assert reason(request.draw()) is RefusalReason.LEVEL_LOW
+
+
+def test_aws() -> None:
+    # 500 tokens: a retry takes 5, and 10 after a timeout. A success gives back what the last retry took, or else 1.
+    bucket = Bucket.aws()
+    request = admitted(bucket)
+    for _ in range(50):
+        assert request.draw(TimeoutError()) is None
+    assert reason(request.draw()) is RefusalReason.LEVEL_LOW
+    request.succeeded()
+    request.ended()
+    request = admitted(bucket)
+    assert request.draw() is None
+    assert request.draw() is None
+    assert reason(request.draw()) is RefusalReason.LEVEL_LOW
+    request.cancelled()
+    request.cancelled()
+    assert request.draw() is None
+    request.ended()
+    plain = admitted(bucket)
+    for _ in range(5):
+        plain.succeeded()
+    assert plain.draw() is None
+    assert reason(plain.draw()) is RefusalReason.LEVEL_LOW
+
+
+def test_envoy() -> None:
+    # A fifth of ten calls is two retries.
+    limit = InFlight(1, 0.2)
+    requests = [admitted(limit) for _ in range(10)]
+    assert [reason(request.draw()) for request in requests[:3]] == [None, None, RefusalReason.RETRIES_FULL]
+    requests[0].ended()
+    assert reason(requests[2].draw()) is RefusalReason.RETRIES_FULL
+    requests[1].ended()
+    requests[1].ended()
+    assert requests[2].draw() is None
+
+
+def test_breaker() -> None:
+    clock = VirtualClock()
+    breaker = Breaker.consecutive(2, exponential(0.1, 2), probe_deadline=1, clock=clock)
+    request, late, probe = admitted(breaker), admitted(breaker), breaker.request()
+    request.failed()
+    clock.sleep(0.01)
+    request.failed()
+    clock.sleep(0.099)
+    refusal = probe.admit()
+    assert refusal is not None and refusal.reason is RefusalReason.BREAKER_OPEN
+    assert refusal.again_at == pytest.approx(0.11)
+    clock.sleep(0.001)
+    assert probe.admit() is None
+    assert reason(request.draw()) is RefusalReason.PROBING
+    clock.sleep(0.01)
+    probe.failed()
+    late.failed()
+    clock.sleep(0.199)
+    assert reason(probe.draw()) is RefusalReason.BREAKER_OPEN
+    clock.sleep(0.001)
+    assert probe.draw() is None
+    probe.succeeded()
+    late.failed()
+    assert request.draw() is None
+
+
+def test_throttle() -> None:
+    # By a random number of a half: of 0 calls, and 1 of 2, one more is admitted, and 2 of 3 is more than a half. The
+    # next window has what the one before counted, and the one after that has not.
+    clock = VirtualClock()
+    throttle = Throttle(2, 0.1, clock=clock, random=lambda: 0.5)
+    answers = []
+    for _ in range(4):
+        with throttle.request() as request:
+            answers.append(reason(request.admit()))
+    assert answers == [None, None, RefusalReason.THROTTLED, RefusalReason.THROTTLED]
+    clock.sleep(0.1)
+    assert reason(throttle.request().admit()) is RefusalReason.THROTTLED
+    clock.sleep(0.1)
+    request = admitted(throttle)
+    request.succeeded()
+    assert request.draw() is None
+
+
+def test_both_or_neither() -> None:
+    clock = VirtualClock()
+    flights = InFlight(0, 0.5)
+    limit = both(flights, Breaker(1, spaced(0.1), clock=clock))
+    request = admitted(limit)
+    request.failed()
+    request.ended()
+    assert reason(limit.request().admit()) is RefusalReason.BREAKER_OPEN
+    alone = admitted(flights)
+    assert reason(alone.draw()) is RefusalReason.RETRIES_FULL
+    clock.sleep(0.1)
+    probe = admitted(limit)
+    assert alone.draw() is None
+    probe.ended()
+
+
+def test_a_bucket_gets_back_what_the_second_limit_refuses() -> None:
+    bucket = Bucket(1, cost=1)
+    limit = both(bucket, InFlight(0, 0))
+    assert reason(admitted(limit).draw()) is RefusalReason.RETRIES_FULL
+    assert admitted(bucket).draw() is None
+
+
+# Calls
+
+
+def test_a_retry_tells_its_bucket() -> None:
+    bucket = Bucket.grpc(4, 1)
+    retrying = Retrying(recurs(9), budget=bucket)
+    with no_waits(), pytest.raises(KeyError) as raised:
+        retrying(fails)
+    state = state_of(raised.value)
+    assert state is not None and state.ending is Ending.BUDGET_REFUSED
+    assert (state.attempt_number, state.granted) == (2, 1)
+    assert reason(state.refusal) is RefusalReason.LEVEL_LOW
+    assert retrying(lambda: 5) == 5  # which gives one token back, so that three are left
+    assert admitted(bucket).draw() is None
+
+
+def test_an_error_that_is_not_retried_is_a_failure() -> None:
+    bucket = Bucket.grpc(2, 0)
+    with pytest.raises(KeyError):
+        Retrying(recurs(9), budget=bucket, on=ValueError)(fails)
+    assert reason(admitted(bucket).draw()) is RefusalReason.LEVEL_LOW
+
+
+def test_a_refused_result_is_a_failure() -> None:
+    breaker = Breaker(2, spaced(30))
+    with no_waits(), pytest.raises(Exception, match="not accepted"):
+        Retrying(recurs(1), budget=breaker, on_result=lambda result: result is None)(lambda: None)
+    assert reason(breaker.request().admit()) is RefusalReason.BREAKER_OPEN
+
+
+@pytest.mark.parametrize("kind", ["call", "await"])
+def test_an_open_breaker_admits_no_call(kind: str) -> None:
+    clock = VirtualClock()
+    breaker = Breaker.consecutive(3, spaced(30), clock=clock)
+    calls: List[int] = []
+
+    def call() -> Any:
+        calls.append(1)
+        raise KeyError()
+
+    async def call_later() -> Any:
+        return call()
+
+    def run(**options: Any) -> Any:
+        if kind == "call":
+            return Retrying(recurs(9), budget=breaker, **options)(call)
+        return asyncio.run(AsyncRetrying(recurs(9), budget=breaker, **options)(call_later))
+
+    with no_waits(), pytest.raises(KeyError) as failed:
+        run()
+    state = state_of(failed.value)
+    assert state is not None and state.ending is Ending.BUDGET_REFUSED
+    assert len(calls) == 3
+    with pytest.raises(NotAdmitted) as raised:
+        run()
+    assert len(calls) == 3
+    assert raised.value.refusal.reason is RefusalReason.BREAKER_OPEN and raised.value.refusal.again_at == 30
+    state = state_of(raised.value)
+    assert state is not None and state.ending is Ending.NOT_ADMITTED and state.attempt_number == 0
+    assert run(fallback=lambda state: "cached") == "cached"
+    clock.sleep(30)
+    with no_waits(), pytest.raises(KeyError):
+        run()
+    assert len(calls) == 4
+
+
+def test_a_loop_is_not_admitted() -> None:
+    breaker = Breaker(1, spaced(30))
+    admitted(breaker).failed()
+    with pytest.raises(NotAdmitted):
+        for attempt in Retrying(recurs(3), budget=breaker):
+            with attempt:
+                raise AssertionError("no attempt is made")
+
+
+def test_a_retry_that_is_cancelled_gives_all_back() -> None:
+    limit = both(Bucket(1, cost=1), InFlight(1, 0))
+
+    async def fails_later() -> Any:
+        raise KeyError()
+
+    async def leave() -> None:
+        task = asyncio.ensure_future(AsyncRetrying(spaced(60), budget=limit)(fails_later))
+        await asyncio.sleep(0.05)
+        task.cancel()
+        with pytest.raises(asyncio.CancelledError):
+            await task
+
+    asyncio.run(leave())
+    assert admitted(limit).draw() is None
+
+
+def test_a_retried_function() -> None:
+    answers = iter([KeyError(), 5])
+
+    @retry(recurs(3), budget=InFlight.envoy())
+    def fetch() -> Any:
+        answer = next(answers)
+        if isinstance(answer, Exception):
+            raise answer
+        return answer
+
+    assert fetch() == 5
+
+
+# Threads
+
+
+def race(limit: Limit, times: int) -> int:
+    """How many draws are granted, where each of eight threads makes so many calls, and each draws once."""
+    counts = [0] * THREADS
+
+    def calls(place: int) -> None:
+        for _ in range(times):
+            with limit.request() as request:
+                if request.admit() is None and request.draw() is None:
+                    counts[place] += 1
+
+    threads = [threading.Thread(target=calls, args=(place,)) for place in range(THREADS)]
+    for thread in threads:
+        thread.start()
+    for thread in threads:
+        thread.join()
+    return sum(counts)
+
+
+def test_each_token_is_drawn_once() -> None:
+    assert race(Bucket(5000, cost=1), 1000) == 5000
+
+
+def test_each_slot_comes_back() -> None:
+    limit = InFlight(0, 0.5)
+    assert race(limit, 1000) <= THREADS * 1000
+    request = admitted(limit)
+    assert reason(request.draw()) is RefusalReason.RETRIES_FULL
+    beside = admitted(limit)
+    assert request.draw() is None
+    beside.ended()
+
+
+def test_a_breaker_has_one_probe() -> None:
+    clock = VirtualClock()
+    breaker = Breaker(1, spaced(1), clock=clock)
+    admitted(breaker).failed()
+    assert race(breaker, 100) == 0
+    clock.sleep(1)
+    probe = admitted(breaker)
+    assert race(breaker, 100) == 0
+    probe.succeeded()
+    assert race(breaker, 100) == THREADS * 100
+
+
+def test_a_throttle_counts_each_call() -> None:
+    # 16,000 requests: one more is refused by a word below 2**32 * 16,000 / 16,001, which is 4,294,698,877.3; and after
+    # that below 2**32 * 16,001 / 16,002, which is 4,294,698,894.1.
+    clock = VirtualClock()
+    drawn = [1 - 2**-32]
+    throttle = Throttle(2, 60, clock=clock, random=lambda: drawn[0])
+    assert race(throttle, 1000) == THREADS * 1000
+    drawn[0] = 4294698878 / 2**32
+    request = admitted(throttle)
+    drawn[0] = 4294698894 / 2**32
+    assert reason(request.draw()) is RefusalReason.THROTTLED
+
+
+# Terms
+
+
+@pytest.mark.parametrize(
+    "make",
+    [
+        lambda: Bucket(1, floor=2),
+        lambda: Bucket(-1),
+        lambda: Bucket(1, cost=2),
+        lambda: Bucket.grpc(0, 0),
+        lambda: Bucket.grpc(1, 2),
+        lambda: Bucket(float("nan")),
+        lambda: InFlight(-1, 0),
+        lambda: InFlight(2**32, 0),
+        lambda: Breaker(0, spaced(1)),
+        lambda: Breaker(1, spaced(1), probes=16),
+        lambda: Breaker(1, stop()),
+        lambda: Throttle(0.9, 60),
+        lambda: Throttle(2, 0),
+    ],
+)
+def test_terms_out_of_range(make: Callable[[], Any]) -> None:
+    with pytest.raises(TermsError):
+        make()
+
+
+def test_open_times_are_the_waits_of_the_policy() -> None:
+    # 1, 2 and then 3 seconds, the bound of its cap
+    clock = VirtualClock()
+    breaker = Breaker(1, exponential(1, 2).cap(3), clock=clock)
+    request = admitted(breaker)
+    until = []
+    for _ in range(4):
+        request.failed()
+        refusal = request.draw()
+        assert refusal is not None and refusal.again_at is not None
+        until.append(refusal.again_at)
+        clock.sleep(refusal.again_at - clock())
+        assert request.draw() is None
+    assert until == [1, 3, 6, 9]
+
+
+def test_misuse() -> None:
+    breaker = Breaker(1, spaced(1))
+    request = admitted(breaker)
+    with pytest.raises(RuntimeError, match="has ended"):
+        request.admit()
+    request.ended()
+    with pytest.raises(RuntimeError, match="was admitted"):
+        request.draw()
+    with pytest.raises(TypeError, match="request"):
+        breaker.draw()
+    with pytest.raises(TypeError, match="single limits"):
+        both(breaker, both(breaker, breaker))
+    with pytest.raises(TypeError, match="belongs to its process"):
+        pickle.dumps(breaker)
+
+
+def test_names() -> None:
+    assert repr(Bucket.grpc(10, 0.1)) == "<Bucket(10, floor=5.001, debit=1, credit=0.1)>"
+    assert repr(InFlight.envoy(25, 5)) == "<InFlight(5, 0.25)>"
+    assert repr(Breaker.consecutive(5, spaced(30))) == "<Breaker(5, spaced(30))>"
+    assert repr(Throttle.google()) == "<Throttle(2, 60)>"
+
+
+def test_a_forked_child_begins_anew() -> None:
+    breaker = Breaker(1, spaced(30))
+    admitted(breaker).failed()
+    assert reason(breaker.request().admit()) is RefusalReason.BREAKER_OPEN
+    in_a_forked_child(lambda: None if breaker.request().admit() is None else 1 / 0)
+    assert reason(breaker.request().admit()) is RefusalReason.BREAKER_OPEN

@@ -1,0 +1,100 @@
+//! Limits that calls ask before their first run.
+
+use super::sys::*;
+use super::{Handle, Kind, Status};
+use std::mem;
+
+/// The kind of a limit.
+#[derive(Debug)]
+pub(crate) enum LimitKind {}
+
+impl Kind for LimitKind {
+    const FREE: unsafe extern "C" fn(*mut Raw) -> u32 = hikebox_limit_free;
+}
+
+/// Why a limit refuses: the status, and the number that it tells.
+#[derive(Clone, Copy, Debug)]
+pub(crate) struct Refusal {
+    pub(crate) status: u32,
+    pub(crate) number: u64,
+}
+
+impl Handle<LimitKind> {
+    /// A bucket with these terms, in thousandths of a token.
+    pub(crate) fn bucket(terms: BucketTerms) -> Result<Self, Status> {
+        let terms = BucketTerms { size: mem::size_of::<BucketTerms>(), ..terms };
+        Self::filled(|limit| unsafe { hikebox_bucket_new(&terms, limit) })
+    }
+
+    /// A bound on the retries in flight.
+    pub(crate) fn in_flight(least: u32, share: u32) -> Result<Self, Status> {
+        Self::filled(|limit| unsafe { hikebox_in_flight_new(least, share, limit) })
+    }
+
+    /// A breaker with these terms and open times, in milliseconds.
+    pub(crate) fn breaker(now: u64, terms: BreakerTerms, times: &[u64]) -> Result<Self, Status> {
+        let terms = BreakerTerms { size: mem::size_of::<BreakerTerms>(), ..terms };
+        Self::filled(|limit| unsafe { hikebox_breaker_new(now, &terms, times.as_ptr(), times.len(), limit) })
+    }
+
+    /// A throttle whose first window begins at this moment.
+    pub(crate) fn throttle(now: u64, ratio: u32, period: u64) -> Result<Self, Status> {
+        Self::filled(|limit| unsafe { hikebox_throttle_new(now, ratio, period, limit) })
+    }
+
+    /// Takes in another limit, which is asked after this one.
+    pub(crate) fn both(&mut self, mut second: Self) -> Result<(), Status> {
+        Status::of(unsafe { hikebox_limit_both(self.raw(), second.raw()) })
+    }
+
+    /// The same limit for another request.
+    pub(crate) fn split(&mut self) -> Result<Self, Status> {
+        Self::filled(|part| unsafe { hikebox_limit_split(self.raw(), part) })
+    }
+
+    /// Asks before the first run of a request.
+    pub(crate) fn admit(&mut self, now: u64, random: u32) -> Result<(), Refusal> {
+        answered(|number| unsafe { hikebox_limit_admit(self.raw(), now, random, number) })
+    }
+
+    /// Asks for a retry.
+    pub(crate) fn draw(&mut self, now: u64, cost: u64, random: u32) -> Result<(), Refusal> {
+        answered(|number| unsafe { hikebox_limit_draw(self.raw(), now, cost, random, number) })
+    }
+
+    /// Tells that a run failed.
+    pub(crate) fn failed(&mut self, now: u64) {
+        let status = unsafe { hikebox_limit_failed(self.raw(), now) };
+        debug_assert_eq!(status, OK);
+    }
+
+    /// Tells that a run succeeded.
+    pub(crate) fn succeeded(&mut self, now: u64) {
+        let status = unsafe { hikebox_limit_succeeded(self.raw(), now) };
+        debug_assert_eq!(status, OK);
+    }
+
+    /// Tells that the latest retry is cancelled while it waits.
+    pub(crate) fn cancelled(&mut self) {
+        let status = unsafe { hikebox_limit_cancelled(self.raw()) };
+        debug_assert_eq!(status, OK);
+    }
+
+    /// Tells that the request is over.
+    pub(crate) fn ended(&mut self) {
+        let status = unsafe { hikebox_limit_ended(self.raw()) };
+        debug_assert_eq!(status, OK);
+    }
+}
+
+/// What a limit answers: asked again where 64 calls of others came first.
+fn answered(mut ask: impl FnMut(&mut u64) -> u32) -> Result<(), Refusal> {
+    let mut number = 0;
+    loop {
+        match ask(&mut number) {
+            OK => return Ok(()),
+            RACES_LOST => {}
+            status => return Err(Refusal { status, number }),
+        }
+    }
+}

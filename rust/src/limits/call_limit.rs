@@ -1,0 +1,606 @@
+//! Limits of other systems, which a call asks before its first run too.
+
+use crate::clock::{whole_millis, Moment};
+use crate::engine::{self, BreakerTerms, BucketTerms, Course, Event, Handle, LimitKind, Refusal, Status};
+use crate::limits::budget::BudgetError;
+use crate::limits::grants::Tickets;
+use crate::limits::ticket::{NoTicket, Ticket};
+use crate::policy::Policy;
+use crate::random;
+#[cfg(feature = "tokio")]
+use crate::retry::retry_async;
+use crate::retry::{retry, RetryError};
+use crate::system::{generation, PerProcess};
+use std::error::Error;
+use std::fmt;
+#[cfg(feature = "tokio")]
+use std::future::Future;
+use std::mem;
+use std::sync::{Arc, Mutex, MutexGuard, PoisonError};
+use std::time::Duration;
+
+/// A limit of another system: a [`Bucket`], a bound on what is [`InFlight`], a [`Breaker`] or a [`Throttle`]. A call
+/// asks it before its first run and before each retry, and it learns how each run ended. All threads of a program
+/// share it, and what they do acts as one sequence. It is cheap to clone; all clones are the same limit.
+///
+/// ```
+/// use hikebox::{Breaker, CallLimit, LimitError, Policy, RefusalReason};
+///
+/// let policy: Policy = r#"{"recurs":9}"#.parse()?;
+/// let breaker = CallLimit::new(Breaker::consecutive(2, r#"{"spaced":30000}"#.parse()?))?;
+/// let mut runs = 0;
+/// let answer = breaker.retry(&policy, || { runs += 1; Err::<(), _>("down") });
+/// assert!(matches!(answer, Err(LimitError::Retry(_))));
+/// assert_eq!(runs, 2);
+/// match breaker.retry(&policy, || Ok::<_, &str>(5)) {
+///     Err(LimitError::NotAdmitted(refused)) => assert_eq!(refused.reason(), RefusalReason::BreakerOpen),
+///     other => panic!("{other:?}"),
+/// }
+/// # Ok::<(), Box<dyn std::error::Error>>(())
+/// ```
+///
+/// What a call holds is given back once: when it ends, or when its [`Request`] is dropped. A limit belongs to its
+/// process: a forked child has its own, with nothing counted.
+#[derive(Clone)]
+pub struct CallLimit {
+    shared: Arc<Shared>,
+}
+
+struct Shared {
+    made: Made,
+    /// Moment 0.
+    began: Moment,
+    handles: PerProcess<Handles>,
+}
+
+/// What a limit is made with, and so is another one in each forked child.
+#[derive(Debug)]
+enum Made {
+    Of(Terms),
+    Both(CallLimit, CallLimit),
+}
+
+/// Moment 0 of all limits, so that two at once have one clock.
+static BEGAN: Mutex<Option<Moment>> = Mutex::new(None);
+
+/// The first handle of a limit, and those that no request uses now.
+struct Handles {
+    root: Mutex<Handle<LimitKind>>,
+    idle: Mutex<Vec<Handle<LimitKind>>>,
+}
+
+/// What a [`CallLimit`] is made with.
+#[derive(Clone, Debug)]
+#[non_exhaustive]
+pub enum Terms {
+    /// A bucket.
+    Bucket(Bucket),
+    /// A bound on the retries in flight.
+    InFlight(InFlight),
+    /// A breaker.
+    Breaker(Breaker),
+    /// A throttle.
+    Throttle(Throttle),
+}
+
+/// A bucket of tokens, which are counted in thousandths. It is full at first.
+#[derive(Clone, Copy, Debug, Default, PartialEq)]
+pub struct Bucket {
+    /// The tokens of a full bucket.
+    pub capacity: f64,
+    /// The tokens that a retry must leave.
+    pub floor: f64,
+    /// The tokens that a failed run takes.
+    pub debit: f64,
+    /// The tokens that a success gives.
+    pub credit: f64,
+    /// The tokens that a retry takes.
+    pub cost: f64,
+    /// Whether a success gives back what the call's last retry took, in the place of the credit.
+    pub refund: bool,
+}
+
+/// A bound on the retries in flight: the greater of a least number and a share of the calls in flight. A retry is in
+/// flight from its draw, through its wait, to the end of its run.
+#[derive(Clone, Copy, Debug, PartialEq)]
+pub struct InFlight {
+    /// The retries that there may be, however few calls there are.
+    pub least: u32,
+    /// The retries that each call in flight allows: 0.2 is one for every five. It is counted in thousandths.
+    pub share: f64,
+}
+
+/// A circuit breaker: after failures in a row it is open, then it is half open and admits probes, and when these
+/// succeed it is closed.
+#[derive(Clone, Debug)]
+pub struct Breaker {
+    /// How many failures in a row open it.
+    pub failures: u32,
+    /// The policy whose waits are the times for which it is open: the first one, and the next each time that a probe
+    /// fails. The last of them is used again.
+    pub open_for: Policy,
+    /// How many probes it admits, and how many successes close it: 1 to 15.
+    pub probes: u8,
+    /// How long after its last probe it admits others, if the probes told nothing.
+    pub probe_deadline: Duration,
+}
+
+/// Google's client throttling: a first run or a retry is refused with the probability
+/// (requests - ratio * accepts) / (requests + 1), over the present window and the one before.
+#[derive(Clone, Copy, Debug, PartialEq)]
+pub struct Throttle {
+    /// The requests that each accepted one allows, 1 or more. It is counted in thousandths.
+    pub ratio: f64,
+    /// The length of a window. Of each window 1,048,575 requests are counted at most.
+    pub period: Duration,
+}
+
+impl Bucket {
+    /// gRPC's `retryThrottling`: a failure takes one token, a success gives `token_ratio` of one, and a retry is
+    /// granted while more than half of `max_tokens` are left.
+    #[must_use]
+    pub fn grpc(max_tokens: u32, token_ratio: f64) -> Self {
+        let capacity = f64::from(max_tokens);
+        Self { capacity, floor: capacity / 2.0 + 0.001, debit: 1.0, credit: token_ratio, cost: 0.0, refund: false }
+    }
+
+    /// The AWS SDKs' standard mode: 500 tokens, of which a retry takes 5. A success gives back what the call's last
+    /// retry took, or else 1. (The SDKs take 10 after a timeout: [`Request::draw_at`] takes any number.)
+    #[must_use]
+    pub fn aws() -> Self {
+        Self { capacity: 500.0, floor: 0.0, debit: 0.0, credit: 1.0, cost: 5.0, refund: true }
+    }
+
+    fn made(&self) -> Result<Handle<LimitKind>, BudgetError> {
+        let terms = BucketTerms {
+            size: 0,
+            capacity: thousandths(self.capacity)?,
+            floor: thousandths(self.floor)?,
+            debit: thousandths(self.debit)?,
+            credit: thousandths(self.credit)?,
+            refund: self.refund,
+        };
+        thousandths(self.cost)?;
+        Handle::bucket(terms).map_err(fault)
+    }
+}
+
+impl InFlight {
+    /// Envoy's `retry_budget`: 20 per cent and 3 are its defaults.
+    #[must_use]
+    pub fn envoy(budget_percent: f64, min_retry_concurrency: u32) -> Self {
+        Self { least: min_retry_concurrency, share: budget_percent / 100.0 }
+    }
+
+    fn made(&self) -> Result<Handle<LimitKind>, BudgetError> {
+        let share = u32::try_from(thousandths(self.share)?).map_err(|_| BudgetError::OutOfRange)?;
+        Handle::in_flight(self.least, share).map_err(fault)
+    }
+}
+
+impl Breaker {
+    /// One that opens after so many failures in a row, with one probe and 30 seconds for it.
+    #[must_use]
+    pub fn consecutive(failures: u32, open_for: Policy) -> Self {
+        Self { failures, open_for, probes: 1, probe_deadline: Duration::from_secs(30) }
+    }
+
+    /// The open times: the waits of the policy on a course whose events have the input 0 and the random words 0.
+    fn times(&self) -> Result<Vec<u64>, BudgetError> {
+        let course = Course { size: mem::size_of::<Course>(), steps: 64, from: 0, took: 0 };
+        let mut policy = self.open_for.share().map_err(fault)?;
+        let (lines, _) = policy.course(course, &[Event { input: 0, words: [0; 4] }]).map_err(fault)?;
+        Ok(lines.iter().filter(|line| line.goes_on).map(|line| line.start - line.moment).collect())
+    }
+
+    fn made(&self, now: u64) -> Result<Handle<LimitKind>, BudgetError> {
+        let deadline = whole_millis(self.probe_deadline);
+        let (failures, probes) = (self.failures.into(), self.probes.into());
+        Handle::breaker(now, BreakerTerms { size: 0, failures, probes, deadline }, &self.times()?).map_err(fault)
+    }
+}
+
+impl Throttle {
+    /// The SRE book's: two requests for each accepted one, over two minutes.
+    #[must_use]
+    pub fn google() -> Self {
+        Self { ratio: 2.0, period: Duration::from_secs(60) }
+    }
+
+    fn made(&self, now: u64) -> Result<Handle<LimitKind>, BudgetError> {
+        let ratio = u32::try_from(thousandths(self.ratio)?).map_err(|_| BudgetError::OutOfRange)?;
+        Handle::throttle(now, ratio, whole_millis(self.period)).map_err(fault)
+    }
+}
+
+/// A number in thousandths.
+fn thousandths(number: f64) -> Result<u64, BudgetError> {
+    if (0.0..=1.1e9).contains(&number) {
+        Ok((number * 1000.0).round() as u64)
+    } else {
+        Err(BudgetError::OutOfRange)
+    }
+}
+
+fn fault(status: Status) -> BudgetError {
+    match status {
+        Status::NoMemory | Status::TooManyPasses => BudgetError::NoMemory,
+        _ => BudgetError::OutOfRange,
+    }
+}
+
+impl CallLimit {
+    /// A limit with these terms.
+    ///
+    /// # Errors
+    ///
+    /// [`BudgetError::OutOfRange`] if a number is out of its range, and [`BudgetError::NoMemory`].
+    pub fn new(terms: impl Into<Terms>) -> Result<Self, BudgetError> {
+        Self::of(Made::Of(terms.into()))
+    }
+
+    fn of(made: Made) -> Result<Self, BudgetError> {
+        let began = *lock(&BEGAN).get_or_insert_with(Moment::now);
+        let handles = PerProcess::new(Handles::of(made.handle(moment_of(began))?));
+        Ok(Self { shared: Arc::new(Shared { made, began, handles }) })
+    }
+
+    fn handles(&self) -> &Handles {
+        let make = || self.shared.made.handle(self.moment()).expect("memory for a limit");
+        self.shared.handles.get(|| Handles::of(make()))
+    }
+
+    /// A request of the limit, for a call that you retry by hand.
+    ///
+    /// # Errors
+    ///
+    /// [`BudgetError::NoMemory`].
+    pub fn request(&self) -> Result<Request, BudgetError> {
+        let idle = lock(&self.handles().idle).pop();
+        let handle = match idle {
+            Some(handle) => handle,
+            None => lock(&self.handles().root).split().map_err(fault)?,
+        };
+        Ok(Request { limit: self.clone(), handle: Some(handle), generation: generation() })
+    }
+
+    /// Runs the call until it succeeds, as [`retry`](crate::retry()) does, and asks this limit before each run.
+    ///
+    /// # Errors
+    ///
+    /// [`LimitError::NotAdmitted`] if the limit refuses the first run, or [`LimitError::Retry`] with the error of the
+    /// retry.
+    pub fn retry<T, E>(&self, policy: &Policy, mut call: impl FnMut() -> Result<T, E>) -> Result<T, LimitError<E>> {
+        let asked = self.admitted().map_err(LimitError::NotAdmitted)?;
+        retry(policy, &asked, || asked.tell(call())).map_err(LimitError::Retry)
+    }
+
+    /// [`CallLimit::retry`] for futures, as [`retry_async`](crate::retry_async) has it. A future that is dropped gives
+    /// back what the call holds.
+    ///
+    /// # Errors
+    ///
+    /// As of [`CallLimit::retry`].
+    #[cfg(feature = "tokio")]
+    pub async fn retry_async<T, E, F>(&self, policy: &Policy, mut call: impl FnMut() -> F) -> Result<T, LimitError<E>>
+    where
+        F: Future<Output = Result<T, E>>,
+    {
+        let asked = self.admitted().map_err(LimitError::NotAdmitted)?;
+        let runs = || {
+            let (asked, run) = (asked.clone(), call());
+            async move { asked.tell(run.await) }
+        };
+        retry_async(policy, &asked, runs).await.map_err(LimitError::Retry)
+    }
+
+    /// A request that is admitted.
+    fn admitted(&self) -> Result<Arc<Asked>, Refused> {
+        let mut request = self.request().map_err(|_| Refused::of_memory())?;
+        request.admit()?;
+        Ok(Arc::new(Asked(Mutex::new(request))))
+    }
+
+    fn cost(&self) -> u64 {
+        match &self.shared.made {
+            Made::Of(Terms::Bucket(bucket)) => thousandths(bucket.cost).unwrap_or(0),
+            Made::Of(_) => 0,
+            Made::Both(first, second) => first.cost().max(second.cost()),
+        }
+    }
+
+    fn moment(&self) -> u64 {
+        moment_of(self.shared.began)
+    }
+}
+
+/// The present moment of limits, which began then.
+fn moment_of(began: Moment) -> u64 {
+    Moment::now().millis_since(began)
+}
+
+/// Both limits at once, `first` asked first: either both admit a call or grant a retry, or neither is charged. Put a
+/// breaker second: a probe that it admitted is not given back.
+///
+/// ```
+/// use hikebox::{both, Breaker, Bucket, CallLimit};
+///
+/// let breaker = CallLimit::new(Breaker::consecutive(5, r#"{"spaced":30000}"#.parse()?))?;
+/// let limit = both(&CallLimit::new(Bucket::aws())?, &breaker)?;
+/// assert!(limit.request()?.admit().is_ok());
+/// # Ok::<(), Box<dyn std::error::Error>>(())
+/// ```
+///
+/// # Errors
+///
+/// [`BudgetError::OutOfRange`] if one of them is two limits already, and [`BudgetError::NoMemory`].
+pub fn both(first: &CallLimit, second: &CallLimit) -> Result<CallLimit, BudgetError> {
+    CallLimit::of(Made::Both(first.clone(), second.clone()))
+}
+
+impl Made {
+    /// The limit in the engine, made at this moment.
+    fn handle(&self, now: u64) -> Result<Handle<LimitKind>, BudgetError> {
+        match self {
+            Self::Of(Terms::Bucket(bucket)) => bucket.made(),
+            Self::Of(Terms::InFlight(flight)) => flight.made(),
+            Self::Of(Terms::Breaker(breaker)) => breaker.made(now),
+            Self::Of(Terms::Throttle(throttle)) => throttle.made(now),
+            Self::Both(first, second) => {
+                let part = lock(&second.handles().root).split().map_err(fault)?;
+                let mut both = lock(&first.handles().root).split().map_err(fault)?;
+                both.both(part).map_err(fault)?;
+                Ok(both)
+            }
+        }
+    }
+}
+
+impl Handles {
+    fn of(root: Handle<LimitKind>) -> Self {
+        Self { root: Mutex::new(root), idle: Mutex::new(Vec::new()) }
+    }
+}
+
+fn lock<T>(mutex: &Mutex<T>) -> MutexGuard<'_, T> {
+    mutex.lock().unwrap_or_else(PoisonError::into_inner)
+}
+
+/// One call under a [`CallLimit`], from its first run to its end. Dropped, it gives back what it holds.
+#[derive(Debug)]
+pub struct Request {
+    limit: CallLimit,
+    /// `None` only while it is dropped.
+    handle: Option<Handle<LimitKind>>,
+    generation: u64,
+}
+
+impl Request {
+    fn handle(&mut self) -> &mut Handle<LimitKind> {
+        if self.generation != generation() {
+            // (in a forked child it is the parent's)
+            mem::forget(self.handle.take());
+            let part = lock(&self.limit.handles().root).split();
+            (self.handle, self.generation) = (Some(part.expect("memory for a request")), generation());
+        }
+        self.handle.as_mut().expect("a request has its handle until it is dropped")
+    }
+
+    /// Asks before the first run.
+    ///
+    /// # Errors
+    ///
+    /// [`Refused`] says why the limit does not admit it.
+    pub fn admit(&mut self) -> Result<(), Refused> {
+        let (now, [random, ..]) = (self.limit.moment(), random::next());
+        let answer = self.handle().admit(now, random);
+        answer.map_err(|refusal| Refused::of(refusal, now))
+    }
+
+    /// Asks for a retry after a run failed, before its wait.
+    ///
+    /// # Errors
+    ///
+    /// [`Refused`] says why the limit does not grant it.
+    pub fn draw(&mut self) -> Result<(), Refused> {
+        let cost = self.limit.cost();
+        self.draw_of(cost)
+    }
+
+    /// [`Request::draw`] at so many tokens of a bucket.
+    ///
+    /// # Errors
+    ///
+    /// As of [`Request::draw`].
+    pub fn draw_at(&mut self, tokens: u32) -> Result<(), Refused> {
+        self.draw_of(1000 * u64::from(tokens))
+    }
+
+    fn draw_of(&mut self, cost: u64) -> Result<(), Refused> {
+        let (now, [random, ..]) = (self.limit.moment(), random::next());
+        let answer = self.handle().draw(now, cost, random);
+        answer.map_err(|refusal| Refused::of(refusal, now))
+    }
+
+    /// Tells that a run failed, whether you retry it or not.
+    pub fn failed(&mut self) {
+        let now = self.limit.moment();
+        self.handle().failed(now);
+    }
+
+    /// Tells that a run succeeded.
+    pub fn succeeded(&mut self) {
+        let now = self.limit.moment();
+        self.handle().succeeded(now);
+    }
+
+    /// Tells that the latest retry is cancelled while it waits. What it cost comes back, once.
+    pub fn cancelled(&mut self) {
+        self.handle().cancelled();
+    }
+}
+
+impl Drop for Request {
+    fn drop(&mut self) {
+        match self.handle.take() {
+            Some(mut handle) if self.generation == generation() => {
+                handle.ended();
+                lock(&self.limit.handles().idle).push(handle);
+            }
+            handle => mem::forget(handle),
+        }
+    }
+}
+
+/// A request as a store of tickets.
+struct Asked(Mutex<Request>);
+
+impl Asked {
+    /// Tells how a run ended.
+    fn tell<T, E>(&self, answer: Result<T, E>) -> Result<T, E> {
+        let mut request = lock(&self.0);
+        match answer {
+            Ok(_) => request.succeeded(),
+            Err(_) => request.failed(),
+        }
+        answer
+    }
+}
+
+impl Tickets for Asked {
+    fn draw(&self) -> Result<Ticket, NoTicket> {
+        match lock(&self.0).draw() {
+            Ok(()) => Ok(Ticket::new(0)),
+            Err(_) => Err(NoTicket::used_up()),
+        }
+    }
+
+    fn hand_back(&self, _ticket: Ticket) {
+        lock(&self.0).cancelled();
+    }
+}
+
+/// Why a limit refuses a first run or a retry.
+#[derive(Clone, Copy, Debug, PartialEq, Eq, Hash)]
+pub struct Refused {
+    reason: RefusalReason,
+    retry_after: Option<Duration>,
+}
+
+/// The reasons of a [`Refused`].
+#[derive(Clone, Copy, Debug, PartialEq, Eq, Hash)]
+#[non_exhaustive]
+pub enum RefusalReason {
+    /// The bucket's level is too low.
+    LevelLow,
+    /// Too many calls are in flight to be counted.
+    RequestsFull,
+    /// Too many retries are in flight.
+    RetriesFull,
+    /// The breaker is open.
+    BreakerOpen,
+    /// The breaker is half open, and its probes are out.
+    Probing,
+    /// The throttle refuses.
+    Throttled,
+    /// A request asks to be admitted once before it draws.
+    OutOfTurn,
+    /// Memory ran out.
+    NoMemory,
+}
+
+impl Refused {
+    fn of(refusal: Refusal, now: u64) -> Self {
+        let reason = match refusal.status {
+            engine::LEVEL_LOW => RefusalReason::LevelLow,
+            engine::REQUESTS_FULL => RefusalReason::RequestsFull,
+            engine::RETRIES_FULL => RefusalReason::RetriesFull,
+            engine::BREAKER_OPEN => RefusalReason::BreakerOpen,
+            engine::PROBING => RefusalReason::Probing,
+            engine::THROTTLED => RefusalReason::Throttled,
+            _ => RefusalReason::OutOfTurn,
+        };
+        let is_open = reason == RefusalReason::BreakerOpen;
+        let retry_after = is_open.then(|| Duration::from_millis(refusal.number.saturating_sub(now)));
+        Self { reason, retry_after }
+    }
+
+    fn of_memory() -> Self {
+        Self { reason: RefusalReason::NoMemory, retry_after: None }
+    }
+
+    /// Why.
+    #[must_use]
+    pub fn reason(&self) -> RefusalReason {
+        self.reason
+    }
+
+    /// How long the breaker is open yet, if that is why.
+    #[must_use]
+    pub fn retry_after(&self) -> Option<Duration> {
+        self.retry_after
+    }
+}
+
+impl fmt::Display for Refused {
+    fn fmt(&self, f: &mut fmt::Formatter<'_>) -> fmt::Result {
+        f.write_str(match self.reason {
+            RefusalReason::LevelLow => "the bucket's level is too low",
+            RefusalReason::RequestsFull => "too many calls are in flight",
+            RefusalReason::RetriesFull => "too many retries are in flight",
+            RefusalReason::BreakerOpen => "the breaker is open",
+            RefusalReason::Probing => "the breaker's probes are out",
+            RefusalReason::Throttled => "the throttle refuses",
+            RefusalReason::OutOfTurn => "the call is out of turn",
+            RefusalReason::NoMemory => "no memory",
+        })
+    }
+}
+
+impl Error for Refused {}
+
+/// Why a call under a [`CallLimit`] returned no value.
+#[derive(Clone, Debug, PartialEq, Eq, Hash)]
+#[non_exhaustive]
+pub enum LimitError<E> {
+    /// The limit did not admit the first run, so the call was not made.
+    NotAdmitted(Refused),
+    /// The call failed.
+    Retry(RetryError<E>),
+}
+
+impl<E: fmt::Display> fmt::Display for LimitError<E> {
+    fn fmt(&self, f: &mut fmt::Formatter<'_>) -> fmt::Result {
+        match self {
+            Self::NotAdmitted(refused) => write!(f, "the call was not admitted: {refused}"),
+            Self::Retry(error) => error.fmt(f),
+        }
+    }
+}
+
+impl<E: fmt::Debug + fmt::Display> Error for LimitError<E> {}
+
+impl fmt::Debug for CallLimit {
+    fn fmt(&self, f: &mut fmt::Formatter<'_>) -> fmt::Result {
+        match &self.shared.made {
+            Made::Of(Terms::Bucket(terms)) => terms.fmt(f),
+            Made::Of(Terms::InFlight(terms)) => terms.fmt(f),
+            Made::Of(Terms::Breaker(terms)) => terms.fmt(f),
+            Made::Of(Terms::Throttle(terms)) => terms.fmt(f),
+            Made::Both(first, second) => f.debug_tuple("Both").field(first).field(second).finish(),
+        }
+    }
+}
+
+/// The variant of each kind.
+macro_rules! terms {
+    ($($kind:ident),+) => {$(
+        impl From<$kind> for Terms {
+            fn from(terms: $kind) -> Self {
+                Self::$kind(terms)
+            }
+        }
+    )+};
+}
+
+terms!(Bucket, InFlight, Breaker, Throttle);

@@ -1,0 +1,246 @@
+//! Limits of other systems: rows worked by hand, calls under each limit, two at once, and eight threads that count.
+
+use hikebox::RefusalReason::{BreakerOpen, LevelLow, OutOfTurn, Probing, RetriesFull, Throttled};
+use hikebox::{
+    both, Breaker, Bucket, BudgetError, CallLimit, InFlight, LimitError, Policy, RefusalReason, Request, RetryError,
+    Throttle,
+};
+use std::sync::atomic::{AtomicU64, Ordering};
+use std::thread;
+use std::time::Duration;
+
+fn policy(json: &str) -> Policy {
+    json.parse().unwrap()
+}
+
+fn admitted(limit: &CallLimit) -> Request {
+    let mut request = limit.request().unwrap();
+    request.admit().unwrap();
+    request
+}
+
+fn refused(request: &mut Request) -> Option<RefusalReason> {
+    request.draw().err().map(|refused| refused.reason())
+}
+
+// Of four tokens two are left after two failures, which is not more than half; a success gives half a token.
+#[test]
+fn grpc() {
+    let bucket = CallLimit::new(Bucket::grpc(4, 0.5)).unwrap();
+    let (mut request, mut other) = (admitted(&bucket), admitted(&bucket));
+    request.failed();
+    assert_eq!(refused(&mut request), None);
+    request.failed();
+    assert_eq!(refused(&mut request), Some(LevelLow));
+    other.succeeded();
+    assert_eq!(refused(&mut request), None);
+    request.failed();
+    assert_eq!(refused(&mut request), Some(LevelLow));
+}
+
+// 500 tokens: a retry takes 5, or 10. A success gives back what the last retry took, or else 1.
+#[test]
+fn aws() {
+    let bucket = CallLimit::new(Bucket::aws()).unwrap();
+    let mut request = admitted(&bucket);
+    for _ in 0..50 {
+        request.draw_at(10).unwrap();
+    }
+    assert_eq!(refused(&mut request), Some(LevelLow));
+    request.succeeded();
+    drop(request);
+    let mut request = admitted(&bucket);
+    assert_eq!(refused(&mut request), None);
+    assert_eq!(refused(&mut request), None);
+    assert_eq!(refused(&mut request), Some(LevelLow));
+    request.cancelled();
+    request.cancelled();
+    assert_eq!(refused(&mut request), None);
+    assert_eq!(refused(&mut request), Some(LevelLow));
+}
+
+// A fifth of ten calls is two retries.
+#[test]
+fn envoy() {
+    let limit = CallLimit::new(InFlight::envoy(20.0, 1)).unwrap();
+    let mut requests: Vec<Request> = (0..10).map(|_| admitted(&limit)).collect();
+    assert_eq!(refused(&mut requests[0]), None);
+    assert_eq!(refused(&mut requests[1]), None);
+    assert_eq!(refused(&mut requests[2]), Some(RetriesFull));
+    drop(requests.remove(0));
+    assert_eq!(refused(&mut requests[1]), Some(RetriesFull));
+    drop(requests.remove(0));
+    assert_eq!(refused(&mut requests[0]), None);
+}
+
+// The breaker is open for 30 seconds, of which less than 20 pass here.
+#[test]
+fn an_open_breaker_admits_no_call() {
+    let breaker = CallLimit::new(Breaker::consecutive(2, policy(r#"{"spaced":30000}"#))).unwrap();
+    let mut runs = 0;
+    let answer = breaker.retry(&policy(r#"{"recurs":9}"#), || {
+        runs += 1;
+        Err::<(), _>("down")
+    });
+    assert_eq!(answer, Err(LimitError::Retry(RetryError::BudgetRefused("down"))));
+    assert_eq!(runs, 2);
+    let answer = breaker.retry(&policy(r#"{"recurs":9}"#), || Ok::<_, &str>(5));
+    let refused = match answer {
+        Err(LimitError::NotAdmitted(refused)) => refused,
+        other => panic!("{other:?}"),
+    };
+    assert_eq!(refused.reason(), BreakerOpen);
+    let left = refused.retry_after().unwrap();
+    assert!(left > Duration::from_secs(10) && left <= Duration::from_secs(30));
+    assert_eq!(refused.to_string(), "the breaker is open");
+}
+
+// Its time is over at once: one probe is admitted, and when that succeeds it is closed.
+#[test]
+fn a_probe_closes_the_breaker() {
+    let breaker = Breaker { probe_deadline: Duration::from_secs(60), ..Breaker::consecutive(1, policy("\"forever\"")) };
+    let breaker = CallLimit::new(breaker).unwrap();
+    admitted(&breaker).failed();
+    let mut probe = admitted(&breaker);
+    let mut other = breaker.request().unwrap();
+    assert_eq!(other.admit().unwrap_err().reason(), Probing);
+    probe.succeeded();
+    other.admit().unwrap();
+}
+
+// None of many calls is accepted: of the first one nothing is asked, and of 10,000 more almost all are refused.
+#[test]
+fn a_throttle_refuses_first_runs() {
+    let throttle = CallLimit::new(Throttle::google()).unwrap();
+    drop(admitted(&throttle));
+    let mut count = 0;
+    for _ in 0..10_000 {
+        match throttle.request().unwrap().admit() {
+            Ok(()) => count += 1,
+            Err(refused) => assert_eq!(refused.reason(), Throttled),
+        }
+    }
+    // (1/2 + 1/3 + .. + 1/10,001 is 8.8)
+    assert!(count < 60, "{count}");
+}
+
+#[test]
+fn both_or_neither() {
+    let flights = CallLimit::new(InFlight { least: 0, share: 0.5 }).unwrap();
+    let breaker = CallLimit::new(Breaker::consecutive(1, policy(r#"{"spaced":30000}"#))).unwrap();
+    let limit = both(&flights, &breaker).unwrap();
+    let mut request = admitted(&limit);
+    request.failed();
+    drop(request);
+    assert_eq!(limit.request().unwrap().admit().unwrap_err().reason(), BreakerOpen);
+    let mut alone = admitted(&flights);
+    assert_eq!(refused(&mut alone), Some(RetriesFull));
+    let beside = admitted(&flights);
+    assert_eq!(refused(&mut alone), None);
+    drop(beside);
+    assert_eq!(both(&limit, &flights).unwrap_err(), BudgetError::OutOfRange);
+}
+
+#[test]
+fn a_retry_that_succeeds_gives_back() {
+    let bucket = CallLimit::new(Bucket { capacity: 2.0, debit: 1.0, credit: 1.0, ..Bucket::default() }).unwrap();
+    let mut runs = 0;
+    let answer = bucket.retry(&policy(r#"{"recurs":9}"#), || {
+        runs += 1;
+        if runs < 3 {
+            Err("not yet")
+        } else {
+            Ok(runs)
+        }
+    });
+    assert_eq!(answer, Ok(3));
+    assert_eq!(admitted(&bucket).draw_at(1).err(), None);
+    assert_eq!(admitted(&bucket).draw_at(1).unwrap_err().reason(), LevelLow);
+}
+
+// A future that is dropped while it waits gives its slot and its token back.
+#[cfg(feature = "tokio")]
+#[tokio::test(start_paused = true)]
+async fn futures_are_asked_too() {
+    let bucket = CallLimit::new(Bucket { capacity: 1.0, cost: 1.0, ..Bucket::default() }).unwrap();
+    let flights = CallLimit::new(InFlight { least: 1, share: 0.0 }).unwrap();
+    let limit = both(&bucket, &flights).unwrap();
+    let waits = policy(r#"{"spaced":60000}"#);
+    let call = limit.retry_async(&waits, || async { Err::<(), _>("busy") });
+    assert!(tokio::time::timeout(Duration::from_secs(1), call).await.is_err());
+    let mut runs = 0;
+    let answer = limit.retry_async(&waits, || {
+        runs += 1;
+        let run = runs;
+        async move { Err::<(), _>(run) }
+    });
+    assert_eq!(answer.await, Err(LimitError::Retry(RetryError::BudgetRefused(2))));
+}
+
+/// How many draws are granted, where each of eight threads makes so many calls, and each draws once.
+fn race(limit: &CallLimit, times: u64) -> u64 {
+    let granted = AtomicU64::new(0);
+    thread::scope(|scope| {
+        for _ in 0..8 {
+            scope.spawn(|| {
+                for _ in 0..times {
+                    let mut request = limit.request().unwrap();
+                    if request.admit().is_ok() && request.draw().is_ok() {
+                        granted.fetch_add(1, Ordering::SeqCst);
+                    }
+                }
+            });
+        }
+    });
+    granted.load(Ordering::SeqCst)
+}
+
+#[test]
+fn eight_threads_draw_each_token_once() {
+    let bucket = CallLimit::new(Bucket { capacity: 50_000.0, cost: 1.0, ..Bucket::default() }).unwrap();
+    assert_eq!(race(&bucket, 10_000), 50_000);
+}
+
+#[test]
+fn eight_threads_give_each_slot_back() {
+    let limit = CallLimit::new(InFlight { least: 0, share: 0.5 }).unwrap();
+    assert!(race(&limit, 10_000) <= 80_000);
+    let mut alone = admitted(&limit);
+    assert_eq!(refused(&mut alone), Some(RetriesFull));
+    let _beside = admitted(&limit);
+    assert_eq!(refused(&mut alone), None);
+}
+
+#[test]
+fn eight_threads_get_no_probe_more() {
+    let breaker =
+        Breaker { probe_deadline: Duration::from_secs(600), ..Breaker::consecutive(1, policy("\"forever\"")) };
+    let breaker = CallLimit::new(breaker).unwrap();
+    admitted(&breaker).failed();
+    let _probe = admitted(&breaker);
+    assert_eq!(race(&breaker, 1000), 0);
+}
+
+#[test]
+fn calls_out_of_turn() {
+    let limit = CallLimit::new(Bucket::aws()).unwrap();
+    let mut request = limit.request().unwrap();
+    assert_eq!(refused(&mut request), Some(OutOfTurn));
+    request.admit().unwrap();
+    assert_eq!(request.admit().unwrap_err().reason(), OutOfTurn);
+}
+
+#[test]
+fn terms_out_of_range() {
+    let out = |terms: Result<CallLimit, BudgetError>| assert_eq!(terms.unwrap_err(), BudgetError::OutOfRange);
+    out(CallLimit::new(Bucket { capacity: 1.0, floor: 2.0, ..Bucket::default() }));
+    out(CallLimit::new(Bucket { capacity: -1.0, ..Bucket::default() }));
+    out(CallLimit::new(Bucket { cost: f64::NAN, ..Bucket::aws() }));
+    out(CallLimit::new(Bucket::grpc(1, 1.5)));
+    out(CallLimit::new(InFlight { least: 0, share: 5e6 }));
+    out(CallLimit::new(Breaker::consecutive(0, policy("\"forever\""))));
+    out(CallLimit::new(Breaker::consecutive(1, policy(r#"{"recurs":0}"#))));
+    out(CallLimit::new(Breaker { probes: 16, ..Breaker::consecutive(1, policy("\"forever\"")) }));
+    out(CallLimit::new(Throttle { ratio: 0.9, ..Throttle::google() }));
+    out(CallLimit::new(Throttle { period: Duration::ZERO, ..Throttle::google() }));
+}

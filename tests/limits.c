@@ -1,0 +1,298 @@
+// Limits: rows worked out by hand, each refusal, two limits at once, and eight threads that count.
+#include "checks.h"
+#include <pthread.h>
+
+#define HALF UINT32_C(2147483648)
+
+static const uint64_t open_times[3] = {100, 200, 400};
+
+// A request that draws, and is refused or not; and what the refusal says.
+static void draws(hikebox_limit *limit, uint64_t now, uint64_t cost, hikebox_status wanted, uint64_t says) {
+    uint64_t number = 77;
+    wants(hikebox_limit_draw(limit, now, cost, HALF, &number), wanted);
+    holds(number == (wanted == HIKEBOX_OK ? 77 : says));
+}
+
+static void admits(hikebox_limit *limit, uint64_t now, hikebox_status wanted, uint64_t says) {
+    uint64_t number = 77;
+    wants(hikebox_limit_admit(limit, now, HALF, &number), wanted);
+    holds(number == (wanted == HIKEBOX_OK ? 77 : says));
+}
+
+// gRPC's of 4 tokens and a ratio of a half: after two failures half of the tokens are left, which is not more than that.
+static void buckets(void) {
+    hikebox_bucket terms = HIKEBOX_BUCKET_GRPC(4, 500), aws = HIKEBOX_BUCKET_AWS;
+    hikebox_limit limit = HIKEBOX_INIT, other = HIKEBOX_INIT;
+    holds(terms.capacity == 4000 && terms.floor == 2001 && terms.debit == 1000 && terms.credit == 500);
+    wants(hikebox_bucket_new(&terms, &limit), HIKEBOX_OK);
+    wants(hikebox_limit_split(&limit, &other), HIKEBOX_OK);
+    admits(&limit, 0, HIKEBOX_OK, 0);
+    wants(hikebox_limit_failed(&limit, 0), HIKEBOX_OK);
+    draws(&limit, 0, 0, HIKEBOX_OK, 0);
+    wants(hikebox_limit_failed(&limit, 0), HIKEBOX_OK);
+    draws(&limit, 0, 0, HIKEBOX_LEVEL_LOW, 2000);
+    admits(&other, 0, HIKEBOX_OK, 0);
+    wants(hikebox_limit_succeeded(&other, 0), HIKEBOX_OK);
+    draws(&limit, 0, 0, HIKEBOX_OK, 0);
+    wants(hikebox_limit_failed(&limit, 0), HIKEBOX_OK);
+    draws(&limit, 0, 0, HIKEBOX_LEVEL_LOW, 1500);
+    wants(hikebox_limit_free(&other), HIKEBOX_OK);
+    wants(hikebox_limit_free(&limit), HIKEBOX_OK);
+    // That of the AWS SDKs: a success gives back what its request's last retry took, and else a token.
+    wants(hikebox_bucket_new(&aws, &limit), HIKEBOX_OK);
+    admits(&limit, 0, HIKEBOX_OK, 0);
+    draws(&limit, 0, 10000, HIKEBOX_OK, 0);
+    draws(&limit, 0, 500000, HIKEBOX_LEVEL_LOW, 490000);
+    wants(hikebox_limit_succeeded(&limit, 0), HIKEBOX_OK);
+    draws(&limit, 0, 500001, HIKEBOX_LEVEL_LOW, 500000);
+    draws(&limit, 0, 5000, HIKEBOX_OK, 0);
+    wants(hikebox_limit_cancelled(&limit), HIKEBOX_OK);
+    wants(hikebox_limit_cancelled(&limit), HIKEBOX_OK);
+    draws(&limit, 0, 500000, HIKEBOX_OK, 0);
+    wants(hikebox_limit_ended(&limit), HIKEBOX_OK);
+    admits(&limit, 0, HIKEBOX_OK, 0);
+    wants(hikebox_limit_succeeded(&limit, 0), HIKEBOX_OK);
+    draws(&limit, 0, 1001, HIKEBOX_LEVEL_LOW, 1000);
+    wants(hikebox_limit_free(&limit), HIKEBOX_OK);
+}
+
+// A fifth of ten requests is two retries; a request that is over gives back its slot, once.
+static void flights(void) {
+    hikebox_limit limits[10];
+    for (int at = 0; at < 10; at++) {
+        limits[at] = (hikebox_limit)HIKEBOX_INIT;
+        if (at == 0)
+            wants(hikebox_in_flight_new(1, 200, &limits[0]), HIKEBOX_OK);
+        else
+            wants(hikebox_limit_split(&limits[0], &limits[at]), HIKEBOX_OK);
+    }
+    for (int at = 0; at < 10; at++)
+        admits(&limits[at], 0, HIKEBOX_OK, 0);
+    draws(&limits[0], 0, 0, HIKEBOX_OK, 0);
+    draws(&limits[1], 0, 0, HIKEBOX_OK, 0);
+    draws(&limits[2], 0, 0, HIKEBOX_RETRIES_FULL, 0);
+    draws(&limits[0], 0, 0, HIKEBOX_OK, 0);
+    wants(hikebox_limit_ended(&limits[0]), HIKEBOX_OK);
+    wants(hikebox_limit_ended(&limits[0]), HIKEBOX_OK);
+    draws(&limits[2], 0, 0, HIKEBOX_RETRIES_FULL, 0);
+    wants(hikebox_limit_free(&limits[1]), HIKEBOX_OK);
+    draws(&limits[2], 0, 0, HIKEBOX_OK, 0);
+    wants(hikebox_limit_free(&limits[0]), HIKEBOX_OK);
+    for (int at = 2; at < 10; at++)
+        wants(hikebox_limit_free(&limits[at]), HIKEBOX_OK);
+}
+
+// After two failures it is open for 100 ms, and for 200 ms where the probe fails.
+static void breakers(void) {
+    hikebox_breaker terms = HIKEBOX_BREAKER;
+    hikebox_limit limit = HIKEBOX_INIT, other = HIKEBOX_INIT, late = HIKEBOX_INIT;
+    holds(terms.failures == 5 && terms.probes == 1 && terms.deadline == 30000);
+    terms.failures = 2;
+    terms.deadline = 1000;
+    wants(hikebox_breaker_new(0, &terms, open_times, 3, &limit), HIKEBOX_OK);
+    wants(hikebox_limit_split(&limit, &other), HIKEBOX_OK);
+    wants(hikebox_limit_split(&limit, &late), HIKEBOX_OK);
+    admits(&limit, 0, HIKEBOX_OK, 0);
+    admits(&late, 5, HIKEBOX_OK, 0);
+    wants(hikebox_limit_failed(&limit, 0), HIKEBOX_OK);
+    wants(hikebox_limit_failed(&limit, 10), HIKEBOX_OK);
+    draws(&limit, 10, 0, HIKEBOX_BREAKER_OPEN, 110);
+    admits(&other, 109, HIKEBOX_BREAKER_OPEN, 110);
+    admits(&other, 110, HIKEBOX_OK, 0);
+    draws(&limit, 111, 0, HIKEBOX_PROBING, 0);
+    wants(hikebox_limit_failed(&other, 120), HIKEBOX_OK);
+    wants(hikebox_limit_failed(&late, 130), HIKEBOX_OK);
+    draws(&other, 319, 0, HIKEBOX_BREAKER_OPEN, 320);
+    draws(&other, 320, 0, HIKEBOX_OK, 0);
+    wants(hikebox_limit_succeeded(&other, 330), HIKEBOX_OK);
+    wants(hikebox_limit_failed(&late, 331), HIKEBOX_OK);
+    draws(&limit, 332, 0, HIKEBOX_OK, 0);
+    wants(hikebox_limit_free(&late), HIKEBOX_OK);
+    wants(hikebox_limit_free(&other), HIKEBOX_OK);
+    wants(hikebox_limit_free(&limit), HIKEBOX_OK);
+}
+
+// By a random number of a half: of 0 requests, and 1 of 2, one more is admitted, and 2 of 3 is more than a half. The next
+// window has what the one before counted, and the one after that has not.
+static void throttles(void) {
+    hikebox_limit limit = HIKEBOX_INIT;
+    wants(hikebox_throttle_new(1000, 2000, 100, &limit), HIKEBOX_OK);
+    for (int at = 0; at < 4; at++) {
+        admits(&limit, 1000, at < 2 ? HIKEBOX_OK : HIKEBOX_THROTTLED, 0);
+        wants(hikebox_limit_ended(&limit), HIKEBOX_OK);
+    }
+    admits(&limit, 1100, HIKEBOX_THROTTLED, 0);
+    admits(&limit, 1200, HIKEBOX_OK, 0);
+    wants(hikebox_limit_succeeded(&limit, 1200), HIKEBOX_OK);
+    draws(&limit, 1201, 0, HIKEBOX_OK, 0);
+    wants(hikebox_limit_free(&limit), HIKEBOX_OK);
+}
+
+// Both admit, or neither is charged: the request that the breaker refuses is not in flight.
+static void pairs(void) {
+    hikebox_breaker terms = {sizeof terms, 1, 1, 1000};
+    hikebox_limit both = HIKEBOX_INIT, breaker = HIKEBOX_INIT, alone = HIKEBOX_INIT, empty = HIKEBOX_INIT;
+    wants(hikebox_in_flight_new(0, 500, &both), HIKEBOX_OK);
+    wants(hikebox_limit_split(&both, &alone), HIKEBOX_OK);
+    wants(hikebox_breaker_new(0, &terms, open_times, 1, &breaker), HIKEBOX_OK);
+    wants(hikebox_limit_both(&both, &empty), HIKEBOX_EMPTY);
+    wants(hikebox_limit_both(&empty, &both), HIKEBOX_EMPTY);
+    wants(hikebox_limit_both(&both, &breaker), HIKEBOX_OK);
+    holds(both.held && !breaker.held);
+    wants(hikebox_limit_both(&alone, &both), HIKEBOX_WRONG_KIND);
+    wants(hikebox_limit_both(&both, &alone), HIKEBOX_WRONG_KIND);
+    admits(&both, 0, HIKEBOX_OK, 0);
+    wants(hikebox_limit_failed(&both, 0), HIKEBOX_OK);
+    wants(hikebox_limit_ended(&both), HIKEBOX_OK);
+    admits(&both, 99, HIKEBOX_BREAKER_OPEN, 100);
+    admits(&alone, 99, HIKEBOX_OK, 0);
+    draws(&alone, 99, 0, HIKEBOX_RETRIES_FULL, 0);
+    wants(hikebox_limit_split(&both, &breaker), HIKEBOX_OK);
+    admits(&breaker, 100, HIKEBOX_OK, 0);
+    draws(&alone, 100, 0, HIKEBOX_OK, 0);
+    wants(hikebox_limit_free(&breaker), HIKEBOX_OK);
+    wants(hikebox_limit_free(&alone), HIKEBOX_OK);
+    wants(hikebox_limit_free(&both), HIKEBOX_OK);
+}
+
+// What is refused changes nothing.
+static void refusals(void) {
+    hikebox_bucket bucket = HIKEBOX_BUCKET_AWS;
+    hikebox_breaker breaker = HIKEBOX_BREAKER;
+    hikebox_limit limit = HIKEBOX_INIT, empty = HIKEBOX_INIT;
+    uint64_t number = 7, many[65] = {0};
+    bucket.floor = 500001;
+    wants(hikebox_bucket_new(&bucket, &limit), HIKEBOX_OUT_OF_RANGE);
+    bucket.size++;
+    wants(hikebox_bucket_new(&bucket, &limit), HIKEBOX_WRONG_SIZE);
+    breaker.size--;
+    wants(hikebox_breaker_new(UINT64_MAX, &breaker, many, 1, &limit), HIKEBOX_WRONG_SIZE);
+    breaker.size++;
+    wants(hikebox_breaker_new(HIKEBOX_MAX_NUMBER + 1, &breaker, many, 0, &limit), HIKEBOX_TOO_LARGE);
+    wants(hikebox_breaker_new(0, &breaker, many, 0, &limit), HIKEBOX_OUT_OF_RANGE);
+    wants(hikebox_breaker_new(0, &breaker, many, 65, &limit), HIKEBOX_OUT_OF_RANGE);
+    breaker.failures = UINT64_C(1) << 32;
+    wants(hikebox_breaker_new(0, &breaker, many, 64, &limit), HIKEBOX_OUT_OF_RANGE);
+    breaker.failures = 1;
+    breaker.probes = 16;
+    wants(hikebox_breaker_new(0, &breaker, many, 64, &limit), HIKEBOX_OUT_OF_RANGE);
+    wants(hikebox_throttle_new(0, 999, 1, &limit), HIKEBOX_OUT_OF_RANGE);
+    wants(hikebox_throttle_new(0, 1000, 0, &limit), HIKEBOX_OUT_OF_RANGE);
+    wants(hikebox_throttle_new(HIKEBOX_MAX_NUMBER + 1, 999, 1, &limit), HIKEBOX_TOO_LARGE);
+    holds(!limit.held);
+    wants(hikebox_limit_admit(&empty, 0, 0, &number), HIKEBOX_EMPTY);
+    wants(hikebox_limit_admit(&empty, UINT64_MAX, 0, &number), HIKEBOX_TOO_LARGE);
+    wants(hikebox_limit_draw(&empty, 0, 0, 0, &number), HIKEBOX_EMPTY);
+    wants(hikebox_limit_failed(&empty, 0), HIKEBOX_EMPTY);
+    wants(hikebox_limit_succeeded(&empty, UINT64_MAX), HIKEBOX_TOO_LARGE);
+    wants(hikebox_limit_cancelled(&empty), HIKEBOX_EMPTY);
+    wants(hikebox_limit_ended(&empty), HIKEBOX_EMPTY);
+    wants(hikebox_limit_free(&empty), HIKEBOX_EMPTY);
+    wants(hikebox_limit_split(&empty, &limit), HIKEBOX_EMPTY);
+    wants(hikebox_throttle_new(0, 1000, 1, &limit), HIKEBOX_OK);
+    wants(hikebox_throttle_new(0, 999, 1, &limit), HIKEBOX_FULL);
+    wants(hikebox_in_flight_new(0, 0, &limit), HIKEBOX_FULL);
+    wants(hikebox_limit_split(&empty, &limit), HIKEBOX_FULL);
+    draws(&limit, 0, 0, HIKEBOX_OUT_OF_TURN, 0);
+    admits(&limit, 0, HIKEBOX_OK, 0);
+    admits(&limit, 0, HIKEBOX_OUT_OF_TURN, 0);
+    wants(hikebox_limit_free(&limit), HIKEBOX_OK);
+    holds(number == 7);
+}
+
+enum {
+    THREADS = 8,
+    TIMES = 20000
+};
+
+struct worker {
+    hikebox_limit limit;
+    uint64_t now, granted;
+};
+
+// Begins a request, draws of it, and ends it, so often. What lost its races is asked again.
+static void *come_and_go(void *given) {
+    struct worker *worker = given;
+    uint64_t number;
+    for (int at = 0; at < TIMES; at++) {
+        hikebox_status status;
+        do
+            status = hikebox_limit_admit(&worker->limit, worker->now, UINT32_MAX, &number);
+        while (status == HIKEBOX_RACES_LOST);
+        if (status == HIKEBOX_OK) {
+            do
+                status = hikebox_limit_draw(&worker->limit, worker->now, 1, UINT32_MAX, &number);
+            while (status == HIKEBOX_RACES_LOST);
+            worker->granted += status == HIKEBOX_OK;
+        }
+        hikebox_limit_ended(&worker->limit);
+    }
+    return NULL;
+}
+
+// How many draws of all threads are granted, where each has a handle of this limit.
+static uint64_t race(hikebox_limit *limit, uint64_t now) {
+    struct worker workers[THREADS];
+    pthread_t threads[THREADS];
+    uint64_t granted = 0;
+    for (int at = 0; at < THREADS; at++) {
+        workers[at] = (struct worker){HIKEBOX_INIT, now, 0};
+        wants(hikebox_limit_split(limit, &workers[at].limit), HIKEBOX_OK);
+    }
+    for (int at = 0; at < THREADS; at++)
+        pthread_create(&threads[at], NULL, come_and_go, &workers[at]);
+    for (int at = 0; at < THREADS; at++) {
+        pthread_join(threads[at], NULL);
+        granted += workers[at].granted;
+        wants(hikebox_limit_free(&workers[at].limit), HIKEBOX_OK);
+    }
+    return granted;
+}
+
+// Of 100,000 tokens eight threads draw each once; what is in flight is none in the end; a breaker whose time is over has
+// one probe, and that draws once; and a throttle counts each request once.
+static void races(void) {
+    hikebox_bucket terms = {sizeof terms, 100000, 0, 0, 0, false};
+    hikebox_breaker one = {sizeof one, 1, 1, 1000000};
+    hikebox_limit limit = HIKEBOX_INIT, beside = HIKEBOX_INIT;
+    wants(hikebox_bucket_new(&terms, &limit), HIKEBOX_OK);
+    holds(race(&limit, 0) == 100000);
+    wants(hikebox_limit_free(&limit), HIKEBOX_OK);
+
+    wants(hikebox_in_flight_new(0, 500, &limit), HIKEBOX_OK);
+    holds(race(&limit, 0) <= (uint64_t)THREADS * TIMES);
+    wants(hikebox_limit_split(&limit, &beside), HIKEBOX_OK);
+    admits(&limit, 0, HIKEBOX_OK, 0);
+    draws(&limit, 0, 0, HIKEBOX_RETRIES_FULL, 0);
+    admits(&beside, 0, HIKEBOX_OK, 0);
+    draws(&limit, 0, 0, HIKEBOX_OK, 0);
+    wants(hikebox_limit_free(&beside), HIKEBOX_OK);
+    wants(hikebox_limit_free(&limit), HIKEBOX_OK);
+
+    wants(hikebox_breaker_new(0, &one, open_times, 1, &limit), HIKEBOX_OK);
+    admits(&limit, 0, HIKEBOX_OK, 0);
+    wants(hikebox_limit_failed(&limit, 0), HIKEBOX_OK);
+    holds(race(&limit, 99) == 0);
+    draws(&limit, 100, 0, HIKEBOX_OK, 0);
+    holds(race(&limit, 101) == 0);
+    wants(hikebox_limit_free(&limit), HIKEBOX_OK);
+
+    // 320,000 requests: one more is refused by a random number below 2^32 x 320,000 / 320,001, which is 4,294,953,874.4.
+    wants(hikebox_throttle_new(0, 2000, 60000, &limit), HIKEBOX_OK);
+    holds(race(&limit, 0) == (uint64_t)THREADS * TIMES);
+    uint64_t number;
+    wants(hikebox_limit_admit(&limit, 59999, 4294953875, &number), HIKEBOX_OK);
+    wants(hikebox_limit_draw(&limit, 60000, 0, 4294953874, &number), HIKEBOX_THROTTLED);
+    wants(hikebox_limit_free(&limit), HIKEBOX_OK);
+}
+
+int limits(void) {
+    buckets();
+    flights();
+    breakers();
+    throttles();
+    pairs();
+    refusals();
+    races();
+    return wrong;
+}
