@@ -1,6 +1,6 @@
 # shellcheck shell=bash disable=SC2154
-# To be sourced: runs functions or commands side by side, as many as there are processors. Each has a folder of its own, and
-# prints what it wrote once it is over. The script sets `beside` to a folder for these.
+# To be sourced: runs functions or commands side by side, as many as there are processors. Each has a folder of its own, where
+# what it writes is in the file `log`; it prints that if it fails. The script sets `beside` to a folder for these.
 started=0
 
 # beside COMMAND..: starts it once a processor is free, with its folder in `work`
@@ -13,7 +13,7 @@ beside() {
     work=$beside/$started
     mkdir "$work"
     exec 3>&1 >"$work/log" 2>&1
-    trap 'cat "$work/log" >&3' EXIT
+    trap '[ -e "$work/passed" ] || cat "$work/log" >&3' EXIT
     "$@" 3>&-
     : >"$work/passed"
   ) &
