@@ -1,0 +1,2 @@
+-- What the proofs of the laws cite.
+pub mod Runs
