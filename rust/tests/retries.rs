@@ -160,6 +160,21 @@ fn words_pick_the_delays() {
 }
 
 #[test]
+fn words_that_no_node_reads_are_not_drawn() {
+    let drawn = Cell::new(0);
+    for (json, words) in [(r#"{"recurs":2}"#, 0), (r#"{"jitter":[2,0,1000,{"recurs":2}]}"#, 3)] {
+        let _ = Retrying::new(&policy(json), &Unlimited)
+            .random(|| {
+                drawn.set(drawn.get() + 1);
+                [0; 4]
+            })
+            .sleep(|_: Duration| ())
+            .call(|| Err::<(), _>(()));
+        assert_eq!(drawn.take(), words, "{json}");
+    }
+}
+
+#[test]
 fn settings_are_cloned_shown_and_called_as_often_as_one_likes() {
     let (policy, budget) = (policy(r#"{"recurs":1}"#), Budget::new(100).unwrap());
     let heard = Rc::new(Cell::new(0));

@@ -47,6 +47,14 @@ impl Handle<PolicyKind> {
         Size { nodes, depth, most: (most != NO_BOUND).then_some(most) }
     }
 
+    /// Whether a node of it reads a random word.
+    pub(crate) fn reads_words(&mut self) -> bool {
+        let mut reads = 0;
+        let status = unsafe { hikebox_policy_reads(self.raw(), &mut reads) };
+        debug_assert_eq!(status, OK);
+        reads & !READS_INPUT != 0
+    }
+
     /// What it does along a course: its lines, and their outputs, one after another.
     pub(crate) fn course(&mut self, course: Course, events: &[Event]) -> Result<(Vec<Line>, String), Status> {
         let (mut lines, mut count) = (vec![Line::default(); 16], 0);

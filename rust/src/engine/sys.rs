@@ -262,6 +262,8 @@ pub(crate) const ENDED_CANCELLED: u32 = 4;
 pub(crate) const ENDED_NO_MEMORY: u32 = 5;
 pub(crate) const ENDED_DEADLINE: u32 = 8;
 
+pub(super) const READS_INPUT: u64 = 16;
+
 pub(crate) const ON_NOTHING: u64 = 0;
 pub(crate) const ON_BUDGET: u64 = 1;
 pub(crate) const ON_QUOTA: u64 = 2;
@@ -309,6 +311,7 @@ extern "C" {
         length: *mut usize,
     ) -> u32;
     pub(super) fn hikebox_policy_share(policy: *mut Raw, other: *mut Raw) -> u32;
+    pub(super) fn hikebox_policy_reads(policy: *mut Raw, reads: *mut u64) -> u32;
     pub(super) fn hikebox_policy_size(
         policy: *mut Raw,
         nodes: *mut u64,

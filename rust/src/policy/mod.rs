@@ -35,6 +35,8 @@ pub struct Policy {
 struct Shared {
     json: String,
     size: Size,
+    /// Whether a node reads a random word.
+    reads_words: bool,
     /// Locked for as long as a share of the plan is taken: at the first failure of a call, and not at a success.
     handle: PerProcess<Mutex<Handle<PolicyKind>>>,
 }
@@ -120,8 +122,9 @@ impl Policy {
     }
 
     fn of(mut handle: Handle<PolicyKind>) -> Result<Self, Status> {
-        let (json, size) = (handle.json()?, handle.size());
-        Ok(Self { shared: Arc::new(Shared { json, size, handle: PerProcess::new(Mutex::new(handle)) }) })
+        let (json, size, reads_words) = (handle.json()?, handle.size(), handle.reads_words());
+        let handle = PerProcess::new(Mutex::new(handle));
+        Ok(Self { shared: Arc::new(Shared { json, size, reads_words, handle }) })
     }
 
     /// The policy's JSON text, without spaces, as the engine writes it.
@@ -188,6 +191,16 @@ impl Policy {
     /// A handle of its own, so that nobody waits for the policy's while it is used.
     pub(crate) fn share(&self) -> Result<Handle<PolicyKind>, Status> {
         self.with(Handle::<PolicyKind>::share)
+    }
+
+    /// Random words for an event, which are drawn only if a node reads one.
+    #[inline]
+    pub(crate) fn words(&self, draw: impl FnOnce() -> [u32; 4]) -> [u32; 4] {
+        if self.shared.reads_words {
+            draw()
+        } else {
+            [0; 4]
+        }
     }
 
     /// Lends the handle to one call.

@@ -5,7 +5,7 @@ use crate::clock::Clock;
 use crate::limits::grants::Grants;
 use crate::limits::grants::Unlimited;
 use crate::policy::Policy;
-use crate::retry::attempts::{Attempt, Then};
+use crate::retry::attempts::Attempt;
 use crate::retry::error::RetryError;
 use crate::retry::hooks::Hooked;
 #[cfg(feature = "tokio")]
@@ -52,11 +52,14 @@ macro_rules! until_it_succeeds {
         let mut progress = $retrying.begin();
         let mut $attempt = $retrying.first();
         loop {
-            let ran = $call.await;
-            let (wait, error) = match $retrying.after(&mut progress, ran) {
-                Then::Again { wait, error } => (wait, error),
-                Then::End(result) => return result,
+            let error = match $call.await {
+                Ok(value) => {
+                    $retrying.succeeds(&mut progress);
+                    return Ok(value);
+                }
+                Err(error) => error,
             };
+            let (wait, error) = $retrying.fails(&mut progress, error)?;
             if !wait.is_zero() {
                 $retrying.host.sleep.sleep(wait).await;
             }

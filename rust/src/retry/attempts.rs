@@ -30,19 +30,6 @@ impl Attempt {
     }
 }
 
-/// What follows a run.
-pub(crate) enum Then<T, E> {
-    /// Another run after this error.
-    Again {
-        /// How long it is until then.
-        wait: Duration,
-        /// The error.
-        error: E,
-    },
-    /// The end.
-    End(Result<T, RetryError<E>>),
-}
-
 impl<E, H: Hooked<E>, K: Clock, S, R: Random> Retrying<'_, E, (), H, Host<K, S, R>> {
     /// A request, and its retry, whose first run begins.
     #[inline]
@@ -72,36 +59,33 @@ impl<E, H: Hooked<E>, K: Clock, S, R: Random> Retrying<'_, E, (), H, Host<K, S, 
         Attempt { number: 1, left: self.options.deadline }
     }
 
-    /// What follows a run that ended so.
-    pub(crate) fn after<T>(&self, progress: &mut Progress, ran: Result<T, E>) -> Then<T, E> {
-        match ran {
-            Ok(value) => {
-                if self.budget.get().hears_of_successes() {
-                    self.succeeded(progress);
-                }
-                Then::End(Ok(value))
-            }
-            Err(error) => self.fails(progress, error),
+    /// A run succeeded, which ends the retry.
+    #[inline]
+    pub(crate) fn succeeds(&self, progress: &mut Progress) {
+        if self.budget.get().hears_of_successes() {
+            self.succeeded(progress);
         }
     }
 
-    /// What follows a run that failed.
-    pub(crate) fn fails<T>(&self, progress: &mut Progress, error: E) -> Then<T, E> {
+    /// How long it is until the next run after one that failed, with its error, or how the retry ended.
+    pub(crate) fn fails(&self, progress: &mut Progress, error: E) -> Result<(Duration, E), RetryError<E>> {
         let now = self.host.clock.moment();
         if !self.hooks.when(&error) {
-            return Then::End(Err(RetryError::NotRetried(error)));
+            return Err(RetryError::NotRetried(error));
         }
         let (retry_after, code) = (self.hooks.retry_after(&error), self.hooks.code(&error));
-        let lost = Lost { now, code, words: self.host.random.draw(), retry_after };
-        let wait = match progress.lost(&self.rules(), &lost) {
+        let rules = self.rules();
+        let words = rules.policy.words(|| self.host.random.draw());
+        let lost = Lost { now, code, words, retry_after };
+        let wait = match progress.lost(&rules, &lost) {
             Ok(wait) => wait,
-            Err(ended) => return Then::End(Err(progress.error(ended, error))),
+            Err(ended) => return Err(progress.error(ended, error)),
         };
         self.hooks.notify(&error, wait);
         if wait.is_zero() || !self.options.notifies {
-            return Then::Again { wait, error };
+            return Ok((wait, error));
         }
-        Then::Again { wait: now.after(wait).since(self.host.clock.moment()), error }
+        Ok((now.after(wait).since(self.host.clock.moment()), error))
     }
 
     #[cold]

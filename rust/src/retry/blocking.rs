@@ -3,7 +3,7 @@
 use crate::clock::Clock;
 use crate::limits::grants::{Grants, Unlimited};
 use crate::policy::Policy;
-use crate::retry::attempts::{Attempt, Then};
+use crate::retry::attempts::Attempt;
 use crate::retry::error::RetryError;
 use crate::retry::hooks::Hooked;
 use crate::retry::host::{Host, Random, Sleep};
@@ -123,23 +123,25 @@ impl<E, H: Hooked<E>, K: Clock, S: Sleep, R: Random> Retrying<'_, E, (), H, Host
         &self,
         mut progress: Progress,
         mut attempt: Attempt,
-        error: E,
+        mut error: E,
         mut call: impl FnMut(Attempt) -> Result<T, E>,
     ) -> Result<T, RetryError<E>> {
-        let mut then = self.fails(&mut progress, error);
         loop {
-            let (wait, error) = match then {
-                Then::Again { wait, error } => (wait, error),
-                Then::End(result) => return result,
-            };
+            let (wait, last) = self.fails(&mut progress, error)?;
             if !wait.is_zero() {
                 self.host.sleep.sleep(wait);
             }
             attempt = match self.next(&mut progress, attempt) {
                 Ok(attempt) => attempt,
-                Err(ended) => return Err(progress.error(ended, error)),
+                Err(ended) => return Err(progress.error(ended, last)),
             };
-            then = self.after(&mut progress, call(attempt));
+            error = match call(attempt) {
+                Ok(value) => {
+                    self.succeeds(&mut progress);
+                    return Ok(value);
+                }
+                Err(error) => error,
+            };
         }
     }
 }

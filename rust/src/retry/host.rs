@@ -56,6 +56,7 @@ impl<F: Fn(Duration)> Sleep for F {
 }
 
 impl Random for SystemRandom {
+    #[inline]
     fn draw(&self) -> [u32; 4] {
         random::next()
     }

@@ -38,7 +38,7 @@ use std::time::Duration;
 /// never began.
 #[derive(Debug)]
 pub struct Machine {
-    /// `None` only while it is dropped.
+    /// `None` only before its retry is made and while it is dropped.
     handle: Option<Handle<RetryKind>>,
     source: Source,
     /// What was drawn of the source, where that is a store.
@@ -162,35 +162,37 @@ impl Machine {
             Source::Quota(quota) => quota.with(|root| Handle::begun(policy, root, deadline)),
             Source::Store(_) | Source::Unlimited => Handle::on_nothing(policy, deadline),
         });
-        Ok(Self::of(handle.map_err(BudgetError::of)?, source, deadline, NOTHING_TOLD))
+        Ok(Self::of(Some(handle.map_err(BudgetError::of)?), source, deadline))
     }
 
-    /// The machine of a retry whose first run was this, and what it is at then, as [`Machine::step_at`] answers it.
-    pub(crate) fn after(
-        policy: &Policy,
-        source: Source,
-        deadline: u64,
-        run: &Run,
-    ) -> Result<(Self, Result<Option<u64>, Ending>), BudgetError> {
-        let mut told = NOTHING_TOLD;
-        let handle = policy.with(|policy| match &source {
-            Source::Budget(budget) => budget.with_own(|pass| Handle::after(policy, pass, deadline, run, &mut told)),
-            Source::Quota(quota) => quota.with(|root| Handle::after(policy, root, deadline, run, &mut told)),
-            Source::Store(_) | Source::Unlimited => Handle::after_on_nothing(policy, deadline, run, &mut told),
+    /// A machine whose retry is still to be made, by [`Machine::begin_after`].
+    #[inline]
+    pub(crate) fn unmade(source: Source, deadline: u64) -> Self {
+        Self::of(None, source, deadline)
+    }
+
+    /// Makes the retry of a machine that has none, whose first run was this: what it is at then, as [`Machine::step_at`]
+    /// answers it.
+    pub(crate) fn begin_after(&mut self, policy: &Policy, run: &Run) -> Result<Option<u64>, Ending> {
+        let Self { source, deadline, told, .. } = self;
+        let handle = policy.with(|policy| match source {
+            Source::Budget(budget) => budget.with_own(|pass| Handle::after(policy, pass, *deadline, run, told)),
+            Source::Quota(quota) => quota.with(|root| Handle::after(policy, root, *deadline, run, told)),
+            Source::Store(_) | Source::Unlimited => Handle::after_on_nothing(policy, *deadline, run, told),
         });
-        let mut machine = Self::of(handle.map_err(BudgetError::of)?, source, deadline, told);
-        let next = machine.next();
-        Ok((machine, next))
+        // (for want of passes 2^42 of them would have to be alive)
+        self.handle = Some(handle.map_err(|_| Ending::Broken(Cause::NoMemory))?);
+        self.next()
     }
 
     #[inline]
-    fn of(handle: Handle<RetryKind>, source: Source, deadline: u64, told: Next) -> Self {
+    fn of(handle: Option<Handle<RetryKind>>, source: Source, deadline: u64) -> Self {
         let drawn = match source {
             Source::Store(_) => Some(Box::default()),
             _ => None,
         };
         let generation = generation();
-        Self { handle: Some(handle), source, drawn, generation, deadline, told, waits: false, won: false }
+        Self { handle, source, drawn, generation, deadline, told: NOTHING_TOLD, waits: false, won: false }
     }
 
     /// Steps the machine at the moment `now`, which is not before that of the last step, with the system's random

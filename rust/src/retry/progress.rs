@@ -6,7 +6,7 @@ use crate::limits::grants::Limit;
 use crate::limits::ticket::Ticket;
 use crate::policy::Policy;
 use crate::retry::error::RetryError;
-use crate::retry::machine::{Cause, Ending, Machine, Report};
+use crate::retry::machine::{Ending, Machine, Report};
 use crate::retry::options::Options;
 use std::time::Duration;
 
@@ -140,11 +140,9 @@ impl Running {
         let latest = told_at(origin, deadline, began, lost.now);
         let run =
             Run { began: origin, ended: latest, code: lost.code.min(MAX_NUMBER), report: LOST, words: lost.words };
-        // (for want of passes 2^42 of them would have to be alive)
-        let (machine, next) = Machine::after(rules.policy, rules.limit.source(), until, &run)
-            .map_err(|_| Ending::Broken(Cause::NoMemory))?;
+        let machine = Machine::unmade(rules.limit.source(), until);
         let running = place.insert(Self { machine, origin, latest, began: None, due: None, deadline });
-        running.due = next?;
+        running.due = running.machine.begin_after(rules.policy, &run)?;
         Ok(running)
     }
 

@@ -187,7 +187,8 @@ impl<'a, T, C, K, S, R> Repeating<'a, T, C, Host<K, S, R>> {
         self.with(|Host { clock, random, .. }| Host { clock, sleep, random })
     }
 
-    /// The random words to use instead of the system's: four for each value. A jitter takes the one of its lane.
+    /// The random words to use instead of the system's: four for each value, if the policy has a jitter. It
+    /// takes the one of its lane.
     pub fn random<X: Fn() -> [u32; 4]>(self, random: X) -> Repeating<'a, T, C, Host<K, S, X>> {
         self.with(|Host { clock, sleep, .. }| Host { clock, sleep, random })
     }
@@ -280,7 +281,8 @@ impl<T, C: Fn(&T) -> u64, K: Clock, S, R: Random> Repeating<'_, T, C, Host<K, S,
     /// one that failed, on nothing that could refuse a retry.
     fn after<E>(&self, progress: &mut Progress, value: T) -> Result<(Duration, T), RepeatError<T, E>> {
         let (now, code) = (self.host.clock.moment(), (self.code)(&value).min(MAX_NUMBER));
-        let lost = Lost { now, code, words: self.host.random.draw(), retry_after: None };
+        let words = self.policy.words(|| self.host.random.draw());
+        let lost = Lost { now, code, words, retry_after: None };
         match progress.lost(&Rules { policy: &self.policy, limit: &Unlimited, options: &self.options }, &lost) {
             Ok(wait) => Ok((wait, value)),
             Err(ended) => Err(RepeatError::of(ended, value)),

@@ -263,7 +263,8 @@ impl<'a, E, F, H, K, S, R> Retrying<'a, E, F, H, Host<K, S, R>> {
         self.with(|hooks| hooks, |Host { clock, random, .. }| Host { clock, sleep, random })
     }
 
-    /// The random words to use instead of the system's: four for each failure. A jitter takes the one of its lane.
+    /// The random words to use instead of the system's: four for each failure, if the policy has a jitter. It
+    /// takes the one of its lane.
     pub fn random<X: Fn() -> [u32; 4]>(self, random: X) -> Retrying<'a, E, F, H, Host<K, S, X>> {
         self.with(|hooks| hooks, |Host { clock, sleep, .. }| Host { clock, sleep, random })
     }

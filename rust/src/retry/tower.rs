@@ -211,7 +211,7 @@ impl<Request, Response, E, B: Noted> RetryPolicy<Request, Response, E, B> {
             None => Box::new(Progress::new(self.began.began(now))),
         };
         let retry_after = settings.retry_after.as_ref().and_then(|retry_after| retry_after(result));
-        let lost = Lost { now, code, words: random::next(), retry_after };
+        let lost = Lost { now, code, words: settings.policy.words(random::next), retry_after };
         let wait = progress.lost(&settings.rules(), &lost).ok()?;
         let next = Self { settings: self.settings.clone(), progress: ToTake::new(progress), began: self.began };
         Some(RetryWait { next: Some(next), sleep: if wait.is_zero() { None } else { Some(sleeping(wait)) } })
