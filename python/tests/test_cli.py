@@ -111,7 +111,8 @@ def test_the_policy_is_given_the_status(tmp_path: Path) -> None:
 def test_an_attempt_that_takes_too_long(tmp_path: Path) -> None:
     command = counting(tmp_path, "exec sleep 60", "exit 0")
     began = time.monotonic()
-    assert hikebox("run", "--timeout", "0.3", "--policy", "recurs(1)", "--", *command)[0] == 0
+    # (a busy machine may take long to start the second attempt, which ends at once)
+    assert hikebox("run", "--timeout", "3", "--policy", "recurs(1)", "--", *command)[0] == 0
     assert hikebox("run", "--timeout", "0.2", "--policy", "recurs(1)", "--", "sleep", "60")[0] == 124
     stubborn = "trap '' TERM; for _ in $(seq 600); do sleep 0.05; done"
     words = ["--timeout", "0.2", "--kill-after", "0.2", "--policy", "recurs(0)", "--", "sh", "-c", stubborn]

@@ -10,6 +10,7 @@ import inspect
 import logging
 import multiprocessing
 import pickle
+import re
 import subprocess
 import sys
 import threading
@@ -561,7 +562,8 @@ def test_a_sleep_that_takes_no_time_beside_an_event_is_told_the_whole_wait(clock
     assert clock.slept == [60.0, 60.0]
     slept: List[float] = []
     Retrying(recurs(1) & spaced(60), sleep=slept.append, **how)(fails)
-    assert sum(slept) == pytest.approx(60, abs=0.1) and len(slept) == 2
+    # (a wait is shorter by what has passed since its failure, which is much on a machine that is busy)
+    assert 30 < sum(slept) <= 60.001 and len(slept) == 2
 
 
 def test_an_event_of_coroutines_is_refused_by_a_retrying() -> None:
@@ -597,9 +599,9 @@ def test_an_event_ends_a_wait_of_a_coroutine(kind: Any, sleep: Any) -> None:
             event = kind()
         except OSError:
             pytest.skip("processes can share no memory on this machine")
+        began = time.monotonic()
         if kind is not Flag:
             asyncio.get_running_loop().call_later(0.1, event.set)
-        began = time.monotonic()
         retrying = AsyncRetrying(spaced(60), stop=event, sleep=sleep, fallback=lambda state: state.ending)
         endings = await asyncio.wait_for(asyncio.gather(*(retrying(fails_later) for _ in range(20))), 30)
         assert 0.09 < time.monotonic() - began < 20
@@ -963,9 +965,8 @@ Retrying(recurs(1), fallback=lambda state: None)(int, "no")
         [sys.executable, "-c", text], env=python_environment(), capture_output=True, text=True, timeout=60
     )
     assert ran.stdout == "SCHEDULE_DONE\n"
-    assert ran.stderr.startswith(
-        "WARNING hikebox int: gave up after 2 attempts in 0.000 s: the policy was done; the last"
-    )
+    told = r"WARNING hikebox int: gave up after 2 attempts in \d+\.\d{3} s: the policy was done; the last"
+    assert re.match(told, ran.stderr)
     assert len(ran.stderr.splitlines()) == 1
 
 

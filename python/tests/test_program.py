@@ -278,7 +278,8 @@ def on_a_terminal(*words: str) -> Tuple[int, str]:
 
 
 def test_a_line_on_a_terminal_tells_the_attempt_and_the_wait() -> None:
-    words = ["--policy", "recurs(1) & spaced(1.2)", "--", "sh", "-c", "exit 7"]
+    # (nearly a second is left for a busy machine to write each line in)
+    words = ["--policy", "recurs(1) & spaced(1.9)", "--", "sh", "-c", "exit 7"]
     status, written = on_a_terminal("run", *words)
     assert status == 7
     line = "\rhikebox: attempt 1: status 7; attempt 2 in {} s\033[K"
@@ -291,7 +292,7 @@ def test_a_line_on_a_terminal_tells_the_attempt_and_the_wait() -> None:
 def test_a_line_is_cut_where_the_terminal_has_no_room() -> None:
     ours, theirs = terminal()
     fcntl.ioctl(theirs, termios.TIOCSWINSZ, struct.pack("HHHH", 24, 19, 0, 0))
-    words = [*PROGRAM, "run", "--policy", "recurs(1) & spaced(0.2)", "--", "sh", "-c", "exit 7"]
+    words = [*PROGRAM, "run", "--policy", "recurs(1) & spaced(0.9)", "--", "sh", "-c", "exit 7"]
     process = subprocess.Popen(words, stderr=theirs, env=python_environment())
     assert process.wait(timeout=20) == 7
     assert os.read(ours, 4096) == b"\rhikebox: attempt 1\033[K\r\033[K"
