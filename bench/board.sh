@@ -2,23 +2,16 @@
 # How much faster many retries run on more worker threads: a board whose effect computes for some 20 microseconds at each
 # poll, and `zsched pool` over 4,096 jobs. Started by hand at the top of the repository: bench/board.sh. It needs rt and a
 # machine with nothing else to do.
-set -euo pipefail
-cd "$(dirname "$0")/.."
-source bench/least.sh
-
-work=$(mktemp -d)
-trap 'rm -rf "$work"' EXIT
-(cd crates/bench_board && rt run) >&2
-cp crates/bench_board/out/bench_board "$work/board"
-bin/build zsched plan --steps 0 <<< '"forever"'
-cp crates/zsched/out/zsched "$work/zsched"
+cd "$(dirname "$0")/.." && source bench/least.sh
+programs bench_board
+zsched
 
 machine
 few=10
 many=210
 alone=
 for workers in 1 2 "$(nproc)"; do
-    poll=$(per_unit $((64 * (many - few))) "$(least "$work/board" "$workers" "$few")" "$(least "$work/board" "$workers" "$many")")
+    poll=$(per_unit $((64 * (many - few))) "$(least "$work/bench_board" "$workers" "$few")" "$(least "$work/bench_board" "$workers" "$many")")
     alone=${alone:-$poll}
     awk -v w="$workers" -v p="$poll" -v a="$alone" \
         'BEGIN { printf "board, %d workers: a run each %s ns, %.2f of linear\n", w, p, a / p / w }'

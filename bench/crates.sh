@@ -6,9 +6,7 @@
 # crate's policy than with one of its own: more than 1.2 times for a success, and 3 times for a granted retry. It needs
 # cargo, valgrind, what tests/rust.sh installs, and librust-retry-dev of Debian. Instructions don't depend on what else the
 # machine does. HIKEBOX_LIB_DIR names the library's folder, dist/ where it does not.
-set -euo pipefail
-cd "$(dirname "$0")/.."
-source bench/least.sh
+cd "$(dirname "$0")/.." && source bench/least.sh
 export HIKEBOX_LIB_DIR=${HIKEBOX_LIB_DIR:-$PWD/dist}
 
 # Built in out/bench_rust, where that can be written.

@@ -4,16 +4,8 @@
 # quota, beside a bare fetch_add loop in Rust on the same machine; those of a quota beside the same arithmetic under a
 # mutex too.
 # Started by hand at the top of the repository: bench/draw.sh. It needs rt, rustc and a machine with nothing else to do.
-set -euo pipefail
-cd "$(dirname "$0")/.."
-source bench/least.sh
-
-work=$(mktemp -d)
-trap 'rm -rf "$work"' EXIT
-for program in bench_draw bench_quota; do
-    (cd "crates/$program" && rt run) >&2
-    cp "crates/$program/out/$program" "$work/$program"
-done
+cd "$(dirname "$0")/.." && source bench/least.sh
+programs bench_draw bench_quota
 for program in bare locked_quota; do
     rustc -O -C target-cpu=x86-64 -o "$work/$program" "bench/$program.rs"
 done

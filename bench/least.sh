@@ -1,5 +1,23 @@
 # shellcheck shell=bash
-# What the benchmarks share; sourced by them.
+# What the benchmarks share; sourced by them at the top of the repository. Each has a folder of its own, $work.
+set -euo pipefail
+work=$(mktemp -d)
+trap 'rm -rf "$work"' EXIT
+
+# programs NAME..: proves and builds these, each as $work/NAME
+programs() {
+    local program
+    for program; do
+        (cd "crates/$program" && rt run) >&2
+        cp "crates/$program/out/$program" "$work/$program"
+    done
+}
+
+# builds zsched as $work/zsched
+zsched() {
+    bin/build zsched plan --steps 0 <<< '"forever"' >&2
+    cp crates/zsched/out/zsched "$work/zsched"
+}
 
 # the machine
 machine() {

@@ -7,12 +7,7 @@
 # Started by hand at the top of the repository: bench/library.sh. It needs rt, cc, valgrind, what tests/rust.sh and
 # tests/python.sh install, and librust-backoff-dev and librust-retry-dev of Debian; for the times a machine with nothing
 # else to do. HIKEBOX_LIB_DIR names the library's folder; where it does not, the library is built first.
-set -euo pipefail
-cd "$(dirname "$0")/.."
-source bench/least.sh
-
-work=$(mktemp -d)
-trap 'rm -rf "$work"' EXIT
+cd "$(dirname "$0")/.." && source bench/least.sh
 if [ -z "${HIKEBOX_LIB_DIR:-}" ]; then
     export HIKEBOX_LIB_DIR=$work/dist
     bin/dist "$HIKEBOX_LIB_DIR"

@@ -4,14 +4,8 @@
 # ends; of a breaker it also succeeds. A throttle refuses each draw, since none of its requests has succeeded.
 # Started by hand at the top of the repository: bench/limit.sh. It needs rt, valgrind, and a machine with nothing else
 # to do.
-set -euo pipefail
-cd "$(dirname "$0")/.."
-source bench/least.sh
-
-work=$(mktemp -d)
-trap 'rm -rf "$work"' EXIT
-(cd crates/bench_limit && rt run) >&2
-cp crates/bench_limit/out/bench_limit "$work/bench_limit"
+cd "$(dirname "$0")/.." && source bench/least.sh
+programs bench_limit
 
 # per_draw KIND: instructions and nanoseconds of one draw: two lengths of run, so that starting the program does not
 # count

@@ -1,12 +1,10 @@
 #!/usr/bin/env bash
 # How long a turn of the loop takes with few tasks and with many. Started by hand at the top of the repository:
 # bench/loop.sh. It needs rt and a machine with nothing else to do.
-set -euo pipefail
-cd "$(dirname "$0")/.."
-source bench/least.sh
+cd "$(dirname "$0")/.." && source bench/least.sh
 
-(cd crates/bench_loop && rt run) >&2
-loop=crates/bench_loop/out/bench_loop
+programs bench_loop
+loop=$work/bench_loop
 
 machine
 for tasks in 10 100 1000 4096; do

@@ -4,20 +4,14 @@
 # the same by hand in Rust and by the crate backoff, in instructions, and what a poll without a last event holds.
 # Started by hand at the top of the repository: bench/retry.sh. It needs rt, rustc, valgrind, /usr/bin/time and what
 # bench/crates.sh does; for the times a machine with nothing else to do.
-set -euo pipefail
-cd "$(dirname "$0")/.."
-source bench/least.sh
-
-work=$(mktemp -d)
-trap 'rm -rf "$work"' EXIT
-(cd crates/bench_retry && rt run) >&2
-cp crates/bench_retry/out/bench_retry "$work/retry"
+cd "$(dirname "$0")/.." && source bench/least.sh
+programs bench_retry
 
 # nanoseconds that one of a thousand in a round takes
 per_one() {
     local what=$1 plan=$2 few=$3 many=$4
-    per_unit "$((1000 * (many - few)))" "$(least "$work/retry" "$what" "$plan" "$few")" \
-        "$(least "$work/retry" "$what" "$plan" "$many")"
+    per_unit "$((1000 * (many - few)))" "$(least "$work/bench_retry" "$what" "$plan" "$few")" \
+        "$(least "$work/bench_retry" "$what" "$plan" "$many")"
 }
 
 machine

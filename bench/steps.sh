@@ -2,16 +2,9 @@
 # How long a step of a schedule takes, and how long 4,096 printed lines, beside the same schedules written by hand in Rust
 # on the same machine. Started by hand at the top of the repository: bench/steps.sh. It needs rt, rustc and a machine with
 # nothing else to do. Where valgrind is there it also counts the instructions of a step, which other work does not change.
-set -euo pipefail
-cd "$(dirname "$0")/.."
-source bench/least.sh
-
-work=$(mktemp -d)
-trap 'rm -rf "$work"' EXIT
-(cd crates/bench_steps && rt run) >&2
-cp crates/bench_steps/out/bench_steps "$work/steps"
-bin/build zsched plan --steps 0 <<< '"forever"'
-cp crates/zsched/out/zsched "$work/zsched"
+cd "$(dirname "$0")/.." && source bench/least.sh
+programs bench_steps
+zsched
 rustc -O -C target-cpu=x86-64 -o "$work/plain" bench/plain_steps.rs
 
 # nanoseconds that one step takes, with what else the program is told
@@ -54,25 +47,25 @@ machine
 for row in "pair 100000 5000000" "fixed 100000 10000000" "tree 1000 50000" "crossed 100000 10000000" \
     "exponential 100000 10000000" "retry 100000 3000000" "rounds 10000 1000000"; do
     read -r plan few many <<< "$row"
-    step=$(per_step "$work/steps" "$plan" "$few" "$many")
+    step=$(per_step "$work/bench_steps" "$plan" "$few" "$many")
     plain=$(per_step "$work/plain" "$plan" "$few" "$many")
     awk -v p="$plan" -v s="$step" -v b="$plain" \
         'BEGIN { printf "%s: a step %s ns, by hand %s ns, ratio %.2f\n", p, s, b, s / b }'
     if command -v valgrind > /dev/null; then
-        echo "$plan: instructions of a step $(per_step_counted "$work/steps" "$plan"), by hand $(per_step_counted "$work/plain" "$plan")"
-        echo "$plan: allocations of a step $(per_step_allocated "$work/steps" "$plan"), by hand $(per_step_allocated "$work/plain" "$plan")"
+        echo "$plan: instructions of a step $(per_step_counted "$work/bench_steps" "$plan"), by hand $(per_step_counted "$work/plain" "$plan")"
+        echo "$plan: allocations of a step $(per_step_allocated "$work/bench_steps" "$plan"), by hand $(per_step_allocated "$work/plain" "$plan")"
     fi
-    next=$(per_step "$work/steps" "$plan" "$few" "$many" driver)
+    next=$(per_step "$work/bench_steps" "$plan" "$few" "$many" driver)
     plain=$(per_step "$work/plain" "$plan" "$few" "$many" driver)
     awk -v p="$plan" -v s="$next" -v b="$plain" \
         'BEGIN { printf "%s: by a driver with its journal %s ns, by hand with a journal %s ns, ratio %.2f\n", p, s, b, s / b }'
-    echo "$plan: by a driver without a journal $(per_step "$work/steps" "$plan" "$few" "$many" stepper) ns"
+    echo "$plan: by a driver without a journal $(per_step "$work/bench_steps" "$plan" "$few" "$many" stepper) ns"
     if command -v valgrind > /dev/null; then
-        echo "$plan: instructions of an event with a journal $(per_step_counted "$work/steps" "$plan" driver), without $(per_step_counted "$work/steps" "$plan" stepper)"
+        echo "$plan: instructions of an event with a journal $(per_step_counted "$work/bench_steps" "$plan" driver), without $(per_step_counted "$work/bench_steps" "$plan" stepper)"
     fi
 done
 for plan in fixed retry; do
-    echo "$plan: without a journal $(resident "$work/steps" "$plan" 1000 stepper) KB at 1,000 events, $(resident "$work/steps" "$plan" 10000000 stepper) KB at 10,000,000"
+    echo "$plan: without a journal $(resident "$work/bench_steps" "$plan" 1000 stepper) KB at 1,000 events, $(resident "$work/bench_steps" "$plan" 10000000 stepper) KB at 10,000,000"
 done
 
 echo '{"meet":[{"recurs":4611686018427387903},{"spaced":1}]}' > "$work/pair.json"

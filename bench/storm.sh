@@ -1,14 +1,8 @@
 #!/usr/bin/env bash
 # How long a call of a storm takes, beside the same storm written by hand in Rust on the same machine. Started by hand at the
 # top of the repository: bench/storm.sh. It needs rt, rustc and a machine with nothing else to do.
-set -euo pipefail
-cd "$(dirname "$0")/.."
-source bench/least.sh
-
-work=$(mktemp -d)
-trap 'rm -rf "$work"' EXIT
-bin/build zsched plan --steps 0 <<< '"forever"' >&2
-cp crates/zsched/out/zsched "$work/zsched"
+cd "$(dirname "$0")/.." && source bench/least.sh
+zsched
 rustc -O -C target-cpu=x86-64 -o "$work/plain" bench/plain_storm.rs
 echo '{"meet":[{"recurs":8},{"jitter":[0,0,1000,{"cap":[10000,{"exponential":[100,2]}]}]}]}' > "$work/plan.json"
 
