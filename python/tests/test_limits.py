@@ -4,6 +4,7 @@ from __future__ import annotations
 
 import asyncio
 import pickle
+import re
 import threading
 from typing import Any, Callable, List, Optional
 
@@ -34,6 +35,9 @@ from hikebox import (
 from hikebox.testing import VirtualClock, no_waits
 
 THREADS = 8
+#: What the types would refuse.
+ANY_FIVE: Any = 5
+ANY_CLASS: Any = Bucket
 
 
 def admitted(limit: Limit) -> Request:
@@ -105,7 +109,7 @@ def test_envoy() -> None:
 
 def test_breaker() -> None:
     clock = VirtualClock()
-    breaker = Breaker.consecutive(2, exponential(0.1, 2), probe_deadline=1, clock=clock)
+    breaker = Breaker(2, exponential(0.1, 2), probe_deadline=1, clock=clock)
     request, late, probe = admitted(breaker), admitted(breaker), breaker.request()
     request.failed()
     clock.sleep(0.01)
@@ -203,7 +207,7 @@ def test_a_refused_result_is_a_failure() -> None:
 @pytest.mark.parametrize("kind", ["call", "await"])
 def test_an_open_breaker_admits_no_call(kind: str) -> None:
     clock = VirtualClock()
-    breaker = Breaker.consecutive(3, spaced(30), clock=clock)
+    breaker = Breaker(3, spaced(30), clock=clock)
     calls: List[int] = []
 
     def call() -> Any:
@@ -349,6 +353,9 @@ def test_a_throttle_counts_each_call() -> None:
         lambda: Bucket(float("nan")),
         lambda: InFlight(-1, 0),
         lambda: InFlight(2**32, 0),
+        lambda: InFlight(3, 20),
+        lambda: InFlight.envoy(-5),
+        lambda: InFlight.envoy(101),
         lambda: Breaker(0, spaced(1)),
         lambda: Breaker(1, spaced(1), probes=16),
         lambda: Breaker(1, stop()),
@@ -358,6 +365,22 @@ def test_a_throttle_counts_each_call() -> None:
 )
 def test_terms_out_of_range(make: Callable[[], Any]) -> None:
     with pytest.raises(TermsError):
+        make()
+
+
+@pytest.mark.parametrize(
+    "make, told",
+    [
+        (lambda: InFlight.envoy(-5), "expected budget_percent from 0 to 100, got -5"),
+        (lambda: InFlight(3, 20), "expected the share from 0 to 1, got 20"),
+        (lambda: Breaker(5, 30), "open_for: expected a policy, as spaced(30), got 30"),
+        (lambda: Breaker(5, spaced(30), clock=ANY_FIVE), "clock: expected a function, got 5"),
+        (lambda: Throttle(2, 60, random=ANY_FIVE), "random: expected a function, got 5"),
+        (lambda: Retrying(recurs(1), budget=ANY_CLASS), "budget: expected an object, got the class Bucket"),
+    ],
+)
+def test_what_is_told_of_wrong_terms(make: Callable[[], Any], told: str) -> None:
+    with pytest.raises((TermsError, TypeError), match=re.escape(told)):
         make()
 
 
@@ -396,7 +419,7 @@ def test_misuse() -> None:
 def test_names() -> None:
     assert repr(Bucket.grpc(10, 0.1)) == "<Bucket(10, floor=5.001, debit=1, credit=0.1)>"
     assert repr(InFlight.envoy(25, 5)) == "<InFlight(5, 0.25)>"
-    assert repr(Breaker.consecutive(5, spaced(30))) == "<Breaker(5, spaced(30))>"
+    assert repr(Breaker(5, spaced(30))) == "<Breaker(5, spaced(30))>"
     assert repr(Throttle.google()) == "<Throttle(2, 60)>"
 
 

@@ -15,7 +15,8 @@ abbrev pub returned_of : Option ℕ → Option Call
 returned_of None = None
 returned_of (Some cost) = Some (call.Returned cost)
 
--- the call that a request makes with what it tells, if it makes one: it is admitted once, and draws while it is admitted
+-- the call that a request makes with what it tells, if it makes one: it is admitted once, and draws while it is
+-- admitted
 abbrev pub call_of : Rules → Told → Request → Option Call
 call_of m (Admit now) r = if r.counted then None else Some (call.Admit now 0 0)
 call_of m (Draw now cost) r = if r.counted then Some (call.Draw now cost r.slots) else None
@@ -55,8 +56,8 @@ answer_of m (Succeeded now) r word = Ok tt
 answer_of m Cancelled r word = Ok tt
 answer_of m Ended r word = Ok tt
 
--- what a request holds that was answered so: it is admitted in a generation, or granted a draw of this cost; one that was
--- refused a draw holds no slot
+-- what a request holds that was answered so: it is admitted in a generation, or granted a draw of this cost; one that
+-- was refused a draw holds no slot
 abbrev pub held_admitted : Answer → ℕ → Request → Request
 held_admitted (Ok x) generation r = admitted generation
 held_admitted (Err why) generation r = r

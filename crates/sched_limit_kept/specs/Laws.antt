@@ -57,8 +57,8 @@ debited_by moves = total (λ (m : Move). debited m.call m.found m.left) moves
 abbrev pub credited_by : List Move → ℕ
 credited_by moves = total (λ (m : Move). credited m.call m.found m.left) moves
 
--- the level of a bucket that began full is at most its capacity; it and what was granted and debited is the capacity and
--- what was credited
+-- the level of a bucket that began full is at most its capacity; it and what was granted and debited is the capacity
+-- and what was credited
 abbrev pub TokensAreKept : Type 0
 TokensAreKept = (b : Bucket) (ts : Tellings) →
     let level = word_kept (bucket_rules b) b.capacity ts in

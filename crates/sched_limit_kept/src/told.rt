@@ -26,8 +26,9 @@ pub enum Told {
     Ended,
 }
 
-/// Makes a request's call on the word that the store keeps: the word becomes what the store is to keep from then on, and
-/// the request what it then holds. `OutOfTurn` where the request is admitted twice, or draws while it is not admitted.
+/// Makes a request's call on the word that the store keeps: the word becomes what the store is to keep from then on,
+/// and the request what it then holds. `OutOfTurn` where the request is admitted twice, or draws while it is not
+/// admitted.
 pub fn tell<M: Refuses>(
     machine: &M,
     told: Told,

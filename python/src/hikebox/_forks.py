@@ -4,10 +4,12 @@ from __future__ import annotations
 
 import os
 import threading
-from typing import Protocol
+from typing import Any, Protocol, TypeVar
 from weakref import WeakSet
 
-__all__ = ["BeginsAnew", "begins_anew_in_a_child", "no_fork"]
+__all__ = ["BeginsAnew", "OfOneProcess", "begins_anew_in_a_child", "no_fork"]
+
+Self = TypeVar("Self", bound="OfOneProcess")
 
 #: While a thread has it, no other thread forks.
 no_fork = threading.RLock()
@@ -35,3 +37,22 @@ def _begin_all() -> None:
 
 
 os.register_at_fork(before=no_fork.acquire, after_in_parent=no_fork.release, after_in_child=_begin_all)
+
+
+class OfOneProcess:
+    """What belongs to its process: a copy of it is the thing itself, and it is not pickled."""
+
+    __slots__ = ()
+
+    def not_pickled(self) -> str:
+        """Returns why it is not pickled."""
+        return f"a {type(self).__name__} belongs to its process"
+
+    def __copy__(self: Self) -> Self:
+        return self
+
+    def __deepcopy__(self: Self, _: Any) -> Self:
+        return self
+
+    def __reduce__(self) -> Any:
+        raise TypeError(self.not_pickled())

@@ -294,7 +294,7 @@ impl LeasedQuota {
         let ask = |tell: Tell<'_>| self.ask(terms, false, tell).map(|found| (found.window, found.stored));
         let (window, Stored { given, asked, .. }) = self.shared.share.ask(ask)?;
         let left = terms.allowed(asked).saturating_sub(given);
-        Ok(Usage { window: window.number, asked, given, left, next: Duration::from_millis(window.until) })
+        Ok(Usage { window: window.number, asked, given, left, next: Duration::from_millis(window.ends()) })
     }
 
     /// Tells the store the requests of the present window, and takes a range of its tickets where that is wanted.

@@ -160,13 +160,13 @@ impl Leases {
 
     /// The requests that were counted since the window began, and not told before.
     fn tell(&self, window: &Window) -> u64 {
-        lock(&self.held).pass.tell(window.from)
+        lock(&self.held).pass.tell(window.begins())
     }
 
     /// Takes a store's answer, and says whether it has a ticket.
     fn granted(&self, period: Option<u64>, answer: &Answer) -> bool {
         let held = &mut *lock(&self.held);
-        let until = answer.window.map_or(MAX_NUMBER, |window| window.until.min(MAX_NUMBER));
+        let until = answer.window.map_or(MAX_NUMBER, |window| window.ends().min(MAX_NUMBER));
         let window = answer.window.map_or(0, |window| window.number);
         let grant = Grant { window, first: answer.first, tickets: answer.tickets, until };
         if held.pass.granted(&grant) == Taken::HeldAlready {
@@ -223,7 +223,7 @@ impl Held {
 impl Grant {
     /// No ticket of a window, which is told by it.
     fn none_of(window: &Window) -> Self {
-        Self { window: window.number, first: 0, tickets: 0, until: window.until.min(MAX_NUMBER) }
+        Self { window: window.number, first: 0, tickets: 0, until: window.ends().min(MAX_NUMBER) }
     }
 }
 

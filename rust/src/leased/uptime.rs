@@ -7,14 +7,12 @@ use std::io;
 use std::sync::atomic::{AtomicI64, AtomicU64, Ordering};
 use std::time::Duration;
 
-/// A window of the machine's uptime: which start of the machine it is of, its number, and its first moment and the next
-/// one's in milliseconds.
+/// A window of the machine's uptime: which start of the machine it is of, its number, and its length in milliseconds.
 #[derive(Clone, Copy, Debug)]
 pub(crate) struct Window {
     pub(crate) boot: Boot,
     pub(crate) number: u64,
-    pub(crate) from: u64,
-    pub(crate) until: u64,
+    period: u64,
 }
 
 /// The name of a start of the machine.
@@ -23,9 +21,17 @@ pub(crate) type Boot = [u8; 36];
 impl Window {
     /// The present one of so many milliseconds.
     pub(crate) fn present(period: u64) -> io::Result<Self> {
-        let number = now()? / period;
-        let (from, until) = (number.saturating_mul(period), (number + 1).saturating_mul(period));
-        Ok(Self { boot: boot()?, number, from, until })
+        Ok(Self { number: now()? / period, boot: boot()?, period })
+    }
+
+    /// Its first moment.
+    pub(crate) fn begins(&self) -> u64 {
+        self.number.saturating_mul(self.period)
+    }
+
+    /// The first moment of the next one.
+    pub(crate) fn ends(&self) -> u64 {
+        (self.number + 1).saturating_mul(self.period)
     }
 }
 

@@ -6,6 +6,7 @@ from typing import Any, TypeVar
 
 from .._engine.handles import PolicyHandle
 from .._engine.machine import Machine
+from .._forks import OfOneProcess
 from ..errors import BudgetInUse
 from .passes import Passes
 
@@ -14,7 +15,7 @@ __all__ = ["Granting"]
 Self = TypeVar("Self", bound="Granting")
 
 
-class Granting:
+class Granting(OfOneProcess):
     """A limit that grants tickets until you close it."""
 
     __slots__ = ("passes", "__weakref__")
@@ -56,15 +57,9 @@ class Granting:
         state = f", closed at {self.passes.closed}" if self.closed else ""
         return f"<{self.expression()}{state}>"
 
-    def __copy__(self: Self) -> Self:
-        return self
-
-    def __deepcopy__(self: Self, _: Any) -> Self:
-        return self
-
-    def __reduce__(self) -> Any:
+    def not_pickled(self) -> str:
         kind = self.passes.kind
-        raise TypeError(f"a {kind} belongs to its process; hikebox.leased has {kind}s that processes share")
+        return f"a {kind} belongs to its process; hikebox.leased has {kind}s that processes share"
 
     # Retries that draw on it
 

@@ -116,7 +116,7 @@ def thousandths_of(name: str, value: float, most: int) -> int:
     if isinstance(value, bool) or not isinstance(value, (int, float)):
         raise TypeError(f"expected a number as {name}, got {value!r}")
     if not (math.isfinite(value) and 0 <= value and round(value * 1000) <= most):
-        raise TermsError(f"expected {name} from 0 to {most / 1000:g}, got {value!r}")
+        raise TermsError(f"expected {name} from 0 to {most / 1000:.13g}, got {value!r}")
     thousandths = round(value * 1000)
     if value > 0 and thousandths == 0:
         raise TermsError(f"expected 0 or at least 0.001 as {name}, got {value!r}")

@@ -7,7 +7,16 @@ import difflib
 import sys
 from typing import Any, Callable, Iterable, List, NoReturn, Optional
 
-__all__ = ["Parser"]
+__all__ = ["Once", "Parser"]
+
+
+class Once(argparse.Action):
+    """Keeps an option's word, which is given once."""
+
+    def __call__(self, parser: Any, namespace: Any, values: Any, option_string: Any = None) -> None:
+        if getattr(namespace, self.dest) is not None:
+            raise argparse.ArgumentError(self, f"expected it once, got {values!r} too")
+        setattr(namespace, self.dest, values)
 
 
 class Parser(argparse.ArgumentParser):

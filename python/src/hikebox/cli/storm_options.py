@@ -13,6 +13,7 @@ from ..errors import BudgetError
 from ..storms.axes import MEASURES
 from ..storms.parameters import RANGES, Parameters, Slow, Span
 from . import values
+from .arguments import Once
 
 __all__ = ["add_storm_options", "limits_of", "parameters_of", "tickets_of"]
 
@@ -31,15 +32,6 @@ _HELP = {
     "calls": "cut the storm after this many calls (16777216)",
     "words": "the seed of the random words (0)",
 }
-
-
-class _Once(argparse.Action):
-    """Keeps an option's word, which is given once."""
-
-    def __call__(self, parser: Any, namespace: Any, values: Any, option_string: Any = None) -> None:
-        if getattr(namespace, self.dest) is not None:
-            raise argparse.ArgumentError(self, f"expected it once, got {values!r} too")
-        setattr(namespace, self.dest, values)
 
 
 def add_storm_options(storm: argparse.ArgumentParser) -> None:
@@ -63,7 +55,7 @@ def add_storm_options(storm: argparse.ArgumentParser) -> None:
     storm.add_argument("--quota", type=_quota, metavar="RESERVE/SHARE%/PERIOD", help=shown, **limits)
     storm.add_argument("--without", action="store_true", help="also play each policy without a limit")
     along = "play the storms for each value of a parameter, such as rate=200..1600/8 (see below)"
-    storm.add_argument("--sweep", action=_Once, metavar="NAME=VALUES", help=along)
+    storm.add_argument("--sweep", action=Once, metavar="NAME=VALUES", help=along)
     drawn = "what a sweep shows (succeeded); you can give it again"
     storm.add_argument("--measure", choices=list(MEASURES), action="append", default=[], help=drawn)
     border = "find the greatest share of a quota, the most retries or the least patience with which the peer recovers"

@@ -89,6 +89,11 @@ class Bucket(Limit):
         what the call's last retry took, or else 1."""
         return cls(500, credit=1, cost=5, timeout_cost=10, refund=True)
 
+    @property
+    def terms(self) -> Tuple[int, int, int, int, bool]:
+        """The capacity, the floor, the debit and the credit in thousandths, and whether a success refunds."""
+        return self._terms
+
     def make(self) -> LimitHandle:
         return LimitHandle.of_bucket(*self._terms)
 
@@ -114,7 +119,8 @@ class InFlight(Limit):
     `least`
         The retries that there may be, however few calls there are.
     `share`
-        The retries that each call in flight allows: 0.2 is one for every five. It is counted in thousandths.
+        The retries that each call in flight allows, from 0 to 1: 0.2 is one for every five. It is counted in
+        thousandths.
 
     >>> InFlight.envoy()
     <InFlight(3, 0.2)>
@@ -123,13 +129,13 @@ class InFlight(Limit):
     __slots__ = ("_terms",)
 
     def __init__(self, least: int, share: float) -> None:
-        self._terms = (_count("least", least, 0), thousandths_of("the share", share, _MAX_COUNT))
+        self._terms = (_count("least", least, 0), thousandths_of("the share", share, 1000))
         super().__init__(time.monotonic)
 
     @classmethod
     def envoy(cls, budget_percent: float = 20, min_retry_concurrency: int = 3) -> InFlight:
         """Envoy's `retry_budget`, with its defaults."""
-        return cls(min_retry_concurrency, budget_percent / 100)
+        return cls(min_retry_concurrency, thousandths_of("budget_percent", budget_percent, 100_000) / 100_000)
 
     def make(self) -> LimitHandle:
         return LimitHandle.of_flight(*self._terms)
@@ -158,7 +164,7 @@ class Breaker(Limit):
     >>> from hikebox import exponential
     >>> from hikebox.testing import VirtualClock
     >>> clock = VirtualClock()
-    >>> breaker = Breaker.consecutive(2, exponential(30, 2).cap(300), clock=clock)
+    >>> breaker = Breaker(2, exponential(30, 2).cap(300), clock=clock)
     >>> with breaker.request() as request:
     ...     request.admit()
     ...     request.failed()
@@ -181,28 +187,21 @@ class Breaker(Limit):
         clock: Callable[[], float] = time.monotonic,
     ) -> None:
         self._failures = _count("failures", failures, 1)
+        if isinstance(open_for, (int, float)):
+            raise TypeError(f"open_for: expected a policy, as spaced({open_for}), got {open_for!r}")
         self._policy = Policy.of(open_for)
         self._probes = _count("probes", probes, 1, 15)
         self._deadline = seconds(probe_deadline, "probe_deadline")
         self._times = _times_of(self._policy)
         super().__init__(clock)
 
-    @classmethod
-    def consecutive(
-        cls,
-        failures: int,
-        open_for: Any,
-        *,
-        probes: int = 1,
-        probe_deadline: Duration = 30,
-        clock: Callable[[], float] = time.monotonic,
-    ) -> Breaker:
-        """A breaker that so many failures in a row open."""
-        return cls(failures, open_for, probes=probes, probe_deadline=probe_deadline, clock=clock)
+    @property
+    def terms(self) -> Tuple[int, int, int, List[int]]:
+        """The failures, the probes, the deadline of a probe and the open times, in milliseconds."""
+        return self._failures, self._probes, self._deadline, self._times
 
     def make(self) -> LimitHandle:
-        now = moment(self.clock())
-        return LimitHandle.of_breaker(now, self._failures, self._probes, self._deadline, self._times)
+        return LimitHandle.of_breaker(moment(self.clock()), *self.terms)
 
     def expression(self) -> str:
         return f"Breaker({self._failures}, {self._policy!r})"

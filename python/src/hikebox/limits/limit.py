@@ -4,7 +4,7 @@ from __future__ import annotations
 
 import random as _random
 import threading
-from typing import Any, Callable, List, Optional, TypeVar
+from typing import Any, Callable, List, Optional
 
 from .._engine.limits import (
     BREAKER_OPEN,
@@ -16,14 +16,12 @@ from .._engine.limits import (
     THROTTLED,
     LimitHandle,
 )
-from .._forks import begins_anew_in_a_child
+from .._forks import OfOneProcess, begins_anew_in_a_child
 from .._time import moment
 from ..budgets.tickets import Refusal, RefusalReason
 from ..policy.preview import word_of
 
 __all__ = ["Limit", "Request"]
-
-Self = TypeVar("Self", bound="Limit")
 
 _REASONS = {
     LEVEL_LOW: RefusalReason.LEVEL_LOW,
@@ -35,7 +33,7 @@ _REASONS = {
 }
 
 
-class Limit:
+class Limit(OfOneProcess):
     """What calls ask before their first attempt, and again before each retry.
 
     Pass one as `budget` wherever a `Quota` goes. A call that is not admitted raises a `NotAdmitted` and makes no
@@ -52,6 +50,9 @@ class Limit:
     reads_clock = False
 
     def __init__(self, clock: Callable[[], float], random: Callable[[], float] = _random.random) -> None:
+        for name, function in (("clock", clock), ("random", random)):
+            if not callable(function):
+                raise TypeError(f"{name}: expected a function, got {function!r}")
         #: What returns the time in seconds.
         self.clock = clock
         #: What returns numbers from 0 up to 1.
@@ -76,6 +77,10 @@ class Limit:
     def make(self) -> LimitHandle:
         """Makes the limit in the engine."""
         raise NotImplementedError
+
+    def parts(self) -> List[Limit]:
+        """Returns the limits that it asks, each a single one of this process."""
+        return [self]
 
     def expression(self) -> str:
         """Returns the expression that makes one like it."""
@@ -125,15 +130,6 @@ class Limit:
 
     def __repr__(self) -> str:
         return f"<{self.expression()}>"
-
-    def __copy__(self: Self) -> Self:
-        return self
-
-    def __deepcopy__(self: Self, _: Any) -> Self:
-        return self
-
-    def __reduce__(self) -> Any:
-        raise TypeError(f"a {type(self).__name__} belongs to its process")
 
 
 class Request:

@@ -43,7 +43,7 @@ def both(first: Limit, second: Limit) -> Limit:
     asked first. Put a breaker second: a probe that it admitted is not given back.
 
     >>> from hikebox import Breaker, Bucket, spaced
-    >>> both(Bucket.aws(), Breaker.consecutive(5, spaced(30)))
+    >>> both(Bucket.aws(), Breaker(5, spaced(30)))
     <both(Bucket(500, floor=0, debit=0, credit=1, refund=True), Breaker(5, spaced(30)))>
     """
     return Both(first, second)

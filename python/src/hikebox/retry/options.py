@@ -145,6 +145,8 @@ def _grants_of(budget: Any, clock: Any, awaits: bool) -> Tuple[Grants, Optional[
     if budget is None:
         return UNLIMITED, None
     draw = getattr(budget, "draw", None)
+    if isinstance(budget, type):
+        raise TypeError(f"budget: expected an object, got the class {budget.__name__}")
     if not callable(draw):
         raise TypeError(f"budget: expected a Budget, a Quota, or something with draw(), got {budget!r}")
     if isinstance(budget, Budget) or (isinstance(budget, Quota) and budget.clock == clock):
