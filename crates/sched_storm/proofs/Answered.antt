@@ -27,7 +27,7 @@ use Rattle.sched_storm.specs.Tickets.{draw_at}
 use Rattle.sched_storm.specs.Drivers.{input_of, with_failure, DriverStands}
 use Rattle.sched_storm.specs.Plays.{Stage, begins, retries, succeeds, fails, Shared, words_of, if_by, ending, moment_at}
 use Rattle.sched_storm.specs.Plays.{coming, ended, drawing, going_on, failing}
-use Rattle.sched_storm.specs.Turns.{kind_of, kind_after, turn_if, turn_by, next_drawn, next_at}
+use Rattle.sched_storm.specs.Turns.{kind_of, kind_after, turn_for, turn_if, turn_by, next_drawn, next_at}
 use Rattle.sched_storm.specs.Course.{shared_of, slot_of, Drives, HasAnswered}
 use Rattle.sched_storm.specs.declared.parameters.Parameters.{Parameters}
 use Rattle.sched_storm.specs.declared.calls.CallEnd.{CallEnd}
@@ -126,13 +126,13 @@ module _ (old new : Course) (t r : ℕ) (h : List Event) (what : Happening) (s :
 
 -- ---- a call that fails
 
--- what a course gives where a call failed, and its request's driver stands for that
+-- what a course gives where a call failed: where a retry is due, its request's driver stands for that
 pub record Gives (old new : Course) (t r : ℕ) (failure : Failure) (h : List Event) (s : Shared)
     (n : Next) : Type 0 where
   pub shared : shared_of new ≡ record s { drawn = n.drawn }
   pub told : (peer : Peer) (ms : List Moment) → peer ≡ peer_of old.storm → AreTold peer ms old.tally →
       AreTold peer (ms ++ record { at = t; what = happening.Failed failure n.then; busy = s.busy } ∷ []) new.tally
-  pub stands : DriverStands old.plan (slot_of new r) h
+  pub stands : (turn : Turn) → n.next ≡ Some turn → DriverStands old.plan (slot_of new r) h
   pub order : last_moment h ≤ t
 
 module _ (old new : Course) (t r : ℕ) (failure : Failure) (h : List Event) where
@@ -149,7 +149,9 @@ module _ (old new : Course) (t r : ℕ) (failure : Failure) (h : List Event) whe
     drives = λ d at.
         (let same = by_is old.storm.until start (retries h) d (nat_le start old.storm.until) at in
         let order = g.order in
-        let both : Drives old.plan (slot_of new r) start (retries h) = (g.stands, omega arith) in
+        let due = ap (λ (x : Next). x.next) is
+        ∙ (by_turn old.storm.until start r (retries h) (nat_le start old.storm.until) ∙ ap (turn_if r) at) in
+        let both : Drives old.plan (slot_of new r) start (retries h) = (g.stands (turn_for r d) due, omega arith) in
         subst (λ (x : Due Stage). Drives old.plan (slot_of new r) x.at x.what) same both);
     later = λ d at.
         (let same = by_is old.storm.until start (retries h) d (nat_le start old.storm.until) at in

@@ -304,6 +304,7 @@ impl Course {
             .drivers
             .fail(alloc, &self.plan, turn.request, turn.at, words, failure)?;
         let after = self.storm.next(self.drawn, turn, start);
+        self.drivers.keep_if(turn.request, after.next.is_some());
         self.drawn = after.drawn;
         let what = Happening::Failed {
             failure,

@@ -1,6 +1,6 @@
 //! The drivers of requests: they step one plan that all share, and keep no journal.
-ghost use Rattle.std.specs.Prelude.{◌≡◌, ℕ, ◌+◌, ◌<◌, ◌≤◌, List, [], ◌∷◌, ◌++◌, Option, Some, None, length, vec_len};
-ghost use Rattle.std.specs.Prelude.{IfOk, IfSome, OnOk, slice_index_or, slice_set};
+ghost use Rattle.std.specs.Prelude.{◌≡◌, ◌≢◌, ℕ, ◌+◌, ◌<◌, ◌≤◌, true, List, [], ◌∷◌, ◌++◌, Option, Some, None, length};
+ghost use Rattle.std.specs.Prelude.{vec_len, IfOk, IfSome, OnOk, slice_index_or, slice_set};
 ghost use Rattle.sched_time.specs.Decision.{start_of};
 ghost use Rattle.sched_plan.specs.Answer.{answer};
 ghost use Rattle.sched_plan.specs.declared.history.Event.{Event};
@@ -71,6 +71,19 @@ impl Drivers {
         ensures { self.new.slots.items ≡ slice_set self.old.slots.items request None }
     {
         self.slots[request as usize] = None;
+    }
+
+    /// The request keeps its driver where it goes on, and needs none any more where it does not.
+    pub(crate) fn keep_if(&mut self, request: u64, goes_on: bool)
+        requires { request < vec_len self.old.slots }
+        ensures kept { goes_on ≡ true → self.new ≡ self.old }
+        ensures others { (q : ℕ) → q ≢ request →
+            slice_index_or self.new.slots.items q None ≡ slice_index_or self.old.slots.items q None }
+        ensures count { vec_len self.new.slots ≡ vec_len self.old.slots }
+    {
+        if !goes_on {
+            self.end(request);
+        }
     }
 
     /// Gives the driver of a request the failure of a call at this moment, with these words, and answers when it plans

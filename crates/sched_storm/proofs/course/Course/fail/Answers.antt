@@ -1,7 +1,9 @@
 -- A failure is answered by its request's driver, and by a ticket.
 use Rattle.std.proofs.Common.{◌≡◌, ℕ, ◌<◌, ◌≤◌, List, Some, None, length, get_or, get_or-set_same, refl, subst, sym, ap}
 use Rattle.std.proofs.Common.{◌∙◌, arith, rules}
+use Rattle.std.specs.Prelude.{is_some}
 use Rattle.sched_storm.specs.Drivers.{DriverStands, with_failure, input_of}
+use Rattle.sched_storm.specs.declared.drivers.Drivers.{Drivers}
 use Rattle.sched_storm.specs.Course.{shared_of, slot_of}
 use Rattle.sched_storm.proofs.Answered.{Gives, told_so, failing_answered, last_given}
 use Rattle.sched_storm.proofs.course.Course.fail.Goals as goal
@@ -25,6 +27,9 @@ returns-clause-answered c = λ h k.
       told = λ peer ms is was. told_so peer c.peer.result c.moment_of.result _ old.tally c.tell.new.self
           c.in_ok-tell.ensures.told
           (c.peer.ensures.value ∙ sym is) c.moment_of.ensures ms was;
-      stands = subst (λ o. DriverStands old.plan o given) (sym place) answers.stands;
+      stands = λ turn due.
+          (let kept = c.keep_if.ensures.kept (c.is_some.ensures ∙ ap is_some due) in
+          subst (λ o. DriverStands old.plan o given)
+          (sym (ap (λ (x : Drivers). get_or x.slots.items r None) kept ∙ place)) answers.stands);
       order = omega arith;
     })
