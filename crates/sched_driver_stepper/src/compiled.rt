@@ -1,11 +1,9 @@
 ghost use Rattle.std.specs.Prelude.{◌≡◌, [], IfOk};
 ghost use Rattle.sched_driver_stepper.specs.Standing.{standing_after};
-ghost use Rattle.sched_driver_stepper.specs.Kept.{IsFirstKept};
 
 use crate::kept::Kept;
 use crate::steppers::Stepper;
 use sched_plan::{Plan, SharedPlan};
-use sched_step::initial;
 use sched_step_flat::{Record, has_record};
 use sched_time::NoMemory;
 use std::alloc::Global;
@@ -53,7 +51,7 @@ impl Compiled {
         Ok(Compiled { plan, start })
     }
 
-    /// The same plan for one more owner. It takes memory only for a record of more than 16 words.
+    /// The same plan for one more owner. It takes memory only for a record of more than 8 words.
     pub fn again(&self) -> Result<Compiled, NoMemory>
         ensures { IfOk result (λ compiled. compiled ≡ self.now) }
     {
@@ -79,24 +77,19 @@ impl Compiled {
         self.plan.share()
     }
 
-    /// A stepper of the plan before its first event. It takes memory only for a record of more than 16 words, and for
+    /// A stepper of the plan before its first event. It takes memory only for a record of more than 8 words, and for
     /// a plan that has none.
     #[inline(always)]
     pub fn stepper(&self, alloc: Global) -> Result<Stepper, NoMemory>
         ensures { IfOk result (λ stepper. stepper ≡ standing_after self.now []) }
     {
-        let kept = self.first_kept(alloc)?;
-        Ok(Stepper::unstepped(self.plan.share()?, kept))
-    }
-
-    // What a stepper keeps before the first event.
-    #[inline(always)]
-    fn first_kept(&self, alloc: Global) -> Result<Kept, NoMemory>
-        ensures { IfOk result (λ kept. IsFirstKept self.now kept) }
-    {
+        let plan = self.plan.share()?;
         match &self.start {
-            Some(start) => Ok(Kept::Flat(start.copied()?)),
-            None => Ok(Kept::Tree(initial(alloc, self.plan.get())?)),
+            Some(start) => {
+                let record = start.copied()?;
+                Ok(Stepper::unstepped(plan, Kept::Flat(record)))
+            }
+            None => Stepper::of_shared(alloc, plan),
         }
     }
 }

@@ -76,6 +76,7 @@ impl Stepper {
     ///
     /// Refused as `Backwards` where the tick is before the last event, and as `NoMemory`; the stepper is then
     /// unchanged. It takes memory only where the plan's state is kept as a tree.
+    #[inline(always)]
     pub fn next(&mut self, alloc: Global, tick: &Tick, input: &Val) -> Result<Decision, StepFault>
         // Whatever history it stood for, it now stands for that one with this event, and decides as the plan answers
         // it.

@@ -1,14 +1,17 @@
 -- One step as the code makes it, on words alone. That it meets the definition over whole histories is what
 -- `Record::advance` ensures.
-use Rattle.std.specs.Prelude.{◌≡◌, ℕ, if◌then◌else◌, nat_eq, List, ◌∷◌, ◌++◌, take, drop}
+use Rattle.std.specs.Prelude.{◌≡◌, ℕ, Bool, if◌then◌else◌, nat_eq, List, ◌∷◌, ◌++◌, take, drop}
 use Rattle.std.specs.Prelude.{slice_index, Option, Some, None}
 use Rattle.sched_time.specs.declared.starts.Decision.{Decision}
+use Rattle.sched_time.specs.declared.starts.Decision.TheVariants.{Done}
 use Rattle.sched_plan.specs.Schedule.{Schedule, leaf, one, two}
 use Rattle.sched_plan.specs.Outputs.{with_input}
+use Rattle.sched_plan.specs.Gates.{is_wanted, passes}
 use Rattle.sched_plan.specs.Answer.{meet_decisions, join_decisions, is_done}
 use Rattle.sched_plan.specs.declared.leaves.Leaf.{Leaf}
 use Rattle.sched_plan.specs.declared.nodes.Side.TheVariants.{Output}
 use Rattle.sched_plan.specs.declared.nodes.Fold.TheVariants.{Sum, Count, Max, List as Listing}
+use Rattle.sched_plan.specs.declared.nodes.Test.{Test}
 use Rattle.sched_plan.specs.declared.nodes.One.{One}
 use Rattle.sched_plan.specs.declared.nodes.One.TheVariants.{Gate, Gather, AddOut, Nothing}
 use Rattle.sched_plan.specs.declared.nodes.Two.{Two}
@@ -128,3 +131,15 @@ FlatSteps s part ws e next reply = (next, reply) ≡ flat_step s part ws e
 -- where nothing is read of the output, they are these words and this decision
 abbrev pub Decides : Schedule → List ℕ → Event → List ℕ → Decision → Type 0
 Decides s ws e next decision = FlatSteps s Unread ws e next (unread decision)
+
+-- the same of two schedules under a node
+abbrev pub PairSteps : Two → Schedule × Schedule → Part → List ℕ → Event → List ℕ → Reply → Type 0
+PairSteps k pair part ws e next reply = FlatSteps (two k pair.0 pair.1) part ws e next reply
+
+abbrev pub PairDecides : Two → Schedule × Schedule → List ℕ → Event → List ℕ → Decision → Type 0
+PairDecides k pair ws e next decision = Decides (two k pair.0 pair.1) ws e next decision
+
+-- the decision, but done where the test of the number has not the wanted result
+abbrev pub decision_gated : Bool → Test → ℕ → Option ℕ → Decision → Decision
+decision_gated want test bound number decision =
+    if is_wanted want (passes test bound (number_datum number)) then decision else Done

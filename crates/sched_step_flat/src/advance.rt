@@ -1,9 +1,9 @@
 ghost use Rattle.std.specs.Prelude.{◌≡◌, ◌+◌, if◌then◌else◌, None, length, IsTrue};
-ghost use Rattle.sched_plan.specs.Schedule.{is_valid, one as one_schedule, two as two_schedule};
+ghost use Rattle.sched_plan.specs.Schedule.{is_valid, one as one_schedule};
 ghost use Rattle.sched_step.specs.Progress.{is_beside};
 ghost use Rattle.sched_step.specs.Step.{begins};
 ghost use Rattle.sched_step_flat.specs.Words.{blank, kept_from, width_of, one_width};
-ghost use Rattle.sched_step_flat.specs.FlatStep.{cued, pair_number, Decides, FlatSteps};
+ghost use Rattle.sched_step_flat.specs.FlatStep.{cued, pair_number, Decides, FlatSteps, PairDecides, PairSteps};
 
 use crate::cues::{Cue, Reply};
 use crate::leaves::step_leaf;
@@ -73,7 +73,7 @@ fn unread(decision: Decision) -> Reply
 fn decide_beside(cue: &Cue, node: Two, plans: &(Plan, Plan), words: &mut [u64]) -> Decision
     requires beside { IsTrue (is_beside node) }
     requires fits { length words.old ≡ width_of plans.now.0 + width_of plans.now.1 }
-    ensures { Decides (two_schedule node plans.now.0 plans.now.1) words.old (cued cue.now) words.new result }
+    ensures { PairDecides node plans.now words.old (cued cue.now) words.new result }
 {
     let (front, rest) = words.split_at_mut(width(&plans.0));
     let first = decide(cue, &plans.0, front);
@@ -90,7 +90,7 @@ fn decide_beside(cue: &Cue, node: Two, plans: &(Plan, Plan), words: &mut [u64]) 
 #[inline(never)]
 fn decide_feed(cue: &Cue, plans: &(Plan, Plan), words: &mut [u64]) -> Decision
     requires { length words.old ≡ width_of plans.now.0 + width_of plans.now.1 }
-    ensures { Decides (two_schedule Two.Feed plans.now.0 plans.now.1) words.old (cued cue.now) words.new result }
+    ensures { PairDecides Two.Feed plans.now words.old (cued cue.now) words.new result }
 {
     let (front, rest) = words.split_at_mut(width(&plans.0));
     let first = advance(cue, &plans.0, Part::Whole, front);
@@ -107,7 +107,7 @@ fn decide_feed(cue: &Cue, plans: &(Plan, Plan), words: &mut [u64]) -> Decision
 #[inline(never)]
 fn decide_follow(cue: &Cue, plans: &(Plan, Plan), words: &mut [u64]) -> Decision
     requires { length words.old ≡ 1 + (width_of plans.now.0 + width_of plans.now.1) }
-    ensures { Decides (two_schedule Two.Follow plans.now.0 plans.now.1) words.old (cued cue.now) words.new result }
+    ensures { PairDecides Two.Follow plans.now words.old (cued cue.now) words.new result }
 {
     let (own, both) = words.split_at_mut(1);
     if own[0] != 0 {
@@ -185,7 +185,7 @@ fn advance_beside(
 ) -> Reply
     requires beside { IsTrue (is_beside node) }
     requires fits { length words.old ≡ width_of plans.now.0 + width_of plans.now.1 }
-    ensures { FlatSteps (two_schedule node plans.now.0 plans.now.1) part words.old (cued cue.now) words.new result }
+    ensures { PairSteps node plans.now part words.old (cued cue.now) words.new result }
 {
     let (front, rest) = words.split_at_mut(width(&plans.0));
     let first = advance(cue, &plans.0, of_first(part), front);
@@ -218,7 +218,7 @@ fn pair_number(part: Part, first: Option<u64>, second: Option<u64>) -> Option<u6
 #[inline(never)]
 fn advance_feed(cue: &Cue, plans: &(Plan, Plan), part: Part, words: &mut [u64]) -> Reply
     requires { length words.old ≡ width_of plans.now.0 + width_of plans.now.1 }
-    ensures { FlatSteps (two_schedule Two.Feed plans.now.0 plans.now.1) part words.old (cued cue.now) words.new result }
+    ensures { PairSteps Two.Feed plans.now part words.old (cued cue.now) words.new result }
 {
     let (front, rest) = words.split_at_mut(width(&plans.0));
     let first = advance(cue, &plans.0, Part::Whole, front);
@@ -238,8 +238,7 @@ fn advance_feed(cue: &Cue, plans: &(Plan, Plan), part: Part, words: &mut [u64]) 
 #[inline(never)]
 fn advance_follow(cue: &Cue, plans: &(Plan, Plan), part: Part, words: &mut [u64]) -> Reply
     requires { length words.old ≡ 1 + (width_of plans.now.0 + width_of plans.now.1) }
-    ensures { FlatSteps (two_schedule Two.Follow plans.now.0 plans.now.1) part words.old (cued cue.now)
-        words.new result }
+    ensures { PairSteps Two.Follow plans.now part words.old (cued cue.now) words.new result }
 {
     let (own, both) = words.split_at_mut(1);
     if own[0] != 0 {

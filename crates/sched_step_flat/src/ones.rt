@@ -2,14 +2,13 @@ ghost use Rattle.std.specs.Prelude.{◌≡◌, if◌then◌else◌, length, slic
 ghost use Rattle.sched_time.specs.declared.starts.Decision.{Decision};
 ghost use Rattle.sched_plan.specs.Changes.{goes_past, moved_decision};
 ghost use Rattle.sched_plan.specs.Delays.{added_out};
-ghost use Rattle.sched_plan.specs.Gates.{is_wanted, passes};
 ghost use Rattle.sched_plan.specs.Outputs.{number_of};
 ghost use Rattle.sched_plan.specs.Schedule.{one_in_range};
 ghost use Rattle.sched_step.specs.StateOf.{first_kept};
 ghost use Rattle.sched_step.specs.Step.{begins, fold_total, one_next};
 ghost use Rattle.sched_step_flat.specs.Words.{kept_from, kept_words, one_width};
 ghost use Rattle.sched_step_flat.specs.Parts.{number_datum};
-ghost use Rattle.sched_step_flat.specs.FlatStep.{answer_of, cued, one_reply};
+ghost use Rattle.sched_step_flat.specs.FlatStep.{answer_of, cued, decision_gated, one_reply};
 
 use crate::cues::{Cue, Reply};
 use crate::moments::{is_over, moment_or, now_word, round_word, time_between, word_or};
@@ -167,7 +166,7 @@ pub(crate) fn reply(node: &One, part: Part, word: u64, cue: &Cue, under: &Reply)
 
 // The decision, but done where the test of the number has not the wanted result.
 fn gate(want: bool, test: Test, bound: Millis, number: Option<u64>, decision: Decision) -> Decision
-    ensures { result ≡ (if is_wanted want (passes test bound (number_datum number)) then decision else Decision.Done) }
+    ensures { result ≡ decision_gated want test bound number decision }
 {
     let passes = match number {
         Some(number) => compare(test, bound, number),

@@ -19,7 +19,7 @@ use std::alloc::Global;
 use std::marker::Model;
 
 /// How many words lie in the record itself; a longer one takes an allocation.
-const INLINE_WORDS: usize = 16;
+const INLINE_WORDS: usize = 8;
 
 /// How far a plan has come, as a row of words that a step changes in place.
 #[derive(Drop)]
@@ -54,12 +54,13 @@ impl Record {
         Ok(Record { words })
     }
 
-    /// The same words again. It takes memory only for more than 16 words, and fails only with `NoMemory`.
+    /// The same words again. It takes memory only for more than 8 words, and fails only with `NoMemory`.
     #[inline(always)]
     pub fn copied(&self) -> Result<Record, NoMemory>
         ensures { IfOk result (λ copy. copy ≡ self.now) }
     {
-        let words = SmallVec::from_slice(*self.words.allocator(), self.words.as_slice())?;
+        let mut words = SmallVec::new(*self.words.allocator());
+        words.extend_from_slice(self.words.as_slice())?;
         Ok(Record { words })
     }
 
