@@ -174,6 +174,8 @@ def test_a_quota_over_all_runs(tmp_path: Path) -> None:
     damaged.write_text("something else")
     status, _, errors = hikebox("run", "--quota", f"9/100%/60s@{damaged}", "--", *command)
     assert status == 2 and f"{damaged}: expected a folder, got a file. Counts are kept in a folder now;" in errors
+    status, _, errors = hikebox("run", "--budget", "3@", "--", "true")
+    assert (status, errors) == (2, "hikebox: expected N or N@FOLDER, got '3@'\n")
     for slot in (tmp_path / "quota").glob("*/*"):
         slot.write_text("something else")
     status, _, errors = hikebox(*words, *command)

@@ -311,12 +311,11 @@ def test_a_process_in_a_time_namespace_counts_in_the_windows_of_all(shift: str, 
 def test_a_file_in_the_place_of_the_folder_is_refused(tmp_path: Path) -> None:
     path = tmp_path / "counts"
     path.write_bytes(b'hikebox counts 1 18 0\n{"budget a":["",5]}')
-    says = re.escape(
-        f"{path}: expected a folder, got a file. Counts are kept in a folder now; name another path, or delete the "
-        "file to begin all its budgets and quotas anew."
-    )
+    says = re.escape(f"{path}: expected a folder, got a file. Counts are kept in a folder now; name another path.")
     with pytest.raises(StoreError, match=f"^{says}$"):
         FileStore(path)
+    with pytest.raises(StoreError, match="expected the path of a folder, got an empty one"):
+        FileStore("")
     path.unlink()
     store = FileStore(path)
     assert take(store) == Range(0, 1, None)

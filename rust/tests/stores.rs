@@ -212,9 +212,7 @@ fn a_file_of_the_old_form_is_refused_with_what_to_do() {
     let folder = Scratch::new("old");
     fs::write(&folder.0, "hikebox counts 1 19 2643005063\n{\"budget b\":[\"\",8]}").unwrap();
     let refused = budget(&folder.0, 9).draw().unwrap_err().to_string();
-    let expected =
-        "expected a folder, got a file. Counts are kept in a folder now; name another path, or delete the file to \
-                    begin all its budgets and quotas anew.";
+    let expected = "expected a folder, got a file. Counts are kept in a folder now; name another path.";
     let expected = format!("the store of tickets failed: {}: {expected}", folder.0.display());
     assert_eq!(refused, expected);
     assert!(matches!(long_quota(&folder.0, 9, 1.0).seen(), Err(StoreError::NotAFolder(path)) if path == folder.0));

@@ -288,11 +288,12 @@ impl fmt::Display for StoreError {
         match self {
             Self::Io(error) => write!(f, "the slot of counts: {error}"),
             Self::Locked => f.write_str("the slot of counts is locked by another process"),
-            Self::Damaged(path) => write!(f, "{}: expected a slot of counts of {SIZE} bytes, got another file", path.display()),
+            Self::Damaged(path) => {
+                write!(f, "{}: expected a slot of counts of {SIZE} bytes, got another file", path.display())
+            }
             Self::NotAFolder(path) => write!(
                 f,
-                "{}: expected a folder, got a file. Counts are kept in a folder now; name another path, or delete the file \
-                 to begin all its budgets and quotas anew.",
+                "{}: expected a folder, got a file. Counts are kept in a folder now; name another path.",
                 path.display()
             ),
             Self::Lost => f.write_str("the slot of counts has a later window, and has lost the present one's count"),

@@ -92,7 +92,7 @@ def budget(text: Optional[str]) -> Union[Budget, Leased, None]:
     if text is None:
         return None
     tickets, at, path = text.partition("@")
-    if not (tickets.isascii() and tickets.isdigit()):
+    if not (tickets.isascii() and tickets.isdigit()) or (at and not path):
         raise BudgetError(f"expected N or N@FOLDER, got {text!r}")
     return Leased(FileStore(path), "run", int(tickets), lease=1) if at else Budget(int(tickets))
 

@@ -35,6 +35,8 @@ class FileStore:
 
     def __init__(self, path: Union[str, os.PathLike[str]], *, patience: float = 5.0) -> None:
         self.path = os.fsdecode(path)
+        if not self.path:
+            raise StoreError("expected the path of a folder, got an empty one")
         self.patience = patience
         self._look_at_path()
 
@@ -128,8 +130,7 @@ class FileStore:
     def _look_at_path(self) -> None:
         if os.path.isfile(self.path):
             raise StoreError(
-                f"{self.path}: expected a folder, got a file. Counts are kept in a folder now; name another path, or "
-                "delete the file to begin all its budgets and quotas anew."
+                f"{self.path}: expected a folder, got a file. Counts are kept in a folder now; name another path."
             )
 
 
@@ -161,7 +162,7 @@ def _shift() -> int:
         with open("/proc/self/timens_offsets", encoding="ascii") as file:
             for line in file:
                 clock, seconds, nanos = line.split()
-                if clock == "boottime":
+                if clock in ("boottime", "7"):  # (the first kernels with time namespaces wrote the clock's number)
                     return int(seconds) * 10**9 + int(nanos)
     except FileNotFoundError:  # a kernel without time namespaces
         pass
