@@ -1,12 +1,21 @@
 -- What the calls on leased passes write.
-use Rattle.std.specs.Prelude.{◌≡◌, ℕ, Result, Ok, Err}
+use Rattle.std.specs.Prelude.{◌≡◌, ℕ, Option, Result, Ok, Err}
+use Rattle.sched_ticket_lease.specs.Holders.{Holder}
 use Rattle.sched_ticket_lease.specs.declared.ticket.Ticket.{Ticket}
+use Rattle.sched_handle.specs.Leases.{OnLeased}
 use Rattle.sched_handle.specs.Status.{code_of}
+use Rattle.sched_handle.specs.declared.held.Held.{Held}
 use Rattle.sched_handle.specs.declared.leases.Draw.{Draw}
 use Rattle.sched_handle.specs.declared.leases.Draw.TheVariants.{Got, LeaseWanted, AskAt}
 use Rattle.sched_handle.specs.declared.replies.Standing.{Standing}
 use Rattle.sched_handle.specs.declared.status.Status.{Status}
 use Rattle.sched_handle.specs.declared.status.Status.TheVariants as status
+use Rattle.hikebox_c.specs.Calls.{OnHeld}
+
+-- this is done with the leased pass that a handle holds, and told; an empty handle, or one of another kind, is refused
+abbrev pub OnHolder : {A : Type 0} → (Holder → Result A Status → Holder → Type 0) → Option Held → Option Held →
+    (Result A Status → Type 0) → Type 0
+OnHolder does u w tells = OnHeld (OnLeased does) u w tells
 
 -- a ticket stands in its place, or the moment from which on the store may be asked; nothing else is written
 abbrev pub TellsDraw : ℕ → Ticket → Ticket → ℕ → ℕ → Result Draw Status → Type 0

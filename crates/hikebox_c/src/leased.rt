@@ -2,13 +2,13 @@
 ghost use Rattle.std.specs.Prelude.{◌≡◌, ◌<◌, ◌≤◌, Err};
 ghost use Rattle.sched_time.specs.declared.numbers.TheConstants.{FAR};
 ghost use Rattle.sched_handle.specs.Fills.{Frees};
-ghost use Rattle.sched_handle.specs.Leases.{MakesLeased, OnLeased, DrawsLeased, TakesGrant, LeavesAlone, TakesBack};
+ghost use Rattle.sched_handle.specs.Leases.{MakesLeased, DrawsLeased, TakesGrant, LeavesAlone, TakesBack};
 ghost use Rattle.sched_handle.specs.Leases.{CountsFor, TellsOf, LendsTo, SeesLeased, grant_of};
 ghost use Rattle.sched_handle.specs.Status.{told, code_of};
 ghost use Rattle.sched_handle.specs.declared.held.Kind.TheVariants as kind;
 ghost use Rattle.sched_handle.specs.declared.status.Status.TheVariants as status;
-ghost use Rattle.hikebox_c.specs.Calls.{Tells, OnHeld, Makes};
-ghost use Rattle.hikebox_c.specs.Leased.{TellsDraw, TellsStanding};
+ghost use Rattle.hikebox_c.specs.Calls.{Tells, Makes};
+ghost use Rattle.hikebox_c.specs.Leased.{OnHolder, TellsDraw, TellsStanding};
 
 use sched_handle::{Draw, Granted, Handle, Held, Kind, Status, tell};
 use sched_ticket_lease::{Grant, Ticket};
@@ -34,7 +34,7 @@ pub extern "C" fn hikebox_leased_draw(
     ticket: &mut Ticket,
     again: &mut u64,
 ) -> u32
-    ensures draw { now ≤ FAR → OnHeld (OnLeased (DrawsLeased now)) leased.old.held leased.new.held
+    ensures draw { now ≤ FAR → OnHolder (DrawsLeased now) leased.old.held leased.new.held
         (TellsDraw result ticket.old ticket.new again.old again.new) }
     ensures too_large { FAR < now → (leased.new.held ≡ leased.old.held)
         × TellsDraw result ticket.old ticket.new again.old again.new (Err status.TooLarge) }
@@ -53,7 +53,7 @@ pub extern "C" fn hikebox_leased_draw(
 #[unsafe(no_mangle)]
 pub extern "C" fn hikebox_leased_granted(alloc: Global, leased: &mut Handle, grant: &Granted) -> u32
     ensures takes { grant.now.until ≤ FAR →
-        OnHeld (OnLeased (TakesGrant (grant_of grant.now))) leased.old.held leased.new.held (λ r. result ≡ told r) }
+        OnHolder (TakesGrant (grant_of grant.now)) leased.old.held leased.new.held (λ r. result ≡ told r) }
     ensures too_large { FAR < grant.now.until →
         (leased.new.held ≡ leased.old.held) × (result ≡ code_of status.TooLarge) }
 {
@@ -85,7 +85,7 @@ pub extern "C" fn hikebox_leased_granted(alloc: Global, leased: &mut Handle, gra
 #[unsafe(no_mangle)]
 pub extern "C" fn hikebox_leased_leave_alone(alloc: Global, leased: &mut Handle, until: u64) -> u32
     ensures leaves { until ≤ FAR →
-        OnHeld (OnLeased (LeavesAlone until)) leased.old.held leased.new.held (λ r. result ≡ told r) }
+        OnHolder (LeavesAlone until) leased.old.held leased.new.held (λ r. result ≡ told r) }
     ensures too_large { FAR < until → (leased.new.held ≡ leased.old.held) × (result ≡ code_of status.TooLarge) }
 {
     let Some(until) = Moment::new(until) else {
@@ -108,7 +108,7 @@ pub extern "C" fn hikebox_leased_hand_back(
     leased: &mut Handle,
     ticket: &Ticket,
 ) -> u32
-    ensures { OnHeld (OnLeased (TakesBack ticket.now)) leased.old.held leased.new.held (λ r. result ≡ told r) }
+    ensures { OnHolder (TakesBack ticket.now) leased.old.held leased.new.held (λ r. result ≡ told r) }
 {
     let ticket = *ticket;
     let Some(mut held) = leased.take(alloc) else {
@@ -130,7 +130,7 @@ pub extern "C" fn hikebox_leased_deposit(
     requests: u64,
 ) -> u32
     ensures counts { now ≤ FAR →
-        OnHeld (OnLeased (CountsFor now requests)) leased.old.held leased.new.held (λ r. result ≡ told r) }
+        OnHolder (CountsFor now requests) leased.old.held leased.new.held (λ r. result ≡ told r) }
     ensures too_large { FAR < now → (leased.new.held ≡ leased.old.held) × (result ≡ code_of status.TooLarge) }
 {
     let Some(now) = Moment::new(now) else {
@@ -154,7 +154,7 @@ pub extern "C" fn hikebox_leased_tell(
     since: u64,
     requests: &mut u64,
 ) -> u32
-    ensures tells { since ≤ FAR → OnHeld (OnLeased (TellsOf since)) leased.old.held leased.new.held
+    ensures tells { since ≤ FAR → OnHolder (TellsOf since) leased.old.held leased.new.held
         (Tells result requests.old requests.new) }
     ensures too_large { FAR < since → (leased.new.held ≡ leased.old.held)
         × Tells result requests.old requests.new (Err status.TooLarge) }
@@ -178,7 +178,7 @@ pub extern "C" fn hikebox_leased_seen(
     at_hand: &mut u64,
     untold: &mut u64,
 ) -> u32
-    ensures { OnHeld (OnLeased SeesLeased) leased.old.held leased.new.held
+    ensures { OnHolder SeesLeased leased.old.held leased.new.held
         (TellsStanding result drawn.old drawn.new at_hand.old at_hand.new untold.old untold.new) }
 {
     let Some(mut held) = leased.take(alloc) else {
@@ -204,7 +204,7 @@ pub extern "C" fn hikebox_leased_lend(
     tickets: u64,
     grant: &mut Granted,
 ) -> u32
-    ensures { OnHeld (OnLeased (LendsTo tickets)) leased.old.held leased.new.held (Tells result grant.old grant.new) }
+    ensures { OnHolder (LendsTo tickets) leased.old.held leased.new.held (Tells result grant.old grant.new) }
 {
     let Some(mut held) = leased.take(alloc) else {
         return Status::Empty.code();

@@ -13,7 +13,7 @@ ghost use Rattle.hikebox_c.specs.Retries.{deadline_of, NewRetry, NewRetryBy, Rep
 
 use crate::joins::join_into;
 use sched_effect::Ran;
-use sched_handle::{Handle, Held, Kind, Reply, Status, tell, tick_at};
+use sched_handle::{Handle, Held, Kind, Reply, Status, tell_status, tick_at};
 use sched_time::{Millis, Moment};
 use std::alloc::Global;
 
@@ -135,9 +135,9 @@ fn poll(
     let Some(mut held) = retry.take(alloc) else {
         return Status::Empty.code();
     };
-    let answer = held.poll(alloc, &tick, report);
+    let answer = held.poll(alloc, &tick, report, next);
     retry.put(held);
-    tell(answer, next)
+    tell_status(answer)
 }
 
 // The run that is reported, if any.

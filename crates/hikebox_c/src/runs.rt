@@ -3,12 +3,10 @@ ghost use Rattle.std.specs.Prelude.{◌≡◌, ◌≢◌, ◌<◌, ◌≤◌, Er
 ghost use Rattle.sched_time.specs.declared.numbers.TheConstants.{FAR};
 ghost use Rattle.sched_handle.specs.declared.status.Status.TheVariants as status;
 ghost use Rattle.hikebox_c.specs.Calls.{Tells};
-ghost use Rattle.hikebox_c.specs.Runs.{Rans, RansAt};
+ghost use Rattle.hikebox_c.specs.Runs.{RansAt};
 
 use crate::retries::{REPLY_SIZE, SizedReply, reported};
-use sched_effect::Ran;
-use sched_handle::{Handle, Held, Reply, Status, tell, tick_at};
-use sched_time::Tick;
+use sched_handle::{Handle, Reply, Status, tell_status, tick_at};
 use std::alloc::Global;
 
 /// A run: the moments at which it began and ended, how that is reported, and the random words of the step that follows.
@@ -68,24 +66,7 @@ fn ran(alloc: Global, retry: &mut Handle, run: &Run, next: &mut Reply) -> u32
     let Some(mut held) = retry.take(alloc) else {
         return Status::Empty.code();
     };
-    let answer = poll_both(alloc, &mut held, &began, &ended, report);
+    let answer = held.ran(alloc, &began, &ended, report, next);
     retry.put(held);
-    tell(answer, next)
-}
-
-// Begins a run at the first of these moments where one may begin, and ends it at the second as it is reported.
-#[inline(always)]
-fn poll_both(
-    alloc: Global,
-    held: &mut Held,
-    began: &Tick,
-    ended: &Tick,
-    report: Option<Ran>,
-) -> Result<Reply, Status>
-    ensures { Rans began.entry.now ended.entry.now report held.old result held.new }
-{
-    match held.poll(alloc, began, None) {
-        Ok(_) => held.poll(alloc, ended, report),
-        Err(status) => Err(status),
-    }
+    tell_status(answer)
 }

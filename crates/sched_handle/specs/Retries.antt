@@ -155,6 +155,14 @@ abbrev pub Polls : Tick → Option Ran → Held → Result Reply Status → Held
 Polls t report (Retry m) x v = (n : Hosted) × (v ≡ Retry n) × RetryPolls t report m x n
 Polls t report u x v = OtherKind u x v
 
+-- a run: a poll without a report where it begins, and then one with its report where it ends
+abbrev pub RetryRans : Tick → Tick → Option Ran → Hosted → Result Reply Status → Hosted → Type 0
+RetryRans began ended report m x n = (k : Hosted) × IsPoll m began k × RetryPolls ended report k x n
+
+abbrev pub Rans : Tick → Tick → Option Ran → Held → Result Reply Status → Held → Type 0
+Rans began ended report (Retry m) x v = (n : Hosted) × (v ≡ Retry n) × RetryRans began ended report m x n
+Rans began ended report u x v = OtherKind u x v
+
 -- a retry that is not over ends as cancelled, whichever it is
 pub record GivesUp (m n : Hosted) : Type 0 where
   pub cancels : n ≡ cancelled m

@@ -9,7 +9,6 @@ use sched_run_machine::{Machine, Until};
 use sched_ticket_draws::Drawing;
 use sched_ticket_lease::Leased;
 use std::alloc::Global;
-use std::mem;
 
 /// What a handle holds.
 #[derive(Drop)]
@@ -67,7 +66,7 @@ impl Held {
     pub(crate) fn within(self, mut room: Box<Held>) -> Box<Held>
         ensures { result.value ≡ self }
     {
-        drop(mem::replace(&mut *room, self));
+        *room = self;
         room
     }
 }

@@ -16,5 +16,5 @@ mod status;
 pub use handle::Handle;
 pub use held::{Held, Kind};
 pub use leases::Draw;
-pub use replies::{Granted, Place, Reply, Size, Standing, Usage, tell, tick_at};
+pub use replies::{Granted, Place, Reply, Size, Standing, Usage, tell, tell_status, tick_at};
 pub use status::Status;

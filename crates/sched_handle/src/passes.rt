@@ -1,5 +1,5 @@
 //! Calls on passes.
-ghost use Rattle.std.specs.Prelude.{◌≡◌, true, false, Some, None, IfOk, IfErr, IfSome, IfNone};
+ghost use Rattle.std.specs.Prelude.{◌≡◌, true, false, Some, None, is_some, IfOk, IfErr, IfSome, IfNone};
 ghost use Rattle.std.specs.Borrow.{LendsIfOk, sem};
 ghost use Rattle.sched_ticket_draws.specs.contracts.drawing.Drawing.{the_row as drawing_row};
 ghost use Rattle.sched_handle.specs.Drawing.{Draws, Deposits, HandsBack, SetsTerms, Parted, NoSplit, Raises, Sees};
@@ -184,19 +184,14 @@ impl Held {
         requires one { DrawOnOne (drawing_of self.old) (drawing_of other) }
         ensures { Joins (drawing_of self.old) (drawing_of other) self.new }
     {
-        let Some(other) = other.into_drawing() else {
-            unreachable!()
-        };
+        let other = other.into_drawing();
         if let Held::Pass(pass) = self {
             let this = mem::replace(pass, Drawing::Unlimited(Unlimited::new()));
-            drop(mem::replace(pass, this.join(other)));
+            *pass = this.join(other);
             return;
         }
-        let this = mem::replace(self, Held::Room);
-        let Some(this) = this.into_drawing() else {
-            unreachable!()
-        };
-        drop(mem::replace(self, Held::Pass(this.join(other))));
+        let this = mem::replace(self, Held::Room).into_drawing();
+        *self = Held::Pass(this.join(other));
     }
 
     // What a pass or a retry draws by.
@@ -215,24 +210,19 @@ impl Held {
 
     // The same, taken out of it.
     #[inline(always)]
-    fn into_drawing(self) -> Option<Drawing>
-        ensures { result ≡ drawing_of self }
+    fn into_drawing(self) -> Drawing
+        requires { is_some (drawing_of self) ≡ true }
+        ensures { drawing_of self ≡ Some result }
     {
         match self {
-            Held::Pass(pass) => Some(pass),
+            Held::Pass(pass) => pass,
             Held::Retry(retry) => {
                 let (_, pass) = retry.into_parts();
-                Some(pass)
+                pass
             }
-            Held::Room => None,
-            Held::Policy(policy) => {
-                drop(policy);
-                None
-            }
-            Held::Leased(leased) => {
-                drop(leased);
-                None
-            }
+            Held::Room => unreachable!(),
+            Held::Policy(_) => unreachable!(),
+            Held::Leased(_) => unreachable!(),
         }
     }
 

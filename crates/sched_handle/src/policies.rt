@@ -1,6 +1,5 @@
 //! Calls on policies.
-ghost use Rattle.std.specs.Prelude.{◌≡◌, [], IfOk, IfErr};
-ghost use Rattle.sched_driver_stepper.specs.Standing.{standing_after};
+ghost use Rattle.std.specs.Prelude.{◌≡◌, IfOk, IfErr};
 ghost use Rattle.sched_handle.specs.Held.{Wants, IsOther};
 ghost use Rattle.sched_handle.specs.Policies.{IsMade, ReadsPolicy, TellsPlace, Shares, Sizes, Reads};
 ghost use Rattle.sched_handle.specs.declared.held.Held.TheVariants as what;
@@ -9,7 +8,7 @@ ghost use Rattle.sched_handle.specs.declared.held.Kind.TheVariants as kind;
 use crate::held::Held;
 use crate::replies::{Place, Size};
 use crate::status::Status;
-use sched_driver_stepper::{Compiled, Stepper};
+use sched_driver_stepper::Compiled;
 use sched_plan::{Plan, SharedPlan};
 use sched_plan_bound::most_goes;
 use sched_plan_json::{TextFault, read_text};
@@ -47,8 +46,9 @@ impl Held {
         }
     }
 
-    // The policy, where it is one.
-    fn policy(&self) -> Result<&Compiled, Status>
+    /// The policy, where it is one.
+    #[inline(always)]
+    pub(crate) fn policy(&self) -> Result<&Compiled, Status>
         ensures ok { IfOk result (λ plan. self.now ≡ what.Policy plan.now) }
         ensures err { IfErr result (IsOther kind.Policy self.now) }
     {
@@ -98,18 +98,5 @@ impl Held {
     {
         let plan = self.policy()?.get();
         Ok(reads(plan))
-    }
-
-    /// What steps the policy and keeps no journal, before its first event.
-    #[inline(always)]
-    pub(crate) fn stepper(&self, alloc: Global) -> Result<Stepper, Status>
-        ensures ok { IfOk result
-            (λ stepper. (self.now ≡ what.Policy stepper.plan) × (stepper ≡ standing_after stepper.plan [])) }
-        ensures err { IfErr result (Wants kind.Policy self.now) }
-    {
-        match self.policy()?.stepper(alloc) {
-            Ok(stepper) => Ok(stepper),
-            Err(_) => Err(Status::NoMemory),
-        }
     }
 }

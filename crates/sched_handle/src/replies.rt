@@ -125,3 +125,14 @@ pub fn tell<T: Copy + Drop>(answer: Result<T, Status>, place: &mut T) -> u32
         Err(status) => status.code(),
     }
 }
+
+/// The number of the status of a call that answers nothing else, or that has written what it answers.
+#[inline(always)]
+pub fn tell_status(answer: Result<(), Status>) -> u32
+    ensures { result ≡ told answer }
+{
+    match answer {
+        Ok(()) => 0,
+        Err(status) => status.code(),
+    }
+}

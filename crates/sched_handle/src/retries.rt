@@ -1,8 +1,9 @@
 //! Calls on retries.
-ghost use Rattle.std.specs.Prelude.{◌≡◌, []};
+ghost use Rattle.std.specs.Prelude.{◌≡◌, [], IfErr};
 ghost use Rattle.sched_driver_stepper.specs.Standing.{standing_after};
 ghost use Rattle.sched_handle.specs.Retries.{IsFresh, Retries};
-ghost use Rattle.sched_handle.specs.Retries.{IsPoll, RetryPolls, Polls, Shows, Cancels};
+ghost use Rattle.sched_handle.specs.Replies.{answer_in};
+ghost use Rattle.sched_handle.specs.Retries.{IsPoll, RetryPolls, Polls, Rans, Shows, Cancels};
 ghost use Rattle.sched_handle.specs.Retries.{reply_to, how_number, left_number};
 
 use crate::held::Held;
@@ -28,18 +29,56 @@ impl Held {
     ) -> Result<Box<Held>, Status>
         ensures { Retries deadline policy.now pass.old result pass.new }
     {
-        let stepper = policy.stepper(alloc)?;
+        let plan = policy.policy()?;
         let drawing = pass.pass_mut()?;
+        let Ok(stepper) = plan.stepper(alloc) else {
+            return Err(Status::NoMemory);
+        };
         let (part, room) = split_off(alloc, drawing)?;
         Ok(fresh(stepper, deadline, part).within(room))
     }
 
-    /// Ends the run under way as it is reported, where one is, and begins one where one may begin.
-    pub fn poll(&mut self, alloc: Global, tick: &Tick, report: Option<Ran>) -> Result<Reply, Status>
-        ensures { Polls tick.entry.now report self.old result self.new }
+    /// Ends the run under way as it is reported, where one is, and begins one where one may begin. What the retry is at
+    /// then is written into `next`, which stays as it is where the call is refused.
+    #[inline(always)]
+    pub fn poll(
+        &mut self,
+        alloc: Global,
+        tick: &Tick,
+        report: Option<Ran>,
+        next: &mut Reply,
+    ) -> Result<(), Status>
+        ensures polls { Polls tick.entry.now report self.old (answer_in result next.new) self.new }
+        ensures refused { IfErr result (λ _. next.new ≡ next.old) }
     {
         match self {
-            Held::Retry(retry) => poll_retry(alloc, retry, tick, report),
+            Held::Retry(retry) => poll_retry(alloc, retry, tick, report, next),
+            Held::Room => Err(Status::WrongKind),
+            Held::Policy(_) => Err(Status::WrongKind),
+            Held::Pass(_) => Err(Status::WrongKind),
+            Held::Leased(_) => Err(Status::WrongKind),
+        }
+    }
+
+    /// Begins a run at the first of these moments, where one may begin, and ends it at the second as it is reported.
+    /// What the retry is at then is written into `next`, which stays as it is where the call is refused.
+    #[inline(always)]
+    pub fn ran(
+        &mut self,
+        alloc: Global,
+        began: &Tick,
+        ended: &Tick,
+        report: Option<Ran>,
+        next: &mut Reply,
+    ) -> Result<(), Status>
+        ensures rans { Rans began.entry.now ended.entry.now report self.old (answer_in result next.new) self.new }
+        ensures refused { IfErr result (λ _. next.new ≡ next.old) }
+    {
+        match self {
+            Held::Retry(retry) => {
+                begin_run(retry, began);
+                poll_retry(alloc, retry, ended, report, next)
+            }
             Held::Room => Err(Status::WrongKind),
             Held::Policy(_) => Err(Status::WrongKind),
             Held::Pass(_) => Err(Status::WrongKind),
@@ -76,36 +115,52 @@ fn fresh(stepper: Stepper, deadline: Option<Moment>, drawing: Drawing) -> Held
 }
 
 // Ends the run under way as it is reported, where one is, and begins one where one may begin.
+#[inline(always)]
 fn poll_retry(
     alloc: Global,
     retry: &mut Machine<Until<Stepper>, Drawing>,
     tick: &Tick,
     report: Option<Ran>,
-) -> Result<Reply, Status>
-    ensures { RetryPolls tick.entry.now report retry.old result retry.new }
+    next: &mut Reply,
+) -> Result<(), Status>
+    ensures polls { RetryPolls tick.entry.now report retry.old (answer_in result next.new) retry.new }
+    ensures refused { IfErr result (λ _. next.new ≡ next.old) }
 {
     match report {
-        None => Ok(poll_at(retry, tick)),
+        None => {
+            poll_at(retry, tick, next);
+            Ok(())
+        }
         Some(ran) => {
             if !retry.report(alloc, tick, ran) {
                 return Err(Status::NoRun);
             }
-            Ok(poll_at(retry, tick))
+            poll_at(retry, tick, next);
+            Ok(())
         }
     }
 }
 
-// Begins a run where one may begin, or ends the retry by its deadline, and answers what it is at then.
+// Begins a run where one may begin, or ends the retry by its deadline, and writes what it is at then.
 #[inline(always)]
-fn poll_at(retry: &mut Machine<Until<Stepper>, Drawing>, tick: &Tick) -> Reply
+fn poll_at(retry: &mut Machine<Until<Stepper>, Drawing>, tick: &Tick, next: &mut Reply)
     ensures polls { IsPoll retry.old tick.entry.now retry.new }
-    ensures shows { Shows retry.new tick.entry.now.now result }
+    ensures shows { Shows retry.new tick.entry.now.now next.new }
+{
+    begin_run(retry, tick);
+    *next = reply(retry, tick.now);
+}
+
+// Begins a run where one may begin, or ends the retry by its deadline.
+#[inline(always)]
+fn begin_run(retry: &mut Machine<Until<Stepper>, Drawing>, tick: &Tick)
+    ensures { IsPoll retry.old tick.entry.now retry.new }
 {
     retry.poll(tick);
-    reply(retry, tick.now)
 }
 
 // What the retry is at, at this moment, as C sees it.
+#[inline(always)]
 fn reply(retry: &Machine<Until<Stepper>, Drawing>, now: Moment) -> Reply
     ensures { Shows retry.now now result }
 {

@@ -1,10 +1,12 @@
 -- A whole run steps the retry at its beginning and at its end, with its words and its report, and what comes is told.
-use Rattle.std.proofs.Common.{◌≡◌, ℕ, List, Result, Ok, Err, IfOk, OnErr, refl, subst}
+use Rattle.std.proofs.Common.{◌≡◌, ℕ, List, Result, Ok, Err, IfErr, refl, subst}
 use Rattle.sched_time.specs.declared.numbers.Tick.{Tick}
+use Rattle.sched_handle.specs.Replies.{answer_in}
+use Rattle.sched_handle.specs.Retries.{Rans}
 use Rattle.sched_handle.specs.Status.{told}
 use Rattle.sched_handle.specs.declared.status.Status.{Status}
 use Rattle.hikebox_c.specs.Calls.{Tells}
-use Rattle.hikebox_c.specs.Runs.{Rans, ticked}
+use Rattle.hikebox_c.specs.Runs.{ticked}
 use Rattle.hikebox_c.proofs.runs.ran.Goals as goal
 
 -- a tick is its moment and its words
@@ -12,26 +14,26 @@ tick_is : (t : Tick) (now : ℕ) (words : List ℕ) → t.now ≡ now → t.word
 tick_is t now words at with = rw (← at, ← with) refl
 
 -- what is told of an answer
-tells : {A : Type 0} (r : Result A Status) (code : ℕ) (old new : A) → code ≡ told r → IfOk r (λ x. new ≡ x) →
-    OnErr r (new ≡ old) → Tells code old new r
-tells (Ok x) code old new is ok err = (is, ok)
-tells (Err s) code old new is ok err = (is, err)
+tells : {A : Type 0} (r : Result (Unit {0}) Status) (code : ℕ) (old new : A) → code ≡ told r →
+    IfErr r (λ _. new ≡ old) → Tells code old new (answer_in r new)
+tells (Ok x) code old new is err = (is, refl)
+tells (Err s) code old new is err = (is, err)
 
 pub returns-clause-ran : goal.returns-clause-ran
 returns-clause-ran c = λ _ _.
     let report = c.in-Ok-reported.report in
-    let answer = c.poll_both-answer.result in
-    let left = c.poll_both-answer.new.held in
+    let answer = answer_in c.ran-answer.result c.ran-answer.new.next in
+    let left = c.ran-answer.new.self in
     let run = c.args.run.now in
     let at_ticks : Rans c.in-Ok.began c.in-Ok-tick_at.ended report c.in-Some.held.value answer left =
-    rw (← c.deref_mut.ensures.value) c.poll_both-answer.ensures in
+    rw (← c.deref_mut.ensures.value) c.ran-answer.ensures.rans in
     let begun = subst (λ (t : Tick). Rans t c.in-Ok-tick_at.ended report c.in-Some.held.value answer left)
     (tick_is c.in-Ok.began run.began run.words c.in-Ok.ensures.now c.in-Ok.ensures.words) at_ticks in
     let rans =
     subst (λ (t : Tick). Rans (ticked run.began run.words) t report c.in-Some.held.value answer left)
     (tick_is c.in-Ok-tick_at.ended run.ended run.words c.in-Ok-tick_at.ensures.now c.in-Ok-tick_at.ensures.words)
     begun in
-    let said = tells answer c.tell.result c.args.next.now c.tell.new.place
-    c.tell.ensures.code c.tell.ensures.ok c.tell.ensures.err in
+    let said = tells c.ran-answer.result c.tell_status.result c.args.next.now c.ran-answer.new.next
+    c.tell_status.ensures c.ran-answer.ensures.refused in
     rw (← c.in-Some.ensures.held)
     (Ok report, c.in-Ok-reported.ensures, (answer, left, c.put.ensures, rans, said))

@@ -1,8 +1,8 @@
 -- A poll with a report ends the run under way and then polls; a report of no run is refused.
 use Rattle.sched_handle.proofs.retries.poll_retry.Goals as goal
 
-pub returns-else-not-report : goal.returns-else-not-report
-returns-else-not-report c =
+pub returns-else-not-report-clause-polls : goal.returns-else-not-report-clause-polls
+returns-else-not-report-clause-polls c =
     let after = c.poll_at-in-Some in
     rw c.in-Some.is (
       (
