@@ -734,9 +734,10 @@ HIKEBOX_CHECKED hikebox_status hikebox_throttle_new(uint64_t now, uint32_t ratio
                                                     hikebox_limit *limit);
 
 /*
- * Joins another limit into `limit`, which is asked first; `second` is then empty. From then on both admit a request or
- * grant a retry, or neither is charged: if the second refuses, what the first gave comes back. Put a breaker second,
- * since a probe that it admitted does not come back. HIKEBOX_EMPTY; _WRONG_KIND: one of them is two limits already.
+ * Joins the limits of another handle into `limit`, whose own are asked first; `second` is then empty. From then on all
+ * admit a request or grant a retry, or none is charged: if one refuses, what those before it gave comes back. Put a
+ * breaker last, since a probe that it admitted does not come back. HIKEBOX_EMPTY; _OUT_OF_RANGE: they are more than
+ * four; both handles are then as they were.
  */
 HIKEBOX_CHECKED hikebox_status hikebox_limit_both(hikebox_limit *limit, hikebox_limit *second);
 
@@ -776,6 +777,80 @@ hikebox_status hikebox_limit_ended(hikebox_limit *limit);
 /* Ends the request, if one is under way, and frees the handle. The limit lives as long as it has a handle.
  * HIKEBOX_EMPTY. */
 hikebox_status hikebox_limit_free(hikebox_limit *limit);
+
+/*
+ * Processes share a bucket or a breaker by a store that keeps one word of it. Each call of a request is one step of the
+ * store: the process reads what the store keeps, passes it to one of the two calls below with what the request asks or
+ * tells, and stores what is kept then, with no other step between. It keeps what the request holds itself, from the
+ * request's first call to its last.
+ *
+ *     hikebox_request request = {0};
+ *     hikebox_told told = {HIKEBOX_TELL_DRAW, now(), 5000};
+ *     lock_and_read(&kept);
+ *     status = hikebox_bucket_step(&bucket, &told, &kept, &request, &number);
+ *     write_and_unlock(&kept);
+ *
+ * However the steps of all processes follow one another, they act as one sequence of calls on one limit, also if a
+ * process is killed between two of them. What its request drew of a bucket is then lost, and a probe of a breaker is
+ * over at its deadline. That holds for a store that keeps its word; it does not hold for one that goes back to an
+ * earlier one. The moments of all processes count from one start, such as that of the machine.
+ *
+ * There is no such call for a bound on the retries in flight, where a killed process would hold its place for ever, nor
+ * for a throttle, which has two words.
+ */
+
+/* What a store keeps. Both are 0 for a limit that it doesn't know yet. */
+typedef struct {
+    bool known;
+    uint64_t word;
+} hikebox_kept;
+
+/* What a request holds. All are 0 before its first call. */
+typedef struct {
+    /* Whether it is admitted, and not over. */
+    bool counted;
+    /* Whether its last draw was granted and not cancelled, and what that cost. */
+    bool drew;
+    uint64_t slots;
+    uint64_t cost;
+    /* Which runs are told of: those that were admitted in the same state of the limit. */
+    uint64_t generation;
+} hikebox_request;
+
+/* The calls of a request, as hikebox_limit_admit, _draw, _failed, _succeeded, _cancelled and _ended are made. */
+enum {
+    HIKEBOX_TELL_ADMIT = 0,
+    HIKEBOX_TELL_DRAW = 1,
+    HIKEBOX_TELL_FAILED = 2,
+    HIKEBOX_TELL_SUCCEEDED = 3,
+    HIKEBOX_TELL_CANCELLED = 4,
+    HIKEBOX_TELL_ENDED = 5,
+};
+
+/* One call of a request, at this moment. `cost` is that of a draw. */
+typedef struct {
+    uint32_t call;
+    uint64_t at;
+    uint64_t cost;
+} hikebox_told;
+
+/*
+ * Makes a call of a request on a bucket. `kept` then has what the store must keep, and `request` what the request holds,
+ * also if the call is refused by the limit, that is by _LEVEL_LOW or _OUT_OF_TURN; `number` is then as for a limit in
+ * memory. HIKEBOX_WRONG_SIZE; _OUT_OF_RANGE, of a number of the bucket or of the call; _TOO_LARGE, of the moment;
+ * _LEVEL_LOW; _OUT_OF_TURN.
+ */
+HIKEBOX_CHECKED hikebox_status hikebox_bucket_step(const hikebox_bucket *bucket, const hikebox_told *told,
+                                                   hikebox_kept *kept, hikebox_request *request, uint64_t *number);
+
+/*
+ * The same on a breaker with these `count` open times. HIKEBOX_WRONG_SIZE; _OUT_OF_RANGE, of a number of the breaker or
+ * of the call, and if there are no times, or more than 64; _TOO_LARGE, of the moment; _BREAKER_OPEN; _PROBING;
+ * _OUT_OF_TURN.
+ */
+HIKEBOX_CHECKED hikebox_status hikebox_breaker_step(const hikebox_breaker *breaker, const uint64_t *times, size_t count,
+                                                    const hikebox_told *told, hikebox_kept *kept,
+                                                    hikebox_request *request, uint64_t *number);
 
 /* ---- Retries ----------------------------------------------------------------------------------------------------- */
 

@@ -35,6 +35,9 @@ RATTLE = {
     "&mut Ticket": ["hikebox_ticket *"],
     "&Granted": ["const hikebox_grant *"],
     "&mut Granted": ["hikebox_grant *"],
+    "&ToldGiven": ["const hikebox_told *"],
+    "&mut KeptGiven": ["hikebox_kept *"],
+    "&mut HeldGiven": ["hikebox_request *"],
     "u64": ["uint64_t"],
     "u32": ["uint32_t"],
     "bool": ["bool"],
@@ -58,6 +61,9 @@ STRUCTS = {
     "Range": "hikebox_range",
     "Ticket": "hikebox_ticket",
     "Granted": "hikebox_grant",
+    "ToldGiven": "hikebox_told",
+    "KeptGiven": "hikebox_kept",
+    "HeldGiven": "hikebox_request",
 }
 #: The crate whose calls are exported as they are.
 CALLS = ("sched_storm_call",)

@@ -1,4 +1,4 @@
-// Limits: rows worked out by hand, each refusal, two limits at once, and eight threads that count.
+// Limits: rows worked out by hand, each refusal, several limits at once, a store's, and eight threads that count.
 #include "checks.h"
 #include <pthread.h>
 
@@ -139,8 +139,6 @@ static void pairs(void) {
     wants(hikebox_limit_both(&empty, &both), HIKEBOX_EMPTY);
     wants(hikebox_limit_both(&both, &breaker), HIKEBOX_OK);
     holds(both.held && !breaker.held);
-    wants(hikebox_limit_both(&alone, &both), HIKEBOX_WRONG_KIND);
-    wants(hikebox_limit_both(&both, &alone), HIKEBOX_WRONG_KIND);
     admits(&both, 0, HIKEBOX_OK, 0);
     wants(hikebox_limit_failed(&both, 0), HIKEBOX_OK);
     wants(hikebox_limit_ended(&both), HIKEBOX_OK);
@@ -153,6 +151,132 @@ static void pairs(void) {
     wants(hikebox_limit_free(&breaker), HIKEBOX_OK);
     wants(hikebox_limit_free(&alone), HIKEBOX_OK);
     wants(hikebox_limit_free(&both), HIKEBOX_OK);
+}
+
+// Up to four are joined, in any order. What the first three granted comes back where the fourth refuses.
+static void four(void) {
+    hikebox_breaker terms = {sizeof terms, 1, 1, 1000};
+    hikebox_bucket token = {sizeof token, 1000, 0, 0, 0, false};
+    hikebox_limit first = HIKEBOX_INIT, flights = HIKEBOX_INIT, second = HIKEBOX_INIT, breaker = HIKEBOX_INIT;
+    hikebox_limit alone[3] = {HIKEBOX_INIT, HIKEBOX_INIT, HIKEBOX_INIT}, opens = HIKEBOX_INIT;
+    wants(hikebox_bucket_new(&token, &first), HIKEBOX_OK);
+    wants(hikebox_in_flight_new(1, 0, &flights), HIKEBOX_OK);
+    wants(hikebox_bucket_new(&token, &second), HIKEBOX_OK);
+    wants(hikebox_breaker_new(0, &terms, open_times, 1, &breaker), HIKEBOX_OK);
+    wants(hikebox_limit_split(&first, &alone[0]), HIKEBOX_OK);
+    wants(hikebox_limit_split(&flights, &alone[1]), HIKEBOX_OK);
+    wants(hikebox_limit_split(&second, &alone[2]), HIKEBOX_OK);
+    wants(hikebox_limit_split(&breaker, &opens), HIKEBOX_OK);
+    wants(hikebox_limit_both(&second, &breaker), HIKEBOX_OK);
+    wants(hikebox_limit_both(&flights, &second), HIKEBOX_OK);
+    wants(hikebox_limit_both(&first, &flights), HIKEBOX_OK);
+    holds(first.held && !flights.held && !second.held && !breaker.held);
+    admits(&first, 0, HIKEBOX_OK, 0);
+    admits(&opens, 0, HIKEBOX_OK, 0);
+    wants(hikebox_limit_failed(&opens, 0), HIKEBOX_OK);
+    draws(&first, 0, 1000, HIKEBOX_BREAKER_OPEN, 100);
+    wants(hikebox_limit_ended(&first), HIKEBOX_OK);
+    for (int at = 0; at < 3; at++) {
+        admits(&alone[at], 0, HIKEBOX_OK, 0);
+        draws(&alone[at], 0, 1000, HIKEBOX_OK, 0);
+    }
+    // A fifth is refused, and both handles are as they were.
+    wants(hikebox_limit_both(&first, &opens), HIKEBOX_OUT_OF_RANGE);
+    wants(hikebox_limit_both(&opens, &first), HIKEBOX_OUT_OF_RANGE);
+    holds(first.held && opens.held);
+    draws(&first, 0, 0, HIKEBOX_OUT_OF_TURN, 0);
+    wants(hikebox_limit_free(&first), HIKEBOX_OK);
+    wants(hikebox_limit_free(&opens), HIKEBOX_OK);
+    for (int at = 0; at < 3; at++)
+        wants(hikebox_limit_free(&alone[at]), HIKEBOX_OK);
+}
+
+// What a store keeps of a limit, and a call of a request there.
+static hikebox_kept store;
+
+static void steps_bucket(hikebox_request *request, uint32_t call, uint64_t cost, hikebox_status wanted, uint64_t says) {
+    hikebox_bucket aws = HIKEBOX_BUCKET_AWS;
+    hikebox_told told = {call, 0, cost};
+    uint64_t number = 77;
+    wants(hikebox_bucket_step(&aws, &told, &store, request, &number), wanted);
+    holds(number == (wanted == HIKEBOX_OK || wanted == HIKEBOX_OUT_OF_RANGE ? 77 : says) && store.known);
+}
+
+static void steps_breaker(hikebox_request *request, uint32_t call, uint64_t now, hikebox_status wanted, uint64_t says) {
+    hikebox_breaker terms = {sizeof terms, 2, 1, 1000};
+    hikebox_told told = {call, now, 0};
+    uint64_t number = 77;
+    wants(hikebox_breaker_step(&terms, open_times, 3, &told, &store, request, &number), wanted);
+    holds(number == (wanted == HIKEBOX_OK ? 77 : says));
+}
+
+// The rows of the AWS SDKs' bucket and of a breaker, in a store; and a process that is killed.
+static void kept(void) {
+    hikebox_request one = {0}, two = {0}, killed;
+    store = (hikebox_kept){0};
+    steps_bucket(&one, HIKEBOX_TELL_DRAW, 5000, HIKEBOX_OUT_OF_TURN, 0);
+    steps_bucket(&one, HIKEBOX_TELL_ADMIT, 0, HIKEBOX_OK, 0);
+    steps_bucket(&one, HIKEBOX_TELL_ADMIT, 0, HIKEBOX_OUT_OF_TURN, 0);
+    steps_bucket(&one, HIKEBOX_TELL_DRAW, 10000, HIKEBOX_OK, 0);
+    steps_bucket(&two, HIKEBOX_TELL_ADMIT, 0, HIKEBOX_OK, 0);
+    steps_bucket(&two, HIKEBOX_TELL_DRAW, 500000, HIKEBOX_LEVEL_LOW, 490000);
+    steps_bucket(&one, HIKEBOX_TELL_SUCCEEDED, 0, HIKEBOX_OK, 0);
+    steps_bucket(&one, HIKEBOX_TELL_ENDED, 0, HIKEBOX_OK, 0);
+    holds(!one.counted && !one.drew);
+    steps_bucket(&two, HIKEBOX_TELL_DRAW, 5000, HIKEBOX_OK, 0);
+    steps_bucket(&two, HIKEBOX_TELL_CANCELLED, 0, HIKEBOX_OK, 0);
+    steps_bucket(&two, HIKEBOX_TELL_CANCELLED, 0, HIKEBOX_OK, 0);
+    steps_bucket(&two, HIKEBOX_TELL_DRAW, 500001, HIKEBOX_LEVEL_LOW, 500000);
+    // One that is killed tells nothing more, and what it drew is lost.
+    steps_bucket(&two, HIKEBOX_TELL_DRAW, 400000, HIKEBOX_OK, 0);
+    steps_bucket(&one, HIKEBOX_TELL_ADMIT, 0, HIKEBOX_OK, 0);
+    steps_bucket(&one, HIKEBOX_TELL_DRAW, 100001, HIKEBOX_LEVEL_LOW, 100000);
+    steps_bucket(&one, 6, 0, HIKEBOX_OUT_OF_RANGE, 0);
+
+    store = (hikebox_kept){0};
+    one = two = (hikebox_request){0};
+    steps_breaker(&one, HIKEBOX_TELL_ADMIT, 0, HIKEBOX_OK, 0);
+    killed = one;
+    steps_breaker(&one, HIKEBOX_TELL_FAILED, 0, HIKEBOX_OK, 0);
+    steps_breaker(&one, HIKEBOX_TELL_FAILED, 10, HIKEBOX_OK, 0);
+    steps_breaker(&two, HIKEBOX_TELL_ADMIT, 109, HIKEBOX_BREAKER_OPEN, 110);
+    steps_breaker(&two, HIKEBOX_TELL_ADMIT, 110, HIKEBOX_OK, 0);
+    steps_breaker(&one, HIKEBOX_TELL_DRAW, 111, HIKEBOX_PROBING, 0);
+    steps_breaker(&two, HIKEBOX_TELL_FAILED, 120, HIKEBOX_OK, 0);
+    steps_breaker(&two, HIKEBOX_TELL_ENDED, 120, HIKEBOX_OK, 0);
+    steps_breaker(&one, HIKEBOX_TELL_DRAW, 319, HIKEBOX_BREAKER_OPEN, 320);
+    // A probe that is killed is over at its deadline.
+    steps_breaker(&one, HIKEBOX_TELL_DRAW, 320, HIKEBOX_OK, 0);
+    steps_breaker(&two, HIKEBOX_TELL_DRAW, 1319, HIKEBOX_OUT_OF_TURN, 0);
+    steps_breaker(&two, HIKEBOX_TELL_ADMIT, 1319, HIKEBOX_PROBING, 0);
+    steps_breaker(&two, HIKEBOX_TELL_ADMIT, 1320, HIKEBOX_OK, 0);
+    steps_breaker(&killed, HIKEBOX_TELL_FAILED, 1321, HIKEBOX_OK, 0);
+    steps_breaker(&two, HIKEBOX_TELL_SUCCEEDED, 1322, HIKEBOX_OK, 0);
+    steps_breaker(&one, HIKEBOX_TELL_DRAW, 1323, HIKEBOX_OK, 0);
+}
+
+// Terms, moments and calls that there are not.
+static void steps_refused(void) {
+    hikebox_bucket bucket = HIKEBOX_BUCKET_AWS;
+    hikebox_breaker breaker = HIKEBOX_BREAKER;
+    hikebox_told told = {HIKEBOX_TELL_ADMIT, UINT64_MAX, 0};
+    hikebox_kept nothing = {0};
+    hikebox_request request = {0};
+    uint64_t number = 7;
+    bucket.size++;
+    wants(hikebox_bucket_step(&bucket, &told, &nothing, &request, &number), HIKEBOX_WRONG_SIZE);
+    bucket.size--;
+    wants(hikebox_bucket_step(&bucket, &told, &nothing, &request, &number), HIKEBOX_TOO_LARGE);
+    bucket.floor = 500001;
+    wants(hikebox_bucket_step(&bucket, &told, &nothing, &request, &number), HIKEBOX_OUT_OF_RANGE);
+    breaker.size--;
+    wants(hikebox_breaker_step(&breaker, open_times, 0, &told, &nothing, &request, &number), HIKEBOX_WRONG_SIZE);
+    breaker.size++;
+    wants(hikebox_breaker_step(&breaker, open_times, 0, &told, &nothing, &request, &number), HIKEBOX_OUT_OF_RANGE);
+    wants(hikebox_breaker_step(&breaker, open_times, 3, &told, &nothing, &request, &number), HIKEBOX_TOO_LARGE);
+    told.call = 6;
+    wants(hikebox_breaker_step(&breaker, open_times, 3, &told, &nothing, &request, &number), HIKEBOX_OUT_OF_RANGE);
+    holds(!nothing.known && !nothing.word && !request.counted && number == 7);
 }
 
 // What is refused changes nothing.
@@ -292,6 +416,9 @@ int limits(void) {
     breakers();
     throttles();
     pairs();
+    four();
+    kept();
+    steps_refused();
     refusals();
     races();
     return wrong;

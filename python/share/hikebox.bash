@@ -5,8 +5,8 @@
 _hikebox_options() {
   case $1 in
     run)
-      echo --policy:file --budget:text --quota:text --on:text --timeout:text --kill-after:text --deadline:text \
-        --replay-input --last-output --output-limit:text --verbose -v --quiet -q
+      echo --policy:file --budget:text --quota:text --limit:text --open:file --on:text --timeout:text \
+        --kill-after:text --deadline:text --replay-input --last-output --output-limit:text --verbose -v --quiet -q
       ;;
     plan)
       echo --steps:text --from:text --took:text --input:text --inputs:text --word:text --words:text --svg:file --width:text

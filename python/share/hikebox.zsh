@@ -25,8 +25,10 @@ case $state in
       run)
         _arguments -S '(- *)'{-h,--help}'[print help]' \
           '--policy[when to run it again]:policy:_files' \
-          '(--quota)--budget[at most so many retries, over all runs that name the folder]:N or N@FOLDER:' \
-          '(--budget)--quota[so many retries in each period, and a share of the runs]:RESERVE/SHARE%/PERIOD@FOLDER:' \
+          '(--quota --limit)--budget[at most so many retries, over all runs that name the folder]:N or N@FOLDER:' \
+          '(--budget --limit)--quota[so many retries in each period, and a share of the runs]:RESERVE/SHARE%/PERIOD@FOLDER:' \
+          '(--budget --quota)--limit[a bucket or a breaker, over all runs that name it and the folder]:LIMIT@FOLDER:' \
+          '--open[how long a breaker is open]:policy:_files' \
           '--on[retry only these statuses]:statuses, as 1,3-5:' \
           '--timeout[how long an attempt may take]:seconds:' \
           '--kill-after[how long after SIGTERM a SIGKILL follows]:seconds:' \

@@ -18,7 +18,7 @@ from conftest import TOP, python_environment
 #: Libraries that are no package of Debian 12: their blocks are run where they are installed, and else read.
 NOT_DEBIANS = ["opentelemetry"]
 
-PAGES = ["docs/PYTHON.md", "docs/FROM-TENACITY.md", "docs/MACHINES.md", "python/README.md"]
+PAGES = ["docs/PYTHON.md", "docs/LIMITS.md", "docs/FROM-TENACITY.md", "docs/MACHINES.md", "python/README.md"]
 
 
 def blocks(page: str) -> List[Tuple[str, str, int]]:

@@ -13,7 +13,7 @@ from typing import Any, Dict, List, Tuple
 import pytest
 from conftest import TOP, python_environment
 
-from hikebox._engine import calls, leasing, limits, structs
+from hikebox._engine import calls, kept, leasing, limits, structs
 from hikebox._engine.handles import Handle, Pass, PolicyHandle
 from hikebox._engine.machine import Machine
 from hikebox.errors import EngineError
@@ -47,6 +47,9 @@ TYPES: Dict[str, Any] = {
     "hikebox_range *": (ctypes.POINTER(structs.Range),),
     **{f"{const}hikebox_ticket *": (ctypes.POINTER(structs.LeasedTicket),) for const in ("", "const ")},
     "const hikebox_grant *": (ctypes.POINTER(structs.Grant),),
+    "const hikebox_told *": (ctypes.POINTER(structs.Told),),
+    "hikebox_kept *": (ctypes.POINTER(structs.Kept),),
+    "hikebox_request *": (ctypes.POINTER(structs.HeldRequest),),
     **{f"hikebox_{kind} *": (ctypes.POINTER(Handle),) for kind in ("policy", "pass", "leased", "limit", "retry")},
 }
 
@@ -67,7 +70,7 @@ def header() -> str:
 
 def test_the_signatures_are_those_of_the_header() -> None:
     declared: Dict[str, Tuple[Any, ...]] = {}
-    signatures = {**calls.SIGNATURES, **leasing.SIGNATURES, **limits.SIGNATURES}
+    signatures = {**calls.SIGNATURES, **kept.SIGNATURES, **leasing.SIGNATURES, **limits.SIGNATURES}
     for name, parameters in re.findall(r"hikebox_status (hikebox_\w+)\((.*?)\);", header(), flags=re.S):
         if name not in signatures:
             continue
@@ -99,6 +102,7 @@ def test_the_structures_are_those_of_the_header() -> None:
     kinds.update({"window": structs.Window, "totals": structs.Totals})
     kinds.update({"stored": structs.Stored, "asking": structs.Asking, "range": structs.Range})
     kinds.update({"ticket": structs.LeasedTicket, "grant": structs.Grant})
+    kinds.update({"told": structs.Told, "kept": structs.Kept, "request": structs.HeldRequest})
     for name, kind in kinds.items():
         assert [(field, CTYPES[word]) for word, field in found[f"hikebox_{name}"]] == list(kind._fields_)
 
@@ -118,6 +122,8 @@ def test_the_numbers_are_those_of_the_header() -> None:
         + ["NO_REPORT", "WON", "LOST", "POLL", "RUN", "WAIT", "OVER", "ON_NOTHING", "ON_BUDGET", "ON_QUOTA"]
     ):
         assert int(numbers[name]) == getattr(calls, name), name
+    for name in ("ADMIT", "DRAW", "FAILED", "SUCCEEDED", "CANCELLED"):
+        assert int(numbers[f"TELL_{name}"]) == getattr(kept, name), name
     from hikebox.retry.state import ENDINGS, Ending
 
     endings = {name: int(number) for name, number in numbers.items() if name.startswith("ENDED_")}

@@ -1,4 +1,4 @@
-"""Limits: rows worked by hand, calls under each limit, two at once, and eight threads that count."""
+"""Limits: rows worked by hand, calls under each limit, several at once, and eight threads that count."""
 
 from __future__ import annotations
 
@@ -174,6 +174,29 @@ def test_a_bucket_gets_back_what_the_second_limit_refuses() -> None:
     assert admitted(bucket).draw() is None
 
 
+def test_what_the_last_of_four_refuses_comes_back_to_all() -> None:
+    bucket, flights, second = Bucket(1, cost=1), InFlight(1, 0), Bucket(1, cost=1)
+    breaker = Breaker(1, spaced(30))
+    limit = both(both(bucket, flights), both(second, breaker))
+    request = admitted(limit)
+    admitted(breaker).failed()
+    assert reason(request.draw()) is RefusalReason.BREAKER_OPEN
+    # (a slot is held until its request's next draw or its end, and a token comes back where its draw is cancelled)
+    assert reason(admitted(flights).draw()) is RefusalReason.RETRIES_FULL
+    request.ended()
+    assert admitted(flights).draw() is None
+    assert admitted(bucket).draw() is None and admitted(second).draw() is None
+    assert reason(limit.request().admit()) is RefusalReason.BREAKER_OPEN
+
+
+def test_limits_join_up_to_four() -> None:
+    one, two, three = InFlight(1, 0), Bucket.aws(), Throttle(2, 60)
+    assert repr(both(both(one, two), three)) == repr(both(one, both(two, three))) == repr(both(one, two, three))
+    assert both(both(one, two), both(three, one)).request().admit() is None
+    with pytest.raises(TermsError, match="at most 4 limits, got 5"):
+        both(one, two, three, both(one, two))
+
+
 # Calls
 
 
@@ -304,6 +327,13 @@ def test_each_token_is_drawn_once() -> None:
     assert race(Bucket(5000, cost=1), 1000) == 5000
 
 
+def test_three_at_once_draw_each_token_once() -> None:
+    flights = InFlight(0, 1)
+    assert race(both(flights, Bucket(5000, cost=1), InFlight(2**32 - 1, 0)), 1000) == 5000
+    # no retry is in flight any more
+    assert admitted(flights).draw() is None
+
+
 def test_each_slot_comes_back() -> None:
     limit = InFlight(0, 0.5)
     assert race(limit, 1000) <= THREADS * 1000
@@ -410,8 +440,8 @@ def test_misuse() -> None:
         request.draw()
     with pytest.raises(TypeError, match="request"):
         breaker.draw()
-    with pytest.raises(TypeError, match="single limits"):
-        both(breaker, both(breaker, breaker))
+    with pytest.raises(TypeError, match="expected a Bucket, an InFlight, a Breaker or a Throttle, got 'aws'"):
+        both(breaker, "aws")  # type: ignore[arg-type]
     with pytest.raises(TypeError, match="belongs to its process"):
         pickle.dumps(breaker)
 

@@ -138,6 +138,24 @@ fn both_or_neither() {
     let beside = admitted(&flights);
     assert_eq!(refused(&mut alone), None);
     drop(beside);
+}
+
+// The last of four refuses a retry, and what the others granted comes back.
+#[test]
+fn four_or_none() {
+    let token = || CallLimit::new(Bucket { capacity: 1.0, cost: 1.0, ..Bucket::default() }).unwrap();
+    let (first, second) = (token(), token());
+    let flights = CallLimit::new(InFlight { least: 1, share: 0.0 }).unwrap();
+    let breaker = CallLimit::new(Breaker::consecutive(1, policy(r#"{"spaced":30000}"#))).unwrap();
+    let limit = both(&both(&first, &flights).unwrap(), &both(&second, &breaker).unwrap()).unwrap();
+    let mut request = admitted(&limit);
+    admitted(&breaker).failed();
+    assert_eq!(refused(&mut request), Some(BreakerOpen));
+    drop(request);
+    for each in [&first, &second, &flights] {
+        assert_eq!(refused(&mut admitted(each)), None);
+    }
+    assert_eq!(limit.request().unwrap().admit().unwrap_err().reason(), BreakerOpen);
     assert_eq!(both(&limit, &flights).unwrap_err(), BudgetError::OutOfRange);
 }
 
@@ -202,6 +220,14 @@ fn eight_threads_draw_each_token_once() {
 }
 
 #[test]
+fn eight_threads_draw_each_token_of_three_limits_once() {
+    let bucket = CallLimit::new(Bucket { capacity: 50_000.0, cost: 1.0, ..Bucket::default() }).unwrap();
+    let flights = CallLimit::new(InFlight { least: 8, share: 1.0 }).unwrap();
+    let breaker = CallLimit::new(Breaker::consecutive(1, policy("\"forever\""))).unwrap();
+    assert_eq!(race(&both(&both(&bucket, &flights).unwrap(), &breaker).unwrap(), 10_000), 50_000);
+}
+
+#[test]
 fn eight_threads_give_each_slot_back() {
     let limit = CallLimit::new(InFlight { least: 0, share: 0.5 }).unwrap();
     assert!(race(&limit, 10_000) <= 80_000);
@@ -237,7 +263,7 @@ fn terms_out_of_range() {
     out(CallLimit::new(Bucket { capacity: -1.0, ..Bucket::default() }));
     out(CallLimit::new(Bucket { cost: f64::NAN, ..Bucket::aws() }));
     out(CallLimit::new(Bucket::grpc(1, 1.5)));
-    out(CallLimit::new(InFlight { least: 0, share: 5e6 }));
+    out(CallLimit::new(InFlight { least: 0, share: 1.5 }));
     out(CallLimit::new(Breaker::consecutive(0, policy("\"forever\""))));
     out(CallLimit::new(Breaker::consecutive(1, policy(r#"{"recurs":0}"#))));
     out(CallLimit::new(Breaker { probes: 16, ..Breaker::consecutive(1, policy("\"forever\"")) }));

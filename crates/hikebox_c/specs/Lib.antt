@@ -10,3 +10,4 @@ pub mod Leases
 pub mod Leased
 pub mod Limits
 pub mod LimitTerms
+pub mod Kept

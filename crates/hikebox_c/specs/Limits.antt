@@ -1,15 +1,14 @@
 -- What the calls on limits do, tell and leave, by what their handles held before.
-use Rattle.std.specs.Prelude.{◌≡◌, ℕ, Option, Some, None, is_some, MatchBool, Result, Ok, Err}
+use Rattle.std.specs.Prelude.{◌≡◌, ◌⊎◌, ℕ, ◌+◌, ◌<◌, ◌≤◌, Option, Some, None, is_some, MatchBool, Result, Ok, Err}
 use Rattle.std.specs.Global.{Global}
 use Rattle.std_alloc.specs.declared.boxed.Box.{Box}
 use Rattle.sched_limit_request.specs.Asks.{Answer}
 use Rattle.sched_limit_handle.specs.Fills.{Fills}
-use Rattle.sched_limit_handle.specs.Held.{SplitsHeld}
+use Rattle.sched_limit_handle.specs.Held.{SplitsHeld, count, joined}
 use Rattle.sched_limit_handle.specs.Status.{code_of, refused_as, number_of}
 use Rattle.sched_limit_handle.specs.declared.held.Held.{Held}
-use Rattle.sched_limit_handle.specs.declared.held.Held.TheVariants.{One, Two}
 use Rattle.sched_limit_handle.specs.declared.status.Status.{Status}
-use Rattle.sched_limit_handle.specs.declared.status.Status.TheVariants.{Empty, Full, WrongKind}
+use Rattle.sched_limit_handle.specs.declared.status.Status.TheVariants.{Empty, Full, OutOfRange}
 
 -- what was made is put into a handle, which is refused where it is full
 abbrev pub MakesLimit : (Result (Box Held Global) Status → Type 0) → Option Held → ℕ → Option Held → Type 0
@@ -44,13 +43,13 @@ PartsHeld source left u code v = MatchBool (is_some u)
     ((left ≡ source) × Fills (Err Full) u code v)
     (PartsOf source left u code v)
 
--- two limits are held at once by the first handle, and the second is empty; a handle that is empty, or holds two, is
--- refused, and both are as they were
+-- the limits of both handles are held by the first one, and the second is empty; a handle that is empty is refused, and
+-- so are more than four limits, and both are as they were
 abbrev pub NoneJoined : Option Held → Option Held → Status → ℕ → Option Held → Option Held → Type 0
 NoneJoined u v why code w x = (w ≡ u) × (x ≡ v) × (code ≡ code_of why)
 
 abbrev pub JoinsHeld : Option Held → Option Held → ℕ → Option Held → Option Held → Type 0
-JoinsHeld (Some (One a)) (Some (One b)) code w x =
-    (w ≡ Some (Two (record { first = a; second = b }))) × (x ≡ None) × (code ≡ 0)
-JoinsHeld (Some u) (Some v) code w x = NoneJoined (Some u) (Some v) WrongKind code w x
+JoinsHeld (Some u) (Some v) code w x =
+    ((count u + count v ≤ 4) × (w ≡ Some (joined u v)) × (x ≡ None) × (code ≡ 0))
+    ⊎ ((4 < count u + count v) × NoneJoined (Some u) (Some v) OutOfRange code w x)
 JoinsHeld u v code w x = NoneJoined u v Empty code w x

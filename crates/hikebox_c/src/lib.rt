@@ -5,6 +5,7 @@
 
 mod courses;
 mod joins;
+mod kept;
 mod leased;
 mod leases;
 mod limits;

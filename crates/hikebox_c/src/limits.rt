@@ -28,7 +28,7 @@ pub struct BucketGiven {
 }
 
 // The size of it.
-const BUCKET_SIZE: usize = 48;
+pub(crate) const BUCKET_SIZE: usize = 48;
 
 /// A breaker without its open times, as C gives it.
 #[repr(C)]
@@ -41,7 +41,10 @@ pub struct BreakerGiven {
 }
 
 // The size of it.
-const BREAKER_SIZE: usize = 32;
+pub(crate) const BREAKER_SIZE: usize = 32;
+
+// How many limits a handle holds at most.
+const MOST: u64 = 4;
 
 #[unsafe(no_mangle)]
 pub extern "C" fn hikebox_bucket_new(alloc: Global, terms: &BucketGiven, limit: &mut Handle) -> u32
@@ -56,15 +59,21 @@ pub extern "C" fn hikebox_bucket_new(alloc: Global, terms: &BucketGiven, limit: 
     if limit.is_full(alloc) {
         return Status::Full.code();
     }
-    let terms = Bucket {
+    let made = Held::bucket(alloc, bucket_of(terms));
+    limit.fill(made)
+}
+
+// A bucket of these terms.
+pub(crate) fn bucket_of(terms: &BucketGiven) -> Bucket
+    ensures { result ≡ bucket_of terms.now }
+{
+    Bucket {
         capacity: terms.capacity,
         floor: terms.floor,
         debit: terms.debit,
         credit: terms.credit,
         refund: terms.refund,
-    };
-    let made = Held::bucket(alloc, terms);
-    limit.fill(made)
+    }
 }
 
 #[unsafe(no_mangle)]
@@ -127,7 +136,7 @@ fn breaker(
 }
 
 // The terms of a breaker and its open times, if there is such a breaker.
-fn breaker_of(now: Moment, terms: &BreakerGiven, times: &[u64]) -> Option<Breaker>
+pub(crate) fn breaker_of(now: Moment, terms: &BreakerGiven, times: &[u64]) -> Option<Breaker>
     ensures { IfSome result (IsBreakerOf now terms.now (length times.now)) }
 {
     let Ok(failures) = u32::try_from(terms.failures) else {
@@ -208,10 +217,10 @@ pub extern "C" fn hikebox_limit_both(alloc: Global, limit: &mut Handle, second: 
         limit.put(first);
         return Status::Empty.code();
     };
-    if !first.is_one() || !other.is_one() {
+    if first.count() + other.count() > MOST {
         limit.put(first);
         second.put(other);
-        return Status::WrongKind.code();
+        return Status::OutOfRange.code();
     }
     first.join(Box::into_inner(other));
     limit.put(first);
@@ -346,7 +355,7 @@ pub extern "C" fn hikebox_limit_free(alloc: Global, limit: &mut Handle) -> u32
 }
 
 // The number of a status, where a call is refused, and what the refusal says.
-fn tell_refusal(answer: Result<(), Refusal>, number: &mut u64) -> u32
+pub(crate) fn tell_refusal(answer: Result<(), Refusal>, number: &mut u64) -> u32
     ensures { TellsRefusal result number.old number.new answer }
 {
     match answer {

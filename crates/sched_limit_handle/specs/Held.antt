@@ -1,5 +1,5 @@
--- What a handle holds, one limit or two at once, how it is made, split and joined.
-use Rattle.std.specs.Prelude.{◌≡◌, ◌⊎◌, ℕ, Bool, true, false, Result, Ok, Err}
+-- What a handle holds, one limit or up to four at once, how it is made, split and joined.
+use Rattle.std.specs.Prelude.{◌≡◌, ◌⊎◌, ℕ, Result, Ok, Err}
 use Rattle.std.specs.Global.{Global}
 use Rattle.std_alloc.specs.declared.boxed.Box.{Box}
 use Rattle.sched_limit.specs.Bucket.{AreTerms}
@@ -14,12 +14,18 @@ use Rattle.sched_limit_handle.specs.AnyLimit.{any_asked}
 use Rattle.sched_limit_handle.specs.declared.any_limit.AnyLimit.{AnyLimit}
 use Rattle.sched_limit_handle.specs.declared.any_limit.AnyLimit.TheVariants as any
 use Rattle.sched_limit_handle.specs.declared.held.Held.{Held}
-use Rattle.sched_limit_handle.specs.declared.held.Held.TheVariants.{Unlimited, One, Two}
+use Rattle.sched_limit_handle.specs.declared.held.Held.TheVariants.{Unlimited, One, Two, Three, Four}
 use Rattle.sched_limit_handle.specs.declared.status.Status.{Status}
 use Rattle.sched_limit_handle.specs.declared.status.Status.TheVariants.{NoMemory, OutOfRange, TooManyPasses}
 
-abbrev pub pair_asked : Asked (Both AnyLimit AnyLimit)
-pair_asked = both_asked any_asked any_asked
+abbrev pub two_asked : Asked (Both AnyLimit AnyLimit)
+two_asked = both_asked any_asked any_asked
+
+abbrev pub three_asked : Asked (Both (Both AnyLimit AnyLimit) AnyLimit)
+three_asked = both_asked two_asked any_asked
+
+abbrev pub four_asked : Asked (Both (Both (Both AnyLimit AnyLimit) AnyLimit) AnyLimit)
+four_asked = both_asked three_asked any_asked
 
 -- after a call it is as many limits as before, and this is true of what they were and are
 abbrev pub AsMany : {D : Type 0} → (D → Held) → Held → (D → Type 0) → Type 0
@@ -28,37 +34,51 @@ AsMany {D} held v P = (e : D) × (v ≡ held e) × P e
 abbrev pub HeldAdmits : Held → ℕ → ℕ → Answer → Held → Type 0
 HeldAdmits Unlimited now random r v = (r ≡ Ok tt) × (v ≡ Unlimited)
 HeldAdmits (One d) now random r v = AsMany One v (any_asked.admits d now random r)
-HeldAdmits (Two d) now random r v = AsMany Two v (pair_asked.admits d now random r)
+HeldAdmits (Two d) now random r v = AsMany Two v (two_asked.admits d now random r)
+HeldAdmits (Three d) now random r v = AsMany Three v (three_asked.admits d now random r)
+HeldAdmits (Four d) now random r v = AsMany Four v (four_asked.admits d now random r)
 
 abbrev pub HeldDraws : Held → ℕ → ℕ → ℕ → Answer → Held → Type 0
 HeldDraws Unlimited now cost random r v = (r ≡ Ok tt) × (v ≡ Unlimited)
 HeldDraws (One d) now cost random r v = AsMany One v (any_asked.draws d now cost random r)
-HeldDraws (Two d) now cost random r v = AsMany Two v (pair_asked.draws d now cost random r)
+HeldDraws (Two d) now cost random r v = AsMany Two v (two_asked.draws d now cost random r)
+HeldDraws (Three d) now cost random r v = AsMany Three v (three_asked.draws d now cost random r)
+HeldDraws (Four d) now cost random r v = AsMany Four v (four_asked.draws d now cost random r)
 
 abbrev pub HeldFails : Held → ℕ → Held → Type 0
 HeldFails Unlimited now v = v ≡ Unlimited
 HeldFails (One d) now v = AsMany One v (any_asked.fails d now)
-HeldFails (Two d) now v = AsMany Two v (pair_asked.fails d now)
+HeldFails (Two d) now v = AsMany Two v (two_asked.fails d now)
+HeldFails (Three d) now v = AsMany Three v (three_asked.fails d now)
+HeldFails (Four d) now v = AsMany Four v (four_asked.fails d now)
 
 abbrev pub HeldSucceeds : Held → ℕ → Held → Type 0
 HeldSucceeds Unlimited now v = v ≡ Unlimited
 HeldSucceeds (One d) now v = AsMany One v (any_asked.succeeds d now)
-HeldSucceeds (Two d) now v = AsMany Two v (pair_asked.succeeds d now)
+HeldSucceeds (Two d) now v = AsMany Two v (two_asked.succeeds d now)
+HeldSucceeds (Three d) now v = AsMany Three v (three_asked.succeeds d now)
+HeldSucceeds (Four d) now v = AsMany Four v (four_asked.succeeds d now)
 
 abbrev pub HeldCancels : Held → Held → Type 0
 HeldCancels Unlimited v = v ≡ Unlimited
 HeldCancels (One d) v = AsMany One v (any_asked.cancels d)
-HeldCancels (Two d) v = AsMany Two v (pair_asked.cancels d)
+HeldCancels (Two d) v = AsMany Two v (two_asked.cancels d)
+HeldCancels (Three d) v = AsMany Three v (three_asked.cancels d)
+HeldCancels (Four d) v = AsMany Four v (four_asked.cancels d)
 
 abbrev pub HeldEnds : Held → Held → Type 0
 HeldEnds Unlimited v = v ≡ Unlimited
 HeldEnds (One d) v = AsMany One v (any_asked.ends d)
-HeldEnds (Two d) v = AsMany Two v (pair_asked.ends d)
+HeldEnds (Two d) v = AsMany Two v (two_asked.ends d)
+HeldEnds (Three d) v = AsMany Three v (three_asked.ends d)
+HeldEnds (Four d) v = AsMany Four v (four_asked.ends d)
 
 abbrev pub HeldSplits : Held → Held → Held → Type 0
 HeldSplits Unlimited part v = (part ≡ Unlimited) × (v ≡ Unlimited)
 HeldSplits (One d) part v = AsMany One part (λ p. AsMany One v (any_asked.splits d p))
-HeldSplits (Two d) part v = AsMany Two part (λ p. AsMany Two v (pair_asked.splits d p))
+HeldSplits (Two d) part v = AsMany Two part (λ p. AsMany Two v (two_asked.splits d p))
+HeldSplits (Three d) part v = AsMany Three part (λ p. AsMany Three v (three_asked.splits d p))
+HeldSplits (Four d) part v = AsMany Four part (λ p. AsMany Four v (four_asked.splits d p))
 
 abbrev pub held_asked : Asked Held
 held_asked = record {
@@ -109,11 +129,35 @@ abbrev pub SplitsHeld : Held → Result (Box Held Global) Status → Held → Ty
 SplitsHeld u (Ok b) v = held_asked.splits u b.value v
 SplitsHeld u (Err s) v = (s ≡ NoMemory) ⊎ (s ≡ TooManyPasses)
 
-abbrev pub is_one : Held → Bool
-is_one (One a) = true
-is_one u = false
+-- how many limits it is
+abbrev pub count : Held → ℕ
+count Unlimited = 0
+count (One a) = 1
+count (Two p) = 2
+count (Three t) = 3
+count (Four f) = 4
 
--- two limits are held at once, where each was one
-abbrev pub Joins : Held → Held → Held → Type 0
-Joins (One a) (One b) v = v ≡ Two (record { first = a; second = b })
-Joins u w v = Unit {0}
+-- these limits and one more, which is asked last. Four are not joined with more.
+abbrev pub and_one : Held → AnyLimit → Held
+and_one Unlimited l = One l
+and_one (One a) l = Two (record { first = a; second = l })
+and_one (Two p) l = Three (record { first = p; second = l })
+and_one (Three t) l = Four (record { first = t; second = l })
+and_one (Four f) l = Four f
+
+-- these limits and two more, or three, or four, which are asked after them in their order
+abbrev pub and_two : Held → Both AnyLimit AnyLimit → Held
+and_two u two = and_one (and_one u two.first) two.second
+
+abbrev pub and_three : Held → Both (Both AnyLimit AnyLimit) AnyLimit → Held
+and_three u three = and_one (and_two u three.first) three.second
+
+abbrev pub and_four : Held → Both (Both (Both AnyLimit AnyLimit) AnyLimit) AnyLimit → Held
+and_four u four = and_one (and_three u four.first) four.second
+
+abbrev pub joined : Held → Held → Held
+joined u Unlimited = u
+joined u (One last) = and_one u last
+joined u (Two two) = and_two u two
+joined u (Three three) = and_three u three
+joined u (Four four) = and_four u four

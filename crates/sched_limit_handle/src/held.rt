@@ -1,7 +1,7 @@
-//! What a handle holds: one limit, or two at once.
-ghost use Rattle.std.specs.Prelude.{◌≡◌, true, IfOk, IfErr};
+//! What a handle holds: one limit, or two to four at once.
+ghost use Rattle.std.specs.Prelude.{◌≡◌, ◌+◌, ◌≤◌, IfOk, IfErr};
 ghost use Rattle.sched_limit_handle.specs.Held.{MakesBucket, MakesFlight, MakesBreaker, MakesThrottle};
-ghost use Rattle.sched_limit_handle.specs.Held.{SplitsHeld, is_one, Joins};
+ghost use Rattle.sched_limit_handle.specs.Held.{SplitsHeld, count, joined, and_one, and_two, and_three};
 ghost use Rattle.sched_limit_handle.specs.declared.status.Status.TheVariants as status;
 
 use crate::any_limit::AnyLimit;
@@ -20,8 +20,18 @@ pub enum Held {
     /// A limit.
     One(AnyLimit),
     /// Two, which both admit, or neither is charged.
-    Two(Both<AnyLimit, AnyLimit>),
+    Two(Two),
+    /// Three, and four: likewise.
+    Three(Three),
+    Four(Four),
 }
+
+/// Limits at once, each asked after those before it.
+type Two = Both<AnyLimit, AnyLimit>;
+
+type Three = Both<Two, AnyLimit>;
+
+type Four = Both<Three, AnyLimit>;
 
 impl Asks for Held {
     ghost use Rattle.sched_limit_handle.specs.Held.{held_asked};
@@ -32,7 +42,9 @@ impl Asks for Held {
         match self {
             Held::Unlimited => Ok(()),
             Held::One(limit) => limit.admit(now, random),
-            Held::Two(both) => both.admit(now, random),
+            Held::Two(all) => all.admit(now, random),
+            Held::Three(all) => all.admit(now, random),
+            Held::Four(all) => all.admit(now, random),
         }
     }
 
@@ -40,7 +52,9 @@ impl Asks for Held {
         match self {
             Held::Unlimited => Ok(()),
             Held::One(limit) => limit.draw(now, cost, random),
-            Held::Two(both) => both.draw(now, cost, random),
+            Held::Two(all) => all.draw(now, cost, random),
+            Held::Three(all) => all.draw(now, cost, random),
+            Held::Four(all) => all.draw(now, cost, random),
         }
     }
 
@@ -48,7 +62,9 @@ impl Asks for Held {
         match self {
             Held::Unlimited => {},
             Held::One(limit) => limit.failed(now),
-            Held::Two(both) => both.failed(now),
+            Held::Two(all) => all.failed(now),
+            Held::Three(all) => all.failed(now),
+            Held::Four(all) => all.failed(now),
         }
     }
 
@@ -56,7 +72,9 @@ impl Asks for Held {
         match self {
             Held::Unlimited => {},
             Held::One(limit) => limit.succeeded(now),
-            Held::Two(both) => both.succeeded(now),
+            Held::Two(all) => all.succeeded(now),
+            Held::Three(all) => all.succeeded(now),
+            Held::Four(all) => all.succeeded(now),
         }
     }
 
@@ -64,7 +82,9 @@ impl Asks for Held {
         match self {
             Held::Unlimited => {},
             Held::One(limit) => limit.cancelled(),
-            Held::Two(both) => both.cancelled(),
+            Held::Two(all) => all.cancelled(),
+            Held::Three(all) => all.cancelled(),
+            Held::Four(all) => all.cancelled(),
         }
     }
 
@@ -72,7 +92,9 @@ impl Asks for Held {
         match self {
             Held::Unlimited => {},
             Held::One(limit) => limit.ended(),
-            Held::Two(both) => both.ended(),
+            Held::Two(all) => all.ended(),
+            Held::Three(all) => all.ended(),
+            Held::Four(all) => all.ended(),
         }
     }
 
@@ -80,7 +102,9 @@ impl Asks for Held {
         match self {
             Held::Unlimited => Ok(Held::Unlimited),
             Held::One(limit) => Ok(Held::One(limit.split()?)),
-            Held::Two(both) => Ok(Held::Two(both.split()?)),
+            Held::Two(all) => Ok(Held::Two(all.split()?)),
+            Held::Three(all) => Ok(Held::Three(all.split()?)),
+            Held::Four(all) => Ok(Held::Four(all.split()?)),
         }
     }
 }
@@ -140,26 +164,87 @@ impl Held {
         }
     }
 
-    /// Whether it is one limit.
-    pub fn is_one(&self) -> bool
-        ensures { result ≡ is_one self.now }
+    /// How many limits it is.
+    pub fn count(&self) -> u64
+        ensures { result ≡ count self.now }
     {
-        matches!(self, Held::One(_))
+        match self {
+            Held::Unlimited => 0,
+            Held::One(_) => 1,
+            Held::Two(_) => 2,
+            Held::Three(_) => 3,
+            Held::Four(_) => 4,
+        }
     }
 
-    /// Joins another limit into this one, which is asked first: from now on both admit, or neither is charged.
-    pub fn join(&mut self, second: Held)
-        requires this { is_one self.old ≡ true }
-        requires that { is_one second ≡ true }
-        ensures { Joins self.old second self.new }
+    /// Joins other limits into these, which are asked first: from now on all admit, or none is charged.
+    pub fn join(&mut self, others: Held)
+        requires { count self.old + count others ≤ 4 }
+        ensures { self.new ≡ joined self.old others }
     {
-        let Held::One(first) = mem::replace(self, Held::Unlimited) else {
-            unreachable!()
-        };
-        let Held::One(second) = second else {
-            unreachable!()
-        };
-        drop(mem::replace(self, Held::Two(Both { first, second })));
+        let these = mem::replace(self, Held::Unlimited);
+        drop(mem::replace(self, these.joined(others)));
+    }
+
+    /// These limits and others, at most four.
+    fn joined(self, others: Held) -> Held
+        requires { count self + count others ≤ 4 }
+        ensures { result ≡ joined self others }
+    {
+        match others {
+            Held::Unlimited => self,
+            Held::One(last) => self.with(last),
+            Held::Two(two) => self.with_two(two),
+            Held::Three(three) => self.with_three(three),
+            Held::Four(four) => {
+                let Both { first, second } = four;
+                self.with_three(first).with(second)
+            }
+        }
+    }
+
+    /// These limits and three more.
+    fn with_three(self, three: Three) -> Held
+        requires { count self ≤ 1 }
+        ensures joined { result ≡ and_three self three }
+        ensures count { count result ≡ count self + 3 }
+    {
+        let Both { first, second } = three;
+        self.with_two(first).with(second)
+    }
+
+    /// These limits and two more.
+    fn with_two(self, two: Two) -> Held
+        requires { count self ≤ 2 }
+        ensures joined { result ≡ and_two self two }
+        ensures count { count result ≡ count self + 2 }
+    {
+        let Both { first, second } = two;
+        self.with(first).with(second)
+    }
+
+    /// These limits and one more, which is asked last.
+    fn with(self, last: AnyLimit) -> Held
+        requires { count self ≤ 3 }
+        ensures joined { result ≡ and_one self last }
+        ensures count { count result ≡ count self + 1 }
+    {
+        match self {
+            Held::Unlimited => Held::One(last),
+            Held::One(first) => Held::Two(Both {
+                first,
+                second: last,
+            }),
+            Held::Two(first) => Held::Three(Both {
+                first,
+                second: last,
+            }),
+            Held::Three(first) => Held::Four(Both {
+                first,
+                second: last,
+            }),
+            Held::Four(_) => unreachable!(),
+        }
     }
 
     /// The same in a block of its own.

@@ -106,7 +106,8 @@ pub struct Bucket {
 pub struct InFlight {
     /// The retries that there may be, however few calls there are.
     pub least: u32,
-    /// The retries that each call in flight allows: 0.2 is one for every five. It is counted in thousandths.
+    /// The retries that each call in flight allows, from 0 to 1: 0.2 is one for every five. It is counted in
+    /// thousandths.
     pub share: f64,
 }
 
@@ -173,8 +174,10 @@ impl InFlight {
     }
 
     fn made(&self) -> Result<Handle<LimitKind>, BudgetError> {
-        let share = u32::try_from(thousandths(self.share)?).map_err(|_| BudgetError::OutOfRange)?;
-        Handle::in_flight(self.least, share).map_err(fault)
+        if !(0.0..=1.0).contains(&self.share) {
+            return Err(BudgetError::OutOfRange);
+        }
+        Handle::in_flight(self.least, (self.share * 1000.0).round() as u32).map_err(fault)
     }
 }
 
@@ -320,20 +323,22 @@ fn moment_of(began: Moment) -> u64 {
 }
 
 /// Both limits at once, `first` asked first: either both admit a call or grant a retry, or neither is charged. Put a
-/// breaker second: a probe that it admitted is not given back.
+/// breaker last: a probe that it admitted is not given back. Either may be several limits already, up to four in all.
 ///
 /// ```
-/// use hikebox::{both, Breaker, Bucket, CallLimit};
+/// use hikebox::{both, Breaker, Bucket, CallLimit, InFlight};
 ///
+/// let flights = CallLimit::new(InFlight::envoy(20.0, 3))?;
+/// let bucket = CallLimit::new(Bucket::aws())?;
 /// let breaker = CallLimit::new(Breaker::consecutive(5, r#"{"spaced":30000}"#.parse()?))?;
-/// let limit = both(&CallLimit::new(Bucket::aws())?, &breaker)?;
+/// let limit = both(&both(&flights, &bucket)?, &breaker)?;
 /// assert!(limit.request()?.admit().is_ok());
 /// # Ok::<(), Box<dyn std::error::Error>>(())
 /// ```
 ///
 /// # Errors
 ///
-/// [`BudgetError::OutOfRange`] if one of them is two limits already, and [`BudgetError::NoMemory`].
+/// [`BudgetError::OutOfRange`] if they are more than four, and [`BudgetError::NoMemory`].
 pub fn both(first: &CallLimit, second: &CallLimit) -> Result<CallLimit, BudgetError> {
     CallLimit::of(Made::Both(first.clone(), second.clone()))
 }

@@ -13,6 +13,8 @@ __all__ = [
     "Event",
     "Grant",
     "Handle",
+    "HeldRequest",
+    "Kept",
     "LeasedTicket",
     "Line",
     "Next",
@@ -20,6 +22,7 @@ __all__ = [
     "Range",
     "Storm",
     "Stored",
+    "Told",
     "Totals",
     "Usage",
     "Window",
@@ -145,3 +148,24 @@ class Grant(Structure):
     until: int
 
     _fields_ = _numbers("window first tickets until")
+
+
+class Kept(Structure):
+    """What a store keeps of a limit: its word, if it knows the limit."""
+
+    known: bool
+    word: int
+
+    _fields_ = [("known", c_bool), *_numbers("word")]
+
+
+class HeldRequest(Structure):
+    """What a request holds of such a limit."""
+
+    counted: bool
+
+    _fields_ = [("counted", c_bool), ("drew", c_bool), *_numbers("slots cost generation")]
+
+
+class Told(Structure):
+    _fields_ = [("call", c_uint32), *_numbers("at cost")]

@@ -17,7 +17,8 @@ from ..policy.picture import plan_picture
 from ..storms.axes import axes_text
 from ..version import VERSION
 from . import values
-from .arguments import Parser
+from .arguments import Once, Parser
+from .limits import SPELLINGS, limit
 from .run import MAX_OUTPUT, RunOptions, run_command
 from .seeded import seeded
 from .storm_command import result_of
@@ -34,7 +35,8 @@ MAX_BYTES = 1 << 20
 
 _RUN = f"""\
 Runs the command until it succeeds or no retry is left, and exits with the status of its last attempt. The status is 127
-or 126 if the command can't be run, 124 after a timeout, and 128 + N after death by signal N.
+or 126 if the command can't be run, 124 after a timeout, 75 if a limit did not admit the run, and 128 + N after death by
+signal N.
 
 Each attempt is a process group of its own. When an attempt fails or takes too long, the whole group is ended before the
 next one begins: by SIGTERM, and after --kill-after by SIGKILL. SIGINT, SIGTERM, SIGHUP and SIGQUIT go to the whole
@@ -47,11 +49,18 @@ does not end an attempt that is under way.
 A policy is the name of a JSON file, JSON, or an expression. By default it is
   {DEFAULT}
 
+A limit is one of
+  {SPELLINGS.replace(", ", chr(10) + "  ")}
+Numbers are tokens, with up to three decimals; LATE is the cost of a retry after a timeout; DEADLINE has a unit (ms, s,
+m, h, d). A run that a breaker does not admit ends with status 75 and does not begin. Bounds on what is in flight and
+throttles are not shared: a run that is killed would keep its place in flight, and a folder keeps one word of a limit.
+
 examples:
   hikebox run -- curl --fail https://example.org
   hikebox run --policy 'recurs(9) & spaced(2)' --on 1-3 --timeout 30 -- ./job
   hikebox run --budget 100@/run/lock/nightly -- ./job   # at most 100 retries over all runs that name the folder
   hikebox run --quota 10/20%/1h@/run/lock/jobs -- ./job   # each hour 10 over all runs, and one for every five runs
+  hikebox run --limit breaker:5/1/30s@/run/lock/jobs -- ./job   # no run for 30 s after 5 failures in a row
 """
 
 _STORM = f"""\
@@ -130,10 +139,14 @@ def _add_run(commands: Any) -> None:
     run.add_argument("--policy", metavar="POLICY", default=DEFAULT, help="when to run it again")
     bounds = run.add_mutually_exclusive_group()
     bounds.add_argument(
-        "--budget", metavar="N[@FOLDER]", help="at most N retries; with FOLDER, over all runs that name it"
+        "--budget", metavar="N[@FOLDER]", help="at most N retries; with FOLDER, over all runs that name it", action=Once
     )
     quota = "RESERVE retries in each PERIOD (60s, 1h) over all runs that name FOLDER, and a SHARE of the runs"
-    bounds.add_argument("--quota", metavar="RESERVE/SHARE%/PERIOD@FOLDER", help=quota.replace("%", "%%"))
+    bounds.add_argument("--quota", metavar="RESERVE/SHARE%/PERIOD@FOLDER", help=quota.replace("%", "%%"), action=Once)
+    bucket = "a bucket or a breaker over all runs that name it and FOLDER (see below)"
+    bounds.add_argument("--limit", metavar="LIMIT@FOLDER", help=bucket, action=Once)
+    open_for = "how long a breaker is open, each time that it opens (30 s); spelt as for --policy"
+    run.add_argument("--open", metavar="POLICY", help=open_for, action=Once)
     run.add_argument("--on", metavar="CODES", type=values.statuses, help="retry only these statuses, such as 1,3-5")
     run.add_argument("--timeout", metavar="SECONDS", type=values.duration, help="how long an attempt may take")
     grace = "how long after SIGTERM a SIGKILL follows (5)"
@@ -244,7 +257,7 @@ def _run(given: Any) -> int:
         return _fails("run: expected a command, got none", BAD_COMMAND_LINE)
     options = RunOptions(
         policy=_policy(given.policy),
-        budget=values.budget(given.budget) if given.quota is None else values.quota(given.quota),
+        budget=_limit(given),
         on=given.on,
         timeout=given.timeout,
         grace=given.kill_after,
@@ -260,6 +273,15 @@ def _run(given: Any) -> int:
         return run_command(command, options)
     except OSError as error:
         return _fails(str(error.strerror), BAD_STREAM)
+
+
+def _limit(given: Any) -> Any:
+    """What the retries of a run draw on."""
+    if given.limit is not None:
+        return limit(given.limit, None if given.open is None else _policy(given.open))
+    if given.open is not None:
+        raise BudgetError("--open: expected --limit breaker:.. too, got no --limit")
+    return values.budget(given.budget) if given.quota is None else values.quota(given.quota)
 
 
 def _plan(given: Any) -> int:

@@ -14,8 +14,9 @@ from dataclasses import dataclass
 from typing import Any, FrozenSet, List, Optional, Sequence, Tuple, Union
 
 from ..budget import Budget
-from ..errors import StoreError
+from ..errors import NotAdmitted, StoreError
 from ..leased import Leased, LeasedQuota
+from ..leased.shared import SharedLimit
 from ..policy import Policy
 from ..retry.deadline import seconds_left
 from ..retry.state import RetryState
@@ -32,6 +33,8 @@ logger = logging.getLogger("hikebox")
 
 #: The status of an attempt that took too long, as of timeout(1).
 TIMED_OUT = 124
+#: The status of a run that a limit did not admit: that of a failure for a time, as in sysexits.h.
+NOT_ADMITTED = 75
 #: The statuses of a command that was not found, and of one that could not be run, as of a shell.
 NOT_FOUND, NOT_RUN = 127, 126
 
@@ -59,7 +62,7 @@ class RunOptions:
     """How a command is run."""
 
     policy: Policy
-    budget: Union[Budget, Leased, LeasedQuota, None] = None
+    budget: Union[Budget, Leased, LeasedQuota, SharedLimit, None] = None
     #: The statuses that are retried; None for all but 0 and those of a command that can't be run.
     on: Optional[FrozenSet[int]] = None
     #: Seconds that an attempt may take, and that it is given after SIGTERM before it gets SIGKILL.
@@ -84,6 +87,13 @@ class _Failed(Exception):
         super().__init__(f"status {status}")
         self.status = status
         self.run = run
+
+
+class _TimedOut(_Failed, TimeoutError):
+    """An attempt took too long."""
+
+    def __init__(self) -> None:
+        super().__init__(TIMED_OUT)
 
 
 class _Ended(BaseException):
@@ -116,6 +126,9 @@ def run_command(command: Sequence[str], options: RunOptions) -> int:
         except _Failed as failed:
             status = failed.status
             runner.tell_end(failed)
+        except NotAdmitted as refused:
+            status = NOT_ADMITTED
+            runner.tell_refusal(refused)
         except _Ended as ended:
             status = ended.status
         except _OutputTooLong:
@@ -145,6 +158,8 @@ class _Runner:
         self.output: Optional[int] = None
         self.number = 0
         self.ended_by: Optional[int] = None
+        #: Whether the attempt took too long.
+        self.is_late = False
         #: Whether the command was told to stop, as hikebox was.
         self.is_stopping = False
         self.terminal = Terminal()
@@ -202,6 +217,8 @@ class _Runner:
             self._end_rest(group)
         if self.ended_by is not None:
             raise _Ended(status)
+        if self.is_late:
+            raise _TimedOut()
         if status != 0:
             raise _Failed(status)
 
@@ -235,16 +252,16 @@ class _Runner:
 
     def _await(self, group: Group) -> int:
         """Waits for the command, and heeds signals meanwhile: its status, or that of an attempt that took too long."""
-        timed_out = False
+        self.is_late = False
         while True:
             status = self._look(group)
             if status is not None:
-                return TIMED_OUT if timed_out else status
+                return TIMED_OUT if self.is_late else status
             came = self._signal(self._until(group))
             if came is not None:
                 self._heed(came, group)
             elif group.until is not None and time.monotonic() >= group.until:
-                timed_out = timed_out or not group.is_told
+                self.is_late = self.is_late or not group.is_told
                 group.end()
             elif self.output is not None and os.fstat(self.output).st_size > self.options.max_output:
                 self._end_rest(group)
@@ -417,9 +434,18 @@ class _Runner:
     def tell_end(self, failed: _Failed) -> None:
         state = getattr(failed, "retry_state", None)
         if isinstance(state, RetryState) and state.ending is not None:
-            self._tell(f"attempt {state.attempt_number}: {failed}; {state.ending.value}")
+            refusal = state.refusal if isinstance(self.options.budget, SharedLimit) else None
+            why = state.ending.value if refusal is None else refusal.reason.value
+            self._tell(f"attempt {state.attempt_number}: {failed}; {why}")
         else:
             self._tell(f"{failed}, which is not retried")
+
+    def tell_refusal(self, refused: NotAdmitted) -> None:
+        refusal, limit = refused.refusal, self.options.budget
+        left = ""
+        if refusal.again_at is not None and isinstance(limit, SharedLimit):
+            left = f" for {max(0.0, refusal.again_at - limit.clock()):.3f} s more"
+        self._tell(f"not run: {refusal.reason.value}{left}", always=True)
 
     def _tell(self, line: str, always: bool = False) -> None:
         if always or self.options.verbose:

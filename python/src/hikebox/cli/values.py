@@ -10,7 +10,7 @@ from ..budget import Budget
 from ..errors import BudgetError
 from ..leased import FileStore, Leased, LeasedQuota
 
-__all__ = ["budget", "duration", "inputs", "number", "quota", "size", "size_text", "statuses", "terms"]
+__all__ = ["budget", "duration", "inputs", "number", "quota", "size", "size_text", "span", "statuses", "terms"]
 
 
 def number(most: int, least: int = 0) -> Callable[[str], int]:
@@ -106,7 +106,18 @@ def quota(text: str) -> LeasedQuota:
     return LeasedQuota(FileStore(path), "run", reserve, share, per, lease=1)
 
 
+def span(text: str) -> Optional[float]:
+    """The seconds of a time that is spelt with its unit, or None for another text.
+
+    >>> span("1.5s"), span("30m"), span("30")
+    (1.5, 1800.0, None)
+    """
+    found = _SPAN.fullmatch(text)
+    return _exact(float(found[1]) * _UNITS[found[2]]) if found else None
+
+
 _UNITS = {"ms": 0.001, "s": 1.0, "m": 60.0, "h": 3600.0, "d": 86400.0}
+_SPAN = re.compile(r"(\d+(?:\.\d+)?)(ms|s|m|h|d)", re.ASCII)
 _SPELT = re.compile(r"(\d+)/(\d+(?:\.\d+)?)%/(\d+(?:\.\d+)?)(ms|s|m|h|d)")
 _BARE = re.compile(r"(\d+)/(\d+(?:\.\d+)?)/(\d+(?:\.\d+)?)")
 

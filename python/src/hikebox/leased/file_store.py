@@ -7,15 +7,18 @@ import os
 import re
 import secrets
 import time
-from typing import Callable, Iterator, Optional, Union
+from typing import Callable, Iterator, Optional, TypeVar, Union
 
 from .._engine.leasing import Stored, lease_of_budget, lease_of_quota
+from .._engine.structs import Kept
 from ..budgets.terms import Terms
 from ..errors import StoreError
 from .slots import NO_BOOT, Copy, Slot, make_slot, slot_path, sync_folder, unpack
 from .stores import Present, QuotaRange, Range, checked_name, present_window
 
 __all__ = ["FileStore", "shared_uptime"]
+
+T = TypeVar("T")
 
 #: How often in a row a slot may be deleted while it is opened.
 _TRIES = 100
@@ -85,6 +88,18 @@ class FileStore:
             if granted.tickets:
                 slot.write(NO_BOOT, stored)
             return Range(granted.first, granted.tickets, None)
+
+    def step(self, key: str, of_this_boot: bool, step: Callable[[Kept], T]) -> T:
+        """One step of the limit of this key, which changes what is kept of it. What is kept is of this start of the
+        machine alone where that is said, and else on the disk before this returns."""
+        with self._locked(key, to_disk=not of_this_boot) as slot:
+            boot = this_boot() if of_this_boot else NO_BOOT
+            stored = slot.read().stored(boot)
+            kept = Kept(stored.asked > 0, stored.given)
+            answer = step(kept)
+            if (kept.known, kept.word) != (stored.asked > 0, stored.given):
+                slot.write(boot, Stored(given=kept.word, asked=1))
+            return answer
 
     @contextlib.contextmanager
     def _locked(self, key: str, to_disk: bool = False) -> Iterator[Slot]:
