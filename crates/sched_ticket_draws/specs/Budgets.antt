@@ -7,7 +7,7 @@ use Rattle.sched_ticket.specs.Whole.{IsOneOfSeveral}
 use Rattle.sched_ticket.specs.declared.view.Mark.TheVariants.{Shared}
 use Rattle.sched_ticket.specs.Calls.{Drew, DrawRefused}
 use Rattle.sched_ticket_draws.specs.Counted.{count_after}
-use Rattle.sched_ticket_draws.specs.Grants.{Grants, Lawful}
+use Rattle.sched_ticket_draws.specs.Grants.{Grants, Lawful, IsAdmitted, IsQuiet, same_still, told_still}
 
 -- a budget, and a pass of it
 pub record OfBudget : Type 0 where
@@ -30,7 +30,11 @@ budget_grants = record {
   Name = Name;
   name = λ d. d.budget;
   granted = λ d. length d.pass.has.tickets;
+  admitted = λ d _ got e. IsAdmitted d got e;
   drew = λ d _ got e. BudgetDrew d got e;
+  succeeded = λ d _ e. e ≡ d;
+  failed = λ d _ _ e. e ≡ d;
+  ended = λ d _ e. e ≡ d;
   refused = λ d. 0 < length d.pass.has.refusals;
   stands = λ d. IsOf d.budget d.pass;
 }
@@ -58,4 +62,15 @@ budget_lawful = record {
   keeps = λ d _ got e drew. BudgetDrew-keeps d got e drew;
   counts = λ d _ got e drew. BudgetDrew-counts d got e drew;
   denies = λ d _ e drew. BudgetDrew-denies d e drew;
+  admits = λ d _ got e admitted. same_still budget_grants d e admitted.1;
+  succeeds = λ d _ e same. told_still budget_grants d e same;
+  fails = λ d _ _ e same. told_still budget_grants d e same;
+  ends = λ d _ e same. told_still budget_grants d e same;
+}
+
+pub budget_quiet : IsQuiet budget_grants
+budget_quiet = record {
+  succeeds = λ _ _. refl;
+  fails = λ _ _ _. refl;
+  ends = λ _ _. refl;
 }

@@ -6,7 +6,7 @@ use Rattle.sched_ticket_quota.specs.Held.{Name as QuotaName}
 use Rattle.sched_ticket_draws.specs.Budgets.{OfBudget, budget_grants, budget_lawful}
 use Rattle.sched_ticket_draws.specs.Counted.{count_after}
 use Rattle.sched_ticket_draws.specs.Freely.{free_grants, free_lawful}
-use Rattle.sched_ticket_draws.specs.Grants.{Grants, Lawful}
+use Rattle.sched_ticket_draws.specs.Grants.{Grants, Lawful, IsSame, IsQuiet, told_still}
 use Rattle.sched_ticket_draws.specs.Quotas.{OfQuota, quota_grants, quota_lawful}
 use Rattle.sched_ticket_draws.specs.declared.drawing.Drawing.{Drawing}
 use Rattle.sched_ticket_draws.specs.declared.drawing.Drawing.TheVariants.{Budget, Quota, Unlimited}
@@ -33,6 +33,11 @@ DrawingDrew (Budget d) now got v = (e : OfBudget) × (v ≡ Budget e) × budget_
 DrawingDrew (Quota d) now got v = (e : OfQuota) × (v ≡ Quota e) × quota_grants.drew d now got e
 DrawingDrew (Unlimited n) now got v = (m : ℕ) × (v ≡ Unlimited m) × free_grants.drew n now got m
 
+abbrev pub DrawingAdmitted : Drawing → ℕ → Bool → Drawing → Type 0
+DrawingAdmitted (Budget d) now got v = (e : OfBudget) × (v ≡ Budget e) × budget_grants.admitted d now got e
+DrawingAdmitted (Quota d) now got v = (e : OfQuota) × (v ≡ Quota e) × quota_grants.admitted d now got e
+DrawingAdmitted (Unlimited n) now got v = (m : ℕ) × (v ≡ Unlimited m) × free_grants.admitted n now got m
+
 abbrev pub Refused : Drawing → Type 0
 Refused (Budget d) = budget_grants.refused d
 Refused (Quota d) = quota_grants.refused d
@@ -48,7 +53,11 @@ drawing_grants = record {
   Name = Source;
   name = source_of;
   granted = granted_by;
+  admitted = DrawingAdmitted;
   drew = DrawingDrew;
+  succeeded = λ d _ e. e ≡ d;
+  failed = λ d _ _ e. e ≡ d;
+  ended = λ d _ e. e ≡ d;
   refused = Refused;
   stands = Stands;
 }
@@ -72,9 +81,32 @@ DrawingDrew-denies (Budget d) now v drew = rw drew.1 (budget_lawful.denies d now
 DrawingDrew-denies (Quota d) now v drew = rw drew.1 (quota_lawful.denies d now drew.0 drew.2)
 DrawingDrew-denies (Unlimited n) now v drew = rw drew.1 (free_lawful.denies n now drew.0 drew.2)
 
+DrawingAdmitted-same : (d : Drawing) (now : ℕ) (got : Bool) (e : Drawing) → DrawingAdmitted d now got e →
+    IsSame drawing_grants d e
+DrawingAdmitted-same (Budget d) now got v admitted =
+    let same = budget_lawful.admits d now got admitted.0 admitted.2 in
+    rw admitted.1 (record { name = ap a_budget same.name; granted = same.granted; stands = same.stands })
+DrawingAdmitted-same (Quota d) now got v admitted =
+    let same = quota_lawful.admits d now got admitted.0 admitted.2 in
+    rw admitted.1 (record { name = ap a_quota same.name; granted = same.granted; stands = same.stands })
+DrawingAdmitted-same (Unlimited n) now got v admitted =
+    let same = free_lawful.admits n now got admitted.0 admitted.2 in
+    rw admitted.1 (record { name = refl; granted = same.granted; stands = same.stands })
+
 pub drawing_lawful : Lawful drawing_grants
 drawing_lawful = record {
   keeps = DrawingDrew-keeps;
   counts = DrawingDrew-counts;
   denies = DrawingDrew-denies;
+  admits = DrawingAdmitted-same;
+  succeeds = λ d _ e same. told_still drawing_grants d e same;
+  fails = λ d _ _ e same. told_still drawing_grants d e same;
+  ends = λ d _ e same. told_still drawing_grants d e same;
+}
+
+pub drawing_quiet : IsQuiet drawing_grants
+drawing_quiet = record {
+  succeeds = λ _ _. refl;
+  fails = λ _ _ _. refl;
+  ends = λ _ _. refl;
 }

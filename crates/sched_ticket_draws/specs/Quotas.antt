@@ -3,11 +3,11 @@ use Rattle.std.specs.Prelude.{◌≡◌, ℕ, ◌<◌, Bool, true, false, Some, 
 use Rattle.std.proofs.Common.{inl, inr, arith, ap, subst, sym}
 use Rattle.sched_ticket.specs.Parts.{all_parts}
 use Rattle.sched_ticket_quota.specs.Held.{Name, Held, IsOf}
-use Rattle.sched_ticket_quota.specs.Calls.{Turned, Drew, DrawRefused, IsWhy}
+use Rattle.sched_ticket_quota.specs.Calls.{Turned, Deposited, Drew, DrawRefused, IsWhy}
 use Rattle.sched_ticket_quota.specs.declared.fault.Refusal.{Refusal}
 use Rattle.sched_ticket_quota.specs.declared.view.View.{View}
 use Rattle.sched_ticket_draws.specs.Counted.{count_after}
-use Rattle.sched_ticket_draws.specs.Grants.{Grants, Lawful}
+use Rattle.sched_ticket_draws.specs.Grants.{Grants, Lawful, IsSame, IsQuiet, told_still}
 
 -- a quota, and a pass of it
 pub record OfQuota : Type 0 where
@@ -23,6 +23,12 @@ QuotaDrew d now true e = (e.quota ≡ d.quota)
 QuotaDrew d now false e = (e.quota ≡ d.quota)
     × (why : Refusal) × DrawRefused d.quota now d.pass.has why e.pass.has × (e.pass.latest ≡ d.pass.latest)
 
+-- a request is admitted, and counted
+abbrev pub QuotaAdmitted : OfQuota → ℕ → Bool → OfQuota → Type 0
+QuotaAdmitted d now got e = (got ≡ true) × (e.quota ≡ d.quota)
+    × Deposited d.quota now d.pass.has e.pass.has
+    × (e.pass.has.tickets ≡ d.pass.has.tickets) × (e.pass.latest ≡ d.pass.latest) × IsOf e.quota e.pass
+
 -- a pass has less than all parts of its quota, and comes back as it was
 abbrev pub IsPart : OfQuota → OfQuota → Type 0
 IsPart d e = (d.pass.has.weight < all_parts) × (e ≡ d)
@@ -36,7 +42,11 @@ quota_grants = record {
   Name = Name;
   name = λ d. d.quota;
   granted = λ d. length d.pass.has.tickets;
+  admitted = QuotaAdmitted;
   drew = QuotaDrew;
+  succeeded = λ d _ e. e ≡ d;
+  failed = λ d _ _ e. e ≡ d;
+  ended = λ d _ e. e ≡ d;
   refused = λ d. NoneLeft d.quota d.pass.has;
   stands = λ d. IsOf d.quota d.pass;
 }
@@ -70,9 +80,28 @@ QuotaDrew-denies : (d : OfQuota) (now : ℕ) (e : OfQuota) → QuotaDrew d now f
 QuotaDrew-denies d now e drew =
     (drew.1, subst (λ (q : Name). IsWhy q e.pass.has drew.1) (sym drew.0) drew.2.2.reason)
 
+QuotaAdmitted-same : (d : OfQuota) (now : ℕ) (got : Bool) (e : OfQuota) → QuotaAdmitted d now got e →
+    IsSame quota_grants d e
+QuotaAdmitted-same d now got e admitted = record {
+  name = admitted.1;
+  granted = ap length admitted.3;
+  stands = λ _. admitted.5;
+}
+
 pub quota_lawful : Lawful quota_grants
 quota_lawful = record {
   keeps = QuotaDrew-keeps;
   counts = QuotaDrew-counts;
   denies = QuotaDrew-denies;
+  admits = QuotaAdmitted-same;
+  succeeds = λ d _ e same. told_still quota_grants d e same;
+  fails = λ d _ _ e same. told_still quota_grants d e same;
+  ends = λ d _ e same. told_still quota_grants d e same;
+}
+
+pub quota_quiet : IsQuiet quota_grants
+quota_quiet = record {
+  succeeds = λ _ _. refl;
+  fails = λ _ _ _. refl;
+  ends = λ _ _. refl;
 }

@@ -2,13 +2,13 @@
 ghost use Rattle.std.specs.Prelude.{◌≡◌, true, IfOk, IfErr};
 ghost use Rattle.sched_ticket_draws.specs.Passes.{are_like, OfOne, Joined, IsTotal, NoTotal};
 
-use crate::draws::Draws;
+use crate::draws::{Draws, Quiet};
 use crate::on_budget::OnBudget;
 use crate::on_quota::OnQuota;
 use crate::unlimited::Unlimited;
 use sched_ticket::Budget;
 use sched_ticket_quota::Quota;
-use sched_time::Moment;
+use sched_time::{Millis, Moment};
 use std::sync::Arc;
 
 /// What a retry draws its tickets by.
@@ -87,6 +87,14 @@ impl Draws for Drawing {
 
     ghost lawful = { drawing_lawful };
 
+    fn admit(&mut self, now: Moment) -> bool {
+        match self {
+            Drawing::Budget(drawing) => drawing.admit(now),
+            Drawing::Quota(drawing) => drawing.admit(now),
+            Drawing::Unlimited(drawing) => drawing.admit(now),
+        }
+    }
+
     fn draw(&mut self, now: Moment) -> bool {
         match self {
             Drawing::Budget(drawing) => drawing.draw(now),
@@ -95,6 +103,12 @@ impl Draws for Drawing {
         }
     }
 
+    fn succeeded(&mut self, _now: Moment) {}
+
+    fn failed(&mut self, _now: Moment, _code: Millis) {}
+
+    fn ended(&mut self, _unused: bool) {}
+
     fn granted(&self) -> u64 {
         match self {
             Drawing::Budget(drawing) => drawing.granted(),
@@ -102,4 +116,10 @@ impl Draws for Drawing {
             Drawing::Unlimited(drawing) => drawing.granted(),
         }
     }
+}
+
+impl Quiet for Drawing {
+    ghost use Rattle.sched_ticket_draws.specs.Drawing.{drawing_quiet};
+
+    ghost quiet = { drawing_quiet };
 }

@@ -13,7 +13,7 @@ mod refers;
 mod unlimited;
 
 pub use drawing::Drawing;
-pub use draws::Draws;
+pub use draws::{Draws, Quiet};
 pub use on_budget::OnBudget;
 pub use on_quota::OnQuota;
 pub use refers::RefersTo;

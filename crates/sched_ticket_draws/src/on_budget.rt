@@ -10,10 +10,10 @@ ghost use Rattle.sched_ticket.specs.Calls.{Drew, DrawRefused, Raised, RefusesLim
 ghost use Rattle.sched_ticket_draws.specs.Splits.{SplitFails};
 ghost use Rattle.sched_ticket_draws.specs.Budgets.{IsPart};
 
-use crate::draws::Draws;
+use crate::draws::{Draws, Quiet};
 use crate::refers::RefersTo;
 use sched_ticket::{Budget, Pass, TicketFault};
-use sched_time::Moment;
+use sched_time::{Millis, Moment};
 use std::alloc::Global;
 use std::marker::Model;
 use std::sync::Arc;
@@ -161,6 +161,10 @@ impl<B: RefersTo<Budget>> Draws for OnBudget<B> {
 
     ghost lawful = { budget_lawful };
 
+    fn admit(&mut self, _now: Moment) -> bool {
+        true
+    }
+
     fn draw(&mut self, _now: Moment) -> bool {
         match self.pass.draw(self.budget.target()) {
             Some(_) => true,
@@ -168,7 +172,19 @@ impl<B: RefersTo<Budget>> Draws for OnBudget<B> {
         }
     }
 
+    fn succeeded(&mut self, _now: Moment) {}
+
+    fn failed(&mut self, _now: Moment, _code: Millis) {}
+
+    fn ended(&mut self, _unused: bool) {}
+
     fn granted(&self) -> u64 {
         self.pass.count()
     }
+}
+
+impl<B: RefersTo<Budget>> Quiet for OnBudget<B> {
+    ghost use Rattle.sched_ticket_draws.specs.Budgets.{budget_quiet};
+
+    ghost quiet = { budget_quiet };
 }

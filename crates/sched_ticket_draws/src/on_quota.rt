@@ -10,10 +10,10 @@ ghost use Rattle.sched_ticket_quota.specs.Calls.{RefusesChange, Hands, NotHanded
 ghost use Rattle.sched_ticket_draws.specs.Splits.{QuotaSplitFails};
 ghost use Rattle.sched_ticket_draws.specs.Quotas.{IsPart};
 
-use crate::draws::Draws;
+use crate::draws::{Draws, Quiet};
 use crate::refers::RefersTo;
 use sched_ticket_quota::{NotBack, Pass, Quota, QuotaFault, Refusal, Terms, Usage, WeightTooLarge};
-use sched_time::Moment;
+use sched_time::{Millis, Moment};
 use std::alloc::Global;
 use std::marker::Model;
 use std::sync::Arc;
@@ -211,6 +211,11 @@ impl<Q: RefersTo<Quota>> Draws for OnQuota<Q> {
 
     ghost lawful = { quota_lawful };
 
+    fn admit(&mut self, now: Moment) -> bool {
+        self.pass.deposit(self.quota.target(), now);
+        true
+    }
+
     fn draw(&mut self, now: Moment) -> bool {
         match self.pass.draw(self.quota.target(), now) {
             Ok(_) => true,
@@ -218,7 +223,19 @@ impl<Q: RefersTo<Quota>> Draws for OnQuota<Q> {
         }
     }
 
+    fn succeeded(&mut self, _now: Moment) {}
+
+    fn failed(&mut self, _now: Moment, _code: Millis) {}
+
+    fn ended(&mut self, _unused: bool) {}
+
     fn granted(&self) -> u64 {
         self.pass.granted()
     }
+}
+
+impl<Q: RefersTo<Quota>> Quiet for OnQuota<Q> {
+    ghost use Rattle.sched_ticket_draws.specs.Quotas.{quota_quiet};
+
+    ghost quiet = { quota_quiet };
 }

@@ -1,8 +1,8 @@
 //! Draws on nothing.
 ghost use Rattle.std.specs.Prelude.{◌≡◌, ◌+◌, min};
 
-use crate::draws::Draws;
-use sched_time::Moment;
+use crate::draws::{Draws, Quiet};
+use sched_time::{Millis, Moment};
 use std::marker::Model;
 
 /// No budget: each draw is granted, and counted. Only after 18446744073709551615 draws it refuses, and for good.
@@ -45,6 +45,10 @@ impl Draws for Unlimited {
 
     ghost lawful = { free_lawful };
 
+    fn admit(&mut self, _now: Moment) -> bool {
+        true
+    }
+
     fn draw(&mut self, _now: Moment) -> bool {
         if self.granted < u64::MAX {
             self.granted += 1;
@@ -54,7 +58,19 @@ impl Draws for Unlimited {
         }
     }
 
+    fn succeeded(&mut self, _now: Moment) {}
+
+    fn failed(&mut self, _now: Moment, _code: Millis) {}
+
+    fn ended(&mut self, _unused: bool) {}
+
     fn granted(&self) -> u64 {
         self.granted
     }
+}
+
+impl Quiet for Unlimited {
+    ghost use Rattle.sched_ticket_draws.specs.Freely.{free_quiet};
+
+    ghost quiet = { free_quiet };
 }
