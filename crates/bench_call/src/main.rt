@@ -9,8 +9,8 @@ ghost use Rattle.std.specs.Prelude.{◌≡◌, [], IfOk};
 ghost use Rattle.sched_driver_stepper.specs.Standing.{standing_after};
 
 use sched_run::{
-    Budget, Draws, Machine, MidWords, Millis, Moment, NoMemory, OnBudget, OnQuota, Plan, Quota,
-    SharedPlan, Stepper, Terms, Unlimited, VirtualClock, retry_call,
+    Budget, Draws, Machine, MidWords, Millis, Moment, NoMemory, OnBudget, OnQuota, Plan, Quiet,
+    Quota, SharedPlan, Stepper, Terms, Unlimited, VirtualClock, retry_call,
 };
 use std::alloc::{AllocGlobal, Global};
 use std::sync::Wait;
@@ -101,7 +101,7 @@ fn attempt(state: &mut u64, left: u64) -> Result<u64, u64> {
 }
 
 // What draws with a pass that can be split.
-trait Splits: Draws {
+trait Splits: Quiet {
     // One that draws on the same, with a pass of its own.
     fn part(&mut self) -> Result<Self, NoMemory>;
 }

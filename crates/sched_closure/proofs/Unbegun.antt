@@ -4,7 +4,7 @@ use Rattle.std.proofs.Common.{arith}
 use Rattle.rand_core.specs.Stream.{Stream}
 use Rattle.sched_time.specs.declared.numbers.Tick.{Tick}
 use Rattle.sched_plan.specs.Schedule.{Schedule}
-use Rattle.sched_ticket_draws.specs.Grants.{Grants, Lawful}
+use Rattle.sched_ticket_draws.specs.Grants.{Grants, Lawful, IsQuiet}
 use Rattle.sched_effect.specs.declared.ran.Ran.TheVariants.{Won, Lost}
 use Rattle.sched_task.specs.Words.{next_four}
 use Rattle.sched_task.specs.declared.endings.RunFault.TheVariants.{NoMemory}
@@ -25,9 +25,8 @@ room_in_none : (keeps : Bool) (plan : Schedule) (now : ℕ) →
 room_in_none true plan now = (omega arith, omega arith)
 room_in_none false plan now = omega arith
 
-module _ {D : Type 0} (grants : Grants D) (lawful : Lawful grants) (keeps : Bool) (plan : Schedule)
-    (deadline : Option ℕ) (drawing : D)
-    (holds : grants.stands drawing) where
+module _ {D : Type 0} (grants : Grants D) (lawful : Lawful grants) (quiet : IsQuiet grants) (keeps : Bool)
+    (plan : Schedule) (deadline : Option ℕ) (drawing : D) (holds : grants.stands drawing) where
   law_unbegun : RetryLaw grants (a_retry keeps) (unbegun grants plan deadline drawing)
   law_unbegun = record {
     law = law_of_nothing (a_retry keeps) plan deadline;
@@ -51,14 +50,16 @@ module _ {D : Type 0} (grants : Grants D) (lawful : Lawful grants) (keeps : Bool
       (next grants lawful (a_retry keeps) (running_by t) tick (ends (Won code)) drawing)
   wins_then t tick code =
       settles grants lawful (a_retry keeps) (running_by t) tick (ends (Won code)) drawing (starts t).law refl
-      (first_goes_on deadline plan t tick, refl) refl holds
+      (first_goes_on deadline plan t tick, refl)
+      (drawing, quiet.succeeds drawing tick.now, quiet.ends drawing false) holds
 
   breaks_then : (t tick : Tick) (code : ℕ) → Settled grants lawful (a_retry keeps) (running_by t) tick true
       (next grants lawful (a_retry keeps) (running_by t) tick (breaks (Lost code) NoMemory) drawing)
   breaks_then t tick code =
       settles grants lawful (a_retry keeps) (running_by t) tick (breaks (Lost code) NoMemory) drawing (starts t).law
       refl
-      (first_goes_on deadline plan t tick, refl, room_in_none keeps plan tick.now) refl holds
+      (first_goes_on deadline plan t tick, refl, room_in_none keeps plan tick.now)
+      (drawing, quiet.fails drawing tick.now code, quiet.ends drawing false) holds
 
   pub wins_once : (moment code : ℕ) → WinsOnce grants keeps plan deadline drawing moment code
   wins_once moment code =
@@ -69,9 +70,9 @@ module _ {D : Type 0} (grants : Grants D) (lawful : Lawful grants) (keeps : Bool
         law = (wins_then none none code).law;
       }
 
-module _ {T D K C I F : Type 0} (grants : Grants D) (lawful : Lawful grants) (keeps : Bool) (tells : K → ℕ → K → Type 0)
-    (waits : K → ℕ → ℕ → K → Type 0) (gives : C → Result I F → C → Type 0) (item_code : I → ℕ)
-    (fault_code : F → ℕ) where
+module _ {T D K C I F : Type 0} (grants : Grants D) (lawful : Lawful grants) (quiet : IsQuiet grants) (keeps : Bool)
+    (tells : K → ℕ → K → Type 0) (waits : K → ℕ → ℕ → K → Type 0) (gives : C → Result I F → C → Type 0)
+    (item_code : I → ℕ) (fault_code : F → ℕ) where
   -- two turns, by ticks that the clock and the generator gave: a run begins, and its step is refused memory
   pub broken_at_once : (task after : T) (clock during then : K) (words between left : Stream) (call called : C)
       (fault : F) (began ended : Tick) →
@@ -84,9 +85,9 @@ module _ {T D K C I F : Type 0} (grants : Grants D) (lawful : Lawful grants) (ke
         ticks = began ∷ ended ∷ [];
         breaks = λ plan deadline drawing holds.
             let code = fault_code fault in
-            let first = starts grants lawful keeps plan deadline drawing holds began in
-            let second = breaks_then grants lawful keeps plan deadline drawing holds began ended code in
-            let running = running_by grants lawful keeps plan deadline drawing holds began in
+            let first = starts grants lawful quiet keeps plan deadline drawing holds began in
+            let second = breaks_then grants lawful quiet keeps plan deadline drawing holds began ended code in
+            let running = running_by grants lawful quiet keeps plan deadline drawing holds began in
             let broken = next grants lawful (a_retry keeps) running ended (breaks (Lost code) NoMemory) drawing in (
               broken,
               (

@@ -4,11 +4,13 @@
 #![tactic(auto)]
 
 mod endings;
+mod limits;
 mod machines;
 mod repeats;
 mod retries;
 mod turns;
 
 pub use endings::{CallEnding, RepeatCallEnding};
+pub use limits::limited_call;
 pub use repeats::repeat_call;
 pub use retries::retry_call;

@@ -13,7 +13,7 @@ use rand_core::Rng;
 use sched_effect::{Coded, ran_of};
 use sched_run_machine::{Drives, Machine, Next};
 use sched_task::{Clock, RunFault, four_words};
-use sched_ticket_draws::Draws;
+use sched_ticket_draws::{Draws, Quiet};
 use sched_time::{Moment, NoMemory, Tick};
 use std::alloc::{AllocGlobal, Global};
 use std::sync::Wait;
@@ -33,6 +33,9 @@ use std::sync::Wait;
 /// With a deadline, by `Until` as the retry's driver, each call but the first begins by the deadline. The retry ends
 /// as `ScheduleDone` where the start planned is past it; the driver's `late_start` then tells that start. Where a wait
 /// goes past the deadline it ends as `DeadlinePassed`.
+///
+/// What it draws by is made at the first failure too, so it is one that need not be told how a call went: a budget or a
+/// quota. `limited_call` takes any other limit.
 pub fn retry_call<I, F, R, S, D, K, G, B, C>(
     rt: &R,
     begin: &mut B,
@@ -45,7 +48,7 @@ where
     F: Coded + Drop,
     R: Wait + AllocGlobal,
     S: Drives,
-    D: Draws,
+    D: Quiet,
     K: Clock,
     G: Rng,
     B: FnMut(Global) -> Result<(S, D), NoMemory>,
@@ -88,7 +91,7 @@ where
     F: Coded + Drop,
     R: Wait + AllocGlobal,
     S: Drives,
-    D: Draws,
+    D: Quiet,
     K: Clock,
     G: Rng,
     B: FnMut(Global) -> Result<(S, D), NoMemory>,

@@ -11,7 +11,7 @@ use sched_plan::{Plan, PlanFault};
 use sched_run_machine::{Drives, Machine, RepeatMachine};
 use sched_task::{Clock, How, MidWords, RunFault, VirtualClock};
 use sched_ticket::{Budget, Pass};
-use sched_ticket_draws::{Draws, OnBudget};
+use sched_ticket_draws::{Draws, OnBudget, Quiet};
 use sched_time::{Millis, Moment, NoMemory};
 use std::alloc::{AllocGlobal, Global};
 use std::cell::Cell;
@@ -106,7 +106,7 @@ fn retried<S, D, B>(
 ) -> (Came, Machine<S, D>)
 where
     S: Drives,
-    D: Draws,
+    D: Quiet,
     B: FnMut(Global) -> Result<(S, D), NoMemory>,
     requires makes { B.IsAlwaysCallable begin.old }
     requires fresh { (alloc : _) (made : _) (after : B) → B.step begin.old alloc made after →
@@ -131,7 +131,7 @@ where
 }
 
 // The same by this driver, which has made no step, and by this drawing.
-fn retried_by<S: Drives, D: Draws>(
+fn retried_by<S: Drives, D: Quiet>(
     rt: &(impl Wait + AllocGlobal + Abort),
     made: (S, D),
     clock: &mut impl Clock,

@@ -12,11 +12,11 @@ use Rattle.sched_task.specs.declared.endings.How.TheVariants as how
 use Rattle.sched_task.specs.declared.endings.RunFault.TheVariants as fault
 use Rattle.sched_task_law.specs.Kind.{a_retry}
 use Rattle.sched_task_law.specs.Past.{Past, schedule_is_done, next_start_by}
-use Rattle.sched_run_machine.specs.Retrying.{Retrying, gives_up}
+use Rattle.sched_run_machine.specs.Retrying.{Retrying, GivesUp as GivesUpSo}
 use Rattle.sched_task_law.specs.Deadline.{is_past, late}
 use Rattle.sched_run_machine.specs.Drives.{Until, by_stepper, by_until}
-use Rattle.sched_run_machine.specs.Machine.{Machine, begins, unbegun, is_told, cancelled, IsMachineOf, PollsEach}
-use Rattle.sched_run_machine.specs.Machine.{PollsInTime}
+use Rattle.sched_run_machine.specs.Machine.{Machine, begins, unbegun, is_told, Cancels as CancelsMachine, IsMachineOf}
+use Rattle.sched_run_machine.specs.Machine.{PollsEach, PollsInTime}
 use Rattle.sched_run_machine.specs.Next.{next_of}
 use Rattle.sched_ticket_draws.specs.Drawing.{drawing_grants}
 use Rattle.sched_ticket_draws.specs.declared.drawing.Drawing.{Drawing}
@@ -138,7 +138,7 @@ pub record IsReport (m : Hosted) (t : Tick) (ran : Ran) (n : Hosted) : Type 0 wh
 pub record IsPoll (m : Hosted) (t : Tick) (n : Hosted) : Type 0 where
   pub polls : PollsEach (by_until by_stepper) (a_retry false) drawing_grants m t [] n
   pub deadline : n.driver.deadline ≡ m.driver.deadline
-  pub in_time : PollsInTime m.driver.deadline m t.now n
+  pub in_time : PollsInTime drawing_grants m.driver.deadline m t.now n
 
 -- the run under way ends as it is reported, and then one begins where it may
 abbrev pub Ends : Hosted → Tick → Ran → Hosted → Type 0
@@ -165,8 +165,9 @@ Rans began ended report u x v = OtherKind u x v
 
 -- a retry that is not over ends as cancelled, whichever it is
 pub record GivesUp (m n : Hosted) : Type 0 where
-  pub cancels : n ≡ cancelled m
-  pub stands : (u : Retrying Drawing) → MayBe m u → MayBe n (gives_up u)
+  pub cancels : CancelsMachine drawing_grants m n
+  pub stands : (u : Retrying Drawing) → MayBe m u →
+      (w : Retrying Drawing) × GivesUpSo drawing_grants u w × MayBe n w
 
 abbrev pub Cancels : Held → Result (Unit {0}) Status → Held → Type 0
 Cancels (Retry m) x v = (x ≡ Ok tt) × (n : Hosted) × (v ≡ Retry n) × GivesUp m n

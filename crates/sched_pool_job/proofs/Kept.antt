@@ -19,7 +19,7 @@ use Rattle.sched_task_law.proofs.Law.{or_false}
 use Rattle.sched_task_law.proofs.Events.{denied_is}
 use Rattle.sched_task_law.proofs.Lists.{by_test}
 use Rattle.sched_task_law.proofs.Fields.{none_of}
-use Rattle.sched_run_machine.specs.Retrying.{Retrying, RetryPoll, gives_up}
+use Rattle.sched_run_machine.specs.Retrying.{Retrying, RetryPoll, GivesUp}
 use Rattle.sched_pool_job.specs.Jobs.{IsJob}
 use Rattle.sched_pool_job.specs.Ends.{ended}
 
@@ -56,12 +56,16 @@ polled b v u t ready job poll = record {
   untaken = polled_untaken budget_grants v u t ready job.untaken poll;
 }
 
-pub cancels : (b : Name) (v : Retrying OfBudget) → IsJob b v → IsJob b (gives_up v)
-cancels b v job = record {
-  of = job.of;
-  had = job.had;
-  untaken = by_test (is_some v.past.over) (λ yes. rw yes (job.untaken ∙ yes ∙ sym yes)) (λ no. rw no refl);
-}
+pub cancels : (b : Name) (v u : Retrying OfBudget) → IsJob b v → GivesUp budget_grants v u → IsJob b u
+cancels b v u job gives = by_test (is_some v.past.over)
+    (λ over. subst (λ (u : Retrying OfBudget). IsJob b u) (sym (rw over at gives)) job)
+    (λ isnt.
+    let gone = rw isnt at gives in
+    subst (λ (u : Retrying OfBudget). IsJob b u) (sym gone.1) (record {
+      of = ap (λ (d : OfBudget). d.budget) gone.0 ∙ job.of;
+      had = job.had;
+      untaken = refl;
+    }))
 
 -- a start was planned only where the schedule was stepped
 some_of : {A : Type 0} (o : Option A) (P : Type 0) → P → IfSome o (λ _. P)

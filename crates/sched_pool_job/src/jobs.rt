@@ -94,7 +94,7 @@ impl<'a, X: Effect, N: Naming> Task for Job<'a, X, N> {
     ghost use Rattle.sched_driver.specs.Driven.{next_start_of};
     ghost use Rattle.sched_task_law.specs.Past.{waits_by, waits_by-over};
     ghost use Rattle.sched_ticket_draws.specs.Budgets.{budget_grants};
-    ghost use Rattle.sched_run_machine.specs.Retrying.{RetryPoll, gives_up as given_up};
+    ghost use Rattle.sched_run_machine.specs.Retrying.{RetryPoll, GivesUp};
 
     ghost ended = { λ v. v.past.over };
 
@@ -102,7 +102,7 @@ impl<'a, X: Effect, N: Naming> Task for Job<'a, X, N> {
 
     ghost one_poll = { RetryPoll budget_grants retry };
 
-    ghost gives_up = { λ v u. u ≡ given_up v };
+    ghost gives_up = { GivesUp budget_grants };
 
     ghost rests = { λ v over. waits_by-over (next_start_of v.past.driver) v.past over };
 

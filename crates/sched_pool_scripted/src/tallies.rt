@@ -6,7 +6,7 @@ ghost use Rattle.sched_ticket_quota.specs.Windows.{window_of};
 
 use sched_ticket_draws::{Draws, RefersTo};
 use sched_ticket_quota::{Pass, Quota};
-use sched_time::Moment;
+use sched_time::{Millis, Moment};
 use std::alloc::Global;
 use std::marker::Model;
 
@@ -74,6 +74,11 @@ impl<Q: RefersTo<Quota>> Draws for Tally<Q> {
 
     ghost lawful = { quota_lawful };
 
+    fn admit(&mut self, now: Moment) -> bool {
+        self.pass.deposit(self.quota.target(), now);
+        true
+    }
+
     fn draw(&mut self, now: Moment) -> bool {
         match self.pass.draw(self.quota.target(), now) {
             Ok(ticket) => {
@@ -83,6 +88,12 @@ impl<Q: RefersTo<Quota>> Draws for Tally<Q> {
             Err(_) => false,
         }
     }
+
+    fn succeeded(&mut self, _now: Moment) {}
+
+    fn failed(&mut self, _now: Moment, _code: Millis) {}
+
+    fn ended(&mut self, _unused: bool) {}
 
     fn granted(&self) -> u64 {
         self.pass.granted()

@@ -7,7 +7,7 @@ ghost use Rattle.sched_ticket_draws.specs.Freely.{free_grants};
 ghost use Rattle.sched_task_law.specs.Kind.{repeats};
 ghost use Rattle.sched_task_law.specs.Past.{nothing_yet, waits_by, bit};
 ghost use Rattle.sched_task_law.specs.Law.{is_stop};
-ghost use Rattle.sched_run_machine.specs.Retrying.{IsAlong, KeepsLaw, TaskPoll, gives_up};
+ghost use Rattle.sched_run_machine.specs.Retrying.{IsAlong, KeepsLaw, TaskPoll, GivesUp};
 ghost use Rattle.sched_retry.specs.Ending.{EndingFits};
 
 use crate::endings::{Ending, ending_of};
@@ -134,7 +134,7 @@ impl<X: Effect, D: Draws, R: Drives, A: Aims> Rerun<X, D, R, A> {
 
     /// Ends a task that is not over as `Cancelled`; one that is over stays as it is.
     pub fn cancel(&mut self)
-        ensures { self.new ≡ gives_up self.old }
+        ensures { GivesUp D.grants self.old self.new }
     {
         if self.machine.over().is_some() {
             return;
@@ -239,7 +239,7 @@ impl<X: Effect, D: Draws, R: Drives, A: Aims> Rerun<X, D, R, A> {
 impl<X: Effect, D: Draws, R: Drives, A: Aims> Task for Rerun<X, D, R, A> {
     ghost use Rattle.std.specs.Prelude.{◌≡◌};
     ghost use Rattle.sched_task_law.specs.Past.{waits_by, waits_by-over};
-    ghost use Rattle.sched_run_machine.specs.Retrying.{TaskPoll, gives_up as given_up};
+    ghost use Rattle.sched_run_machine.specs.Retrying.{TaskPoll, GivesUp as CancelsIt};
 
     ghost ended = { λ v. v.past.over };
 
@@ -247,7 +247,7 @@ impl<X: Effect, D: Draws, R: Drives, A: Aims> Task for Rerun<X, D, R, A> {
 
     ghost one_poll = { TaskPoll R.driving D.grants (A.kind R.driving.keeps) };
 
-    ghost gives_up = { λ v u. u ≡ given_up v };
+    ghost gives_up = { CancelsIt D.grants };
 
     ghost rests = { λ v over. waits_by-over (R.driving.starts v.past.driver) v.past over };
 

@@ -12,7 +12,7 @@ use Rattle.sched_effect.specs.declared.ran.Ran.TheVariants as ran
 use Rattle.sched_task.specs.declared.endings.How.{How}
 use Rattle.sched_task.specs.declared.endings.How.TheVariants as how
 use Rattle.sched_task.specs.declared.endings.RunFault.TheVariants.{NoMemory}
-use Rattle.sched_ticket_draws.specs.Grants.{Grants}
+use Rattle.sched_ticket_draws.specs.Grants.{Grants, Lawful}
 use Rattle.sched_task_law.specs.Kind.{a_retry, calls}
 use Rattle.sched_task_law.specs.Lists.{last_is, last_element}
 use Rattle.sched_task_law.specs.Past.{Past, schedule_is_done, waits_by, waits_by-over}
@@ -20,14 +20,14 @@ use Rattle.sched_task_law.specs.Law.{Law, Ended, is_stop}
 use Rattle.sched_task_law.proofs.Lists.{by_test}
 use Rattle.sched_task_law.proofs.Fields.{none_of}
 use Rattle.sched_run_machine.specs.Drives.{Driving}
-use Rattle.sched_run_machine.specs.Retrying.{RetryingOf, along, KeepsLaw, TaskPoll, gives_up as retry_gives_up}
+use Rattle.sched_run_machine.specs.Retrying.{RetryingOf, along, KeepsLaw, TaskPoll, GivesUp as RetryGivesUp}
 use Rattle.sched_run_machine.proofs.Made.{keeps_untaken, keeps_given_up}
 use Rattle.sched_retry.specs.Ending.{EndingFits}
 use Rattle.sched_retry.specs.declared.endings.Ending.{Ending}
 use Rattle.sched_retry.specs.declared.endings.Ending.TheVariants as ending
 use Rattle.sched_retry_or.specs.Ending.{RetryOrFits}
 use Rattle.sched_retry_or.specs.Falling.{Falling, falls_due, IsAsked, HasFallen, FallingLaw, ComesTo, PollsAs}
-use Rattle.sched_retry_or.specs.Falling.{FallingPoll, KeepsStop, IsFalling, gives_up}
+use Rattle.sched_retry_or.specs.Falling.{FallingPoll, KeepsStop, IsFalling}
 use Rattle.sched_retry_or.specs.Stops.{unless_stop, or_stopped, EndsRetry}
 use Rattle.sched_retry_or.specs.declared.endings.RetryOrEnding.{RetryOrEnding}
 use Rattle.sched_retry_or.specs.declared.endings.RetryOrEnding.TheVariants.{Won, Fallen, DeadlinePassed, Cancelled}
@@ -247,40 +247,43 @@ module _ {R D : Type 0} (driving : Driving R) (outputs : R → Option Datum) (gr
       })
 
     -- One that gives up. Where the retry beneath has stopped it is over already, and stays so.
-    keeps_gone : (s : Option F) → KeepsStop fault_code v.retrying s → KeepsStop fault_code (retry_gives_up v.retrying) s
-    keeps_gone None isnt =
-        let none = sym (is.law.as_beneath isnt) ∙ unended in rw none refl
-    keeps_gone (Some fault) keeps = (
-      ap (λ b. is_stop (if b then v.retrying.past.over else Some how.Cancelled))
-          (stop_over v.retrying.past.over keeps.0) ∙ keeps.0,
-      keeps.1,
-    )
+    module _ (w : RetryingOf R D) (gives : RetryGivesUp grants v.retrying w) where
+      gone_same : is_some v.retrying.past.over ≡ true → w ≡ v.retrying
+      gone_same over = rw over at gives
 
-    gone_as : is_stop (retry_gives_up v.retrying).past.over ≡ false →
-        Some how.Cancelled ≡ (retry_gives_up v.retrying).past.over
-    gone_as isnt =
-        by_test (is_some v.retrying.past.over)
-        (λ over.
-        let stays : (retry_gives_up v.retrying).past.over ≡ v.retrying.past.over =
-        ap (λ b. if b then v.retrying.past.over else Some how.Cancelled) over in
-        let same = is.law.as_beneath (ap is_stop (sym stays) ∙ isnt) in
-        absurd (let bad : false ≡ true = sym (ap is_some unended) ∙ ap is_some same ∙ over in cc))
-        (λ none. rw none refl)
+      gone_over : is_some v.retrying.past.over ≡ false → w.past.over ≡ Some how.Cancelled
+      gone_over isnt = ap (λ (w : RetryingOf R D). w.past.over) (rw isnt at gives).1
 
-    pub gone_is : (w : RetryingOf R D) → w ≡ retry_gives_up v.retrying →
-        IsFalling driving outputs grants item_code fault_code
-        (record { retrying = w; over = Some how.Cancelled; untaken = true; asked = v.asked; answered = v.answered })
-        stopped (Some Cancelled)
-    gone_is w same = rw same (record {
-      law = record {
-        law = keeps_given_up driving grants (a_retry driving.keeps) v.retrying is.law.law;
-        as_beneath = gone_as;
-        fallen = λ stop. absurd (cc);
-        untaken = λ _. refl;
-      };
-      fits = refl;
-      keeps = keeps_gone stopped is.keeps;
-    })
+      keeps_gone : (s : Option F) → KeepsStop fault_code v.retrying s → KeepsStop fault_code w s
+      keeps_gone None isnt =
+          let none = sym (is.law.as_beneath isnt) ∙ unended in
+          ap is_stop (gone_over (ap is_some none))
+      keeps_gone (Some fault) keeps =
+          subst (λ (w : RetryingOf R D). KeepsStop fault_code w (Some fault))
+          (sym (gone_same (stop_over v.retrying.past.over keeps.0))) keeps
+
+      gone_as : is_stop w.past.over ≡ false → Some how.Cancelled ≡ w.past.over
+      gone_as isnt =
+          by_test (is_some v.retrying.past.over)
+          (λ over.
+          let stays = ap (λ (w : RetryingOf R D). is_stop w.past.over) (gone_same over) in
+          let same = is.law.as_beneath (sym stays ∙ isnt) in
+          absurd (let bad : false ≡ true = sym (ap is_some unended) ∙ ap is_some same ∙ over in cc))
+          (λ none. sym (gone_over none))
+
+      pub gone_is : Lawful grants → IsFalling driving outputs grants item_code fault_code
+          (record { retrying = w; over = Some how.Cancelled; untaken = true; asked = v.asked; answered = v.answered })
+          stopped (Some Cancelled)
+      gone_is lawful = record {
+        law = record {
+          law = keeps_given_up driving grants (a_retry driving.keeps) lawful v.retrying w is.law.law gives;
+          as_beneath = gone_as;
+          fallen = λ stop. absurd (cc);
+          untaken = λ _. refl;
+        };
+        fits = refl;
+        keeps = keeps_gone stopped is.keeps;
+      }
 
   -- one that has not begun
   pub new_is : {I F : Type 0} (item_code : I → ℕ) (fault_code : F → ℕ) (v : Falling R D) →

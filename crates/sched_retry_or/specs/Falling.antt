@@ -2,6 +2,7 @@
 use Rattle.std.specs.Prelude.{◌≡◌, ℕ, Bool, true, false, if◌then◌else◌, Option, Some, None, is_some, IsSome, IfSome}
 use Rattle.std.specs.Prelude.{refl}
 use mathlib.Core.Path.{ap}
+use Rattle.std.specs.Bool.{MatchBool}
 use Rattle.std.specs.Coded.{Coded, code_by, coded×, coded_ℕ, coded_bool, coded_option}
 use Rattle.sched_time.specs.declared.numbers.Tick.{Tick}
 use Rattle.sched_plan.specs.Datum.{Datum}
@@ -18,7 +19,7 @@ use Rattle.sched_task_law.specs.Past.{waits_by}
 use Rattle.sched_task_law.specs.Law.{is_stop}
 use Rattle.sched_task_law.specs.Codes.{coded_ran, coded_how}
 use Rattle.sched_run_machine.specs.Drives.{Driving}
-use Rattle.sched_run_machine.specs.Retrying.{RetryingOf, coded_retrying, KeepsLaw, TaskPoll, gives_up as retry_gives_up}
+use Rattle.sched_run_machine.specs.Retrying.{RetryingOf, coded_retrying, KeepsLaw, TaskPoll, GivesUp as RetryGivesUp}
 use Rattle.sched_retry_or.specs.Ending.{RetryOrFits}
 use Rattle.sched_retry_or.specs.Stops.{unless_stop}
 use Rattle.sched_retry_or.specs.declared.endings.RetryOrEnding.{RetryOrEnding}
@@ -110,13 +111,14 @@ module _ {R D : Type 0} (driving : Driving R) (outputs : R → Option Datum) (gr
     pub poll : PollsAs v.over (is_stop v.retrying.past.over) v t u
     pub ready_is : ready ≡ is_some u.over
 
--- one that is not over is cancelled, and so is the retry beneath
-abbrev pub gives_up : {R D : Type 0} → Falling R D → Falling R D
-gives_up v = record v {
-  retrying = if is_some v.over then v.retrying else retry_gives_up v.retrying;
-  over = if is_some v.over then v.over else Some how.Cancelled;
-  untaken = if is_some v.over then v.untaken else true;
-}
+-- one that is cancelled, with the retry beneath then
+abbrev pub given_up : {R D : Type 0} → Falling R D → RetryingOf R D → Falling R D
+given_up v retrying = record v { retrying = retrying; over = Some how.Cancelled; untaken = true }
+
+-- One that is not over is cancelled, and so is the retry beneath.
+abbrev pub GivesUp : {R D : Type 0} → Grants D → Falling R D → Falling R D → Type 0
+GivesUp grants v u =
+    MatchBool (is_some v.over) (u ≡ v) (RetryGivesUp grants v.retrying u.retrying × (u ≡ given_up v u.retrying))
 
 -- The failure at which the retry beneath has stopped is kept, with which the fallback is asked; elsewhere none is.
 abbrev pub KeepsStop : {R D F : Type 0} → (F → ℕ) → RetryingOf R D → Option F → Type 0

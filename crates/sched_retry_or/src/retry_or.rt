@@ -3,7 +3,7 @@ ghost use Rattle.std.specs.Prelude.{◌≡◌, ◌+◌, false, is_some, IfSome};
 ghost use Rattle.futures.specs.Task.{Keeps};
 ghost use Rattle.sched_task.specs.Polls.{is_ready};
 ghost use Rattle.sched_task_law.specs.Past.{nothing_yet};
-ghost use Rattle.sched_retry_or.specs.Falling.{falls_due, FallingLaw, FallingPoll, gives_up};
+ghost use Rattle.sched_retry_or.specs.Falling.{falls_due, FallingLaw, FallingPoll, GivesUp};
 ghost use Rattle.sched_retry_or.specs.Ending.{RetryOrFits};
 
 use crate::endings::RetryOrEnding;
@@ -133,7 +133,7 @@ impl<X: Effect, D: Draws, F: Fallback<X>, R: GivesOutput> RetryOr<X, D, F, R> {
 
     /// Ends a retry that is not over as `Cancelled`; one that is over stays as it is.
     pub fn cancel(&mut self)
-        ensures { self.new ≡ gives_up self.old }
+        ensures { GivesUp D.grants self.old self.new }
     {
         if self.over.is_some() {
             return;
@@ -205,7 +205,7 @@ impl<X: Effect, D: Draws, F: Fallback<X>, R: GivesOutput> RetryOr<X, D, F, R> {
 
 impl<X: Effect, D: Draws, F: Fallback<X>, R: GivesOutput> Task for RetryOr<X, D, F, R> {
     ghost use Rattle.std.specs.Prelude.{◌≡◌};
-    ghost use Rattle.sched_retry_or.specs.Falling.{falls_due, falls_due-over, FallingPoll, gives_up as given_up};
+    ghost use Rattle.sched_retry_or.specs.Falling.{falls_due, falls_due-over, FallingPoll, GivesUp as CancelsIt};
 
     ghost ended = { λ v. v.over };
 
@@ -213,7 +213,7 @@ impl<X: Effect, D: Draws, F: Fallback<X>, R: GivesOutput> Task for RetryOr<X, D,
 
     ghost one_poll = { FallingPoll R.driving R.outputs D.grants };
 
-    ghost gives_up = { λ v u. u ≡ given_up v };
+    ghost gives_up = { CancelsIt D.grants };
 
     ghost rests = { falls_due-over R.driving };
 

@@ -7,8 +7,8 @@
 //! (`Unlimited`). It blocks until that is over. What drives it is a `Machine`, which is made at the first failure: by a
 //! `Stepper`, which keeps nothing of the runs and has no last event, or by a `Driver`, which keeps a journal of 65,536
 //! events; round either an `Until` sets a deadline. A program that makes its runs itself polls the machine, and reports
-//! how each run went. `repeat_call` calls a closure again after each success, by the machine of a repeat
-//! (`RepeatMachine`).
+//! how each run went. `limited_call` does the same under a limit that first calls ask too (`OnAsks`). `repeat_call`
+//! calls a closure again after each success, by the machine of a repeat (`RepeatMachine`).
 //!
 //! A `Retry` does the same with an effect, as a task that is polled. A `RetryOr` asks a fallback in the end, and a
 //! `Repeat` runs again after each success. Each is polled by hand with `poll_at`, or is a future by `Timed`, which
@@ -24,12 +24,15 @@ pub use futures::Future;
 pub use futures::executor::block_on;
 pub use futures::task::{Context, Poll};
 pub use rand_core::Rng;
-pub use sched_closure::{CallEnding, RepeatCallEnding, repeat_call, retry_call};
+pub use sched_closure::{CallEnding, RepeatCallEnding, limited_call, repeat_call, retry_call};
 pub use sched_driver::{DriveFault, Driver, Event};
 pub use sched_driver_stepper::{StepFault, Stepper};
 pub use sched_effect::{
     Action, Call, Code, Coded, Effect, Fallback, FutureAction, FutureCall, Ran, Scripted, Tagged,
 };
+pub use sched_limit::{Breaker, Bucket, InFlight, Refusal as LimitRefusal, Throttle};
+pub use sched_limit_draws::{Costs, OnAsks};
+pub use sched_limit_request::{Asks, Both, OnLimit, OnThrottle, SplitFault};
 pub use sched_plan::{Fold, Plan, PlanFault, SharedPlan, Side, Test, Val};
 pub use sched_retry::{Ending, Repeat, Rerun, Retry};
 pub use sched_retry_or::{RetryOr, RetryOrEnding};
@@ -41,7 +44,7 @@ pub use sched_task::{
     VirtualClock, four_words,
 };
 pub use sched_ticket::{Budget, Pass, PassesOut, Refusal, TicketFault};
-pub use sched_ticket_draws::{Draws, OnBudget, OnQuota, RefersTo, Unlimited};
+pub use sched_ticket_draws::{Draws, OnBudget, OnQuota, Quiet, RefersTo, Unlimited};
 pub use sched_ticket_quota::{
     Pass as QuotaPass, PassesOut as QuotaPassesOut, Quota, QuotaFault, Refusal as QuotaRefusal,
     Terms, Usage,

@@ -18,12 +18,15 @@ use Rattle.sched_task_law.specs.Past.{Past, unstepped, is_under_way, is_too_late
 use Rattle.sched_task_law.specs.Poll.{Happened, stays, cannot_begin, runs_on, cannot_run, ends, breaks, stops_done}
 use Rattle.sched_task_law.specs.Poll.{stops_denied, recurs, times_out, after, IsDue, CanRun, RoomIn, RefusedIn, Steps}
 use Rattle.sched_task_law.specs.Poll.{May}
+use Rattle.sched_task_law.specs.Law.{Law}
 use Rattle.sched_task_law.proofs.Lists.{by_test}
+use Rattle.sched_task_law.proofs.Fields.{none_of}
 use Rattle.sched_task_law.proofs.Law.{under_way_then, finished_then, law_of_nothing, law_cancelled}
 use Rattle.sched_run_machine.specs.Drives.{Driving, SteppedOn}
 use Rattle.sched_run_machine.specs.Machine.{Machine, begins, unbegun, would_be_late, timed_out, breaks_off, cancelled}
 use Rattle.sched_run_machine.specs.Machine.{IsMachineOf, IsMachine, Looks, LeadsEach, PollsEach, Stops, Ends}
-use Rattle.sched_run_machine.specs.Retrying.{Retrying, RetryLaw, Drawn, DrawsIn, HostPoll, gives_up}
+use Rattle.sched_run_machine.specs.Machine.{TellsEnd, Cancels}
+use Rattle.sched_run_machine.specs.Retrying.{Retrying, RetryLaw, Tells, Drawn, DrawsIn, HostPoll, given_up, GivesUp}
 use Rattle.sched_run_machine.proofs.Settles.{next, settles, rests}
 
 -- whatever happens in a poll, the deadline stays
@@ -56,19 +59,31 @@ some_counted told runs is =
     (λ some. absurd (omega (arith, is, ltb-true 0 told some, ltb-false 0 runs none))) (λ no. no)))
 
 -- a task that gives up keeps its law
-pub law_given_up : {D : Type 0} (grants : Grants D) (kind : Kind) (v : Retrying D) → RetryLaw grants kind v →
-    RetryLaw grants kind (gives_up v)
-law_given_up grants kind v law = record {
-  law = law_cancelled kind v.past law.law;
-  granted = law.granted;
-  denied = law.denied;
-  stands = law.stands;
-  untaken = elim v.past.over as (λ over. ((if is_some over then v.untaken else true) ≡ true) →
-      is_some (if is_some over then over else Some how.Cancelled) ≡ true) [
-        | None ↦ λ _. refl
-        | Some h ↦ λ _. refl
-      ];
-}
+pub law_given_up-not : {D : Type 0} (grants : Grants D) (lawful : Lawful grants) (kind : Kind) (v u : Retrying D) →
+    v.past.over ≡ None → RetryLaw grants kind v →
+    grants.ended v.drawing (not (is_under_way v.past.runs v.past.begun)) u.drawing → u ≡ given_up v u.drawing →
+    RetryLaw grants kind u
+law_given_up-not grants lawful kind v u unended law tells same =
+    let told = lawful.ends v.drawing (not (is_under_way v.past.runs v.past.begun)) u.drawing tells in
+    let over : (if is_some v.past.over then v.past.over else Some how.Cancelled) ≡ Some how.Cancelled =
+    rw unended refl in
+    subst (λ (u : Retrying _). RetryLaw grants kind u) (sym same) (record {
+      law = subst (λ (over : Option How). Law kind (record v.past { over = over })) over
+          (law_cancelled kind v.past law.law);
+      granted = told.same.granted ∙ law.granted;
+      denied = λ is. told.refused (law.denied is);
+      stands = told.same.stands law.stands;
+      untaken = λ _. refl;
+    })
+
+pub law_given_up : {D : Type 0} (grants : Grants D) (lawful : Lawful grants) (kind : Kind) (v u : Retrying D) →
+    RetryLaw grants kind v → GivesUp grants v u → RetryLaw grants kind u
+law_given_up grants lawful kind v u law gives =
+    by_test (is_some v.past.over)
+    (λ over. subst (λ (u : Retrying _). RetryLaw grants kind u) (sym (rw over at gives)) law)
+    (λ isnt.
+    let gone = rw isnt at gives in
+    law_given_up-not grants lawful kind v u (none_of v.past.over isnt) law gone.0 gone.1)
 
 module _ {R D : Type 0} (driving : Driving R) (kind : Kind) (grants : Grants D) (lawful : Lawful grants) where
   -- a machine that has not begun stands for a task that has not
@@ -189,16 +204,27 @@ module _ {R D : Type 0} (driving : Driving R) (kind : Kind) (grants : Grants D) 
       late_as late is v st =
           sym (late_of m v t.now st) ∙ ap (λ (m : Machine R D). would_be_late (driving.ends m.driver) m t.now) same ∙ is
 
+      -- what draws is told that the task is over, and stands
+      stands_then : (v : Retrying D) (unused : Bool) (q : D) → IsMachineOf driving kind grants m v →
+          grants.ended v.drawing unused q → grants.stands q
+      stands_then v unused q st tells = (lawful.ends v.drawing unused q tells).same.stands st.law.stands
+
+      -- and so is that of each task that the machine may stand for
+      told_of : (v : Retrying D) (unused : Bool) (q : D) → IsMachineOf driving kind grants m v →
+          grants.ended m.drawing unused q → grants.ended v.drawing unused q
+      told_of v unused q st tells = subst (λ (p : D). grants.ended p unused q) st.drawing tells
+
       -- another run would begin too late
-      pub ends_late : would_be_late (driving.ends w.driver) w t.now ≡ true →
-          PollsEach driving kind grants w t [] (timed_out m)
-      ends_late late =
-          polled_as w (timed_out m) [] same (record {
+      pub ends_late : (q : D) → grants.ended m.drawing true q → would_be_late (driving.ends w.driver) w t.now ≡ true →
+          PollsEach driving kind grants w t [] (timed_out m q)
+      ends_late q tells late =
+          polled_as w (timed_out m q) [] same (record {
             leads = λ v st.
-                polled (timed_out m) v st times_out v.drawing [] (due v st).unended (due v st, late_as true late v st)
-                refl
-                st.law.stands (sym (append-nil v.past.runs)) st.driver refl st.under_way refl st.drawing refl
-                (none_told v st);
+                let told = told_of v true q st tells in
+                polled (timed_out m q) v st times_out q [] (due v st).unended (due v st, late_as true late v st)
+                told
+                (stands_then v true q st told) (sym (append-nil v.past.runs)) st.driver refl st.under_way refl refl
+                refl (none_told v st);
           })
 
       module _ (in_time : would_be_late (driving.ends w.driver) w t.now ≡ false) where
@@ -216,26 +242,31 @@ module _ {R D : Type 0} (driving : Driving R) (kind : Kind) (grants : Grants D) 
             })
 
         -- memory is refused to it, or to its beginning
-        broken : (begun : Bool) → (m.under_way ≡ true → begun ≡ true) →
-            LeadsEach driving kind grants m t [] (breaks_off begun m)
-        broken true begun v st =
-            polled (breaks_off true m) v st cannot_run v.drawing [] (due v st).unended (can v st) refl st.law.stands
+        broken : (begun : Bool) (q : D) → grants.ended m.drawing (not begun) q →
+            (m.under_way ≡ true → begun ≡ true) →
+            LeadsEach driving kind grants m t [] (breaks_off begun m q)
+        broken true q tells begun v st =
+            let told = told_of v false q st tells in
+            polled (breaks_off true m q) v st cannot_run q [] (due v st).unended (can v st) told
+            (stands_then v false q st told)
             (sym (append-nil v.past.runs)) st.driver refl (sym (under_way_then v.past t st.law.law.counted)) refl
-            st.drawing
+            refl
             refl (none_told v st)
-        broken false begun v st =
+        broken false q tells begun v st =
             let unbegun : m.under_way ≡ false =
             by_test m.under_way (λ running. absurd (let bad : false ≡ true = begun running in cc)) (λ isnt. isnt) in
             let none : is_under_way v.past.runs v.past.begun ≡ false = sym st.under_way ∙ unbegun in
-            polled (breaks_off false m) v st cannot_begin v.drawing [] (due v st).unended (can v st, none) refl
-            st.law.stands
-            (sym (append-nil v.past.runs)) st.driver refl (sym none) refl st.drawing refl (none_told v st)
+            let told = told_of v true q st tells in
+            polled (breaks_off false m q) v st cannot_begin q [] (due v st).unended (can v st, none) told
+            (stands_then v true q st told)
+            (sym (append-nil v.past.runs)) st.driver refl (sym none) refl refl refl (none_told v st)
 
-        pub breaks_run : (begun : Bool) → (w.under_way ≡ true → begun ≡ true) →
-            PollsEach driving kind grants w t [] (breaks_off begun m)
-        breaks_run begun running =
-            polled_as w (breaks_off begun m) [] same (record {
-              leads = broken begun (λ is. running (sym (ap (λ (m : Machine R D). m.under_way) same) ∙ is));
+        pub breaks_run : (begun : Bool) (q : D) → grants.ended m.drawing (not begun) q →
+            (w.under_way ≡ true → begun ≡ true) →
+            PollsEach driving kind grants w t [] (breaks_off begun m q)
+        breaks_run begun q tells running =
+            polled_as w (breaks_off begun m q) [] same (record {
+              leads = broken begun q tells (λ is. running (sym (ap (λ (m : Machine R D). m.under_way) same) ∙ is));
             })
 
         -- the run ends as it went
@@ -262,6 +293,14 @@ module _ {R D : Type 0} (driving : Driving R) (kind : Kind) (grants : Grants D) 
             driving.stands s v.past.driver
         same_driver v s st same = subst (λ (r : R). driving.stands r v.past.driver) (sym same) st.driver
 
+        -- what draws for each task that the machine may stand for was told the same
+        told_run : (v : Retrying D) (r : Ran) (x : D) → IsMachineOf driving kind grants m v →
+            Tells grants r t.now m.drawing x → Tells grants r t.now v.drawing x
+        told_run v r x st tells = subst (λ (p : D). Tells grants r t.now p x) st.drawing tells
+
+        last_told : (x y q : D) → y ≡ x → grants.ended y false q → grants.ended x false q
+        last_told x y q none tells = subst (λ (y : D). grants.ended y false q) none tells
+
         -- it ends a run that calls for a step
         module _ (kept : keeps kind ≡ driving.keeps) (r : Ran) (called : calls kind r ≡ true) where
           step_on : (v : Retrying D) (s : R) (done : Bool) → IsMachineOf driving kind grants m v →
@@ -278,38 +317,44 @@ module _ {R D : Type 0} (driving : Driving R) (kind : Kind) (grants : Grants D) 
             room = subst (λ (k : Bool). RoomIn k v.past.driver t.now) (sym kept) step.room;
           }
 
-          stops_leads : (over : Option How) (s : R) (q : D) → driving.ends s ≡ driving.ends m.driver →
-              Stops driving kind grants m.driver m.drawing t (code_of r) over s q → grants.stands q →
+          -- what draws was told how the run went, and is told that the task is over, where it is
+          stops_leads : (over : Option How) (s : R) (x y q : D) → driving.ends s ≡ driving.ends m.driver →
+              Tells grants r t.now m.drawing x →
+              Stops driving kind grants m.driver x t (code_of r) over s y → TellsEnd grants over y q → grants.stands q →
               LeadsEach driving kind grants m t (r ∷ []) (ended s over q)
-          stops_leads None s q same came holds v st =
+          stops_leads None s x y q same tells came last holds v st =
               let step = step_on v s false st (came.0 v.past.driver st.driver) in let steps = steps v s false st step in
               polled (ended s None q) v st (recurs r) q (r ∷ []) (due v st).unended (steps, step.done_is)
-              (subst (λ (p : D). Drawn grants (draws kind) t.now p q) st.drawing came.1) holds refl step.stands_on same
+              (x, told_run v r x st tells, subst (λ (q : D). Drawn grants (draws kind) t.now x q) (sym last) came.1)
+              holds
+              refl step.stands_on same
               (idle v r st) (sym (due v st).unended) refl refl (counted v r st)
-          stops_leads (Some how.ScheduleDone) s q same came holds v st =
+          stops_leads (Some how.ScheduleDone) s x y q same tells came last holds v st =
               let step = step_on v s true st (came.0 v.past.driver st.driver) in let steps = steps v s true st step in
               polled (ended s (Some how.ScheduleDone) q) v st (stops_done r) q (r ∷ []) (due v st).unended
-              (steps, step.done_is) (came.1 ∙ st.drawing) holds refl step.stands_on same (idle v r st) refl refl refl
+              (steps, step.done_is) (x, told_run v r x st tells, last_told x y q came.1 last) holds refl
+              step.stands_on same
+              (idle v r st) refl refl refl
               (counted v r st)
-          stops_leads (Some how.BudgetRefused) s q same came holds v st =
+          stops_leads (Some how.BudgetRefused) s x y q same tells came last holds v st =
               let step = step_on v s false st (came.1 v.past.driver st.driver) in let steps = steps v s false st step in
               polled (ended s (Some how.BudgetRefused) q) v st (stops_denied r) q (r ∷ []) (due v st).unended
-              (steps, step.done_is, came.0) (subst (λ (p : D). grants.drew p t.now false q) st.drawing came.2) holds
+              (steps, step.done_is, came.0) (x, y, told_run v r x st tells, came.2, last) holds
               refl
               step.stands_on same (idle v r st) refl refl refl (counted v r st)
-          stops_leads (Some (how.Broken fault)) s q same came holds v st =
+          stops_leads (Some (how.Broken fault)) s x y q same tells came last holds v st =
               polled (ended s (Some (how.Broken fault)) q) v st (breaks r fault) q (r ∷ []) (due v st).unended (
                 can v st,
                 called,
                 subst (λ (k : Bool). RefusedIn k v.past.driver t.now fault) (sym kept)
                     (came.0 v.past.driver st.driver),
               )
-              (came.2 ∙ st.drawing) holds refl
+              (x, told_run v r x st tells, last_told x y q came.2 last) holds refl
               (same_driver v s st came.1) same (idle v r st) refl refl refl (counted v r st)
-          stops_leads (Some how.Won) s q same came holds v st = absurd came
-          stops_leads (Some how.Failed) s q same came holds v st = absurd came
-          stops_leads (Some how.DeadlinePassed) s q same came holds v st = absurd came
-          stops_leads (Some how.Cancelled) s q same came holds v st = absurd came
+          stops_leads (Some how.Won) s x y q same tells came last holds v st = absurd came
+          stops_leads (Some how.Failed) s x y q same tells came last holds v st = absurd came
+          stops_leads (Some how.DeadlinePassed) s x y q same tells came last holds v st = absurd came
+          stops_leads (Some how.Cancelled) s x y q same tells came last holds v st = absurd came
 
         -- it ends a run as it went
         ends_leads : (kept : keeps kind ≡ driving.keeps) (r : Ran) (over : Option How) (s : R) (q : D) →
@@ -317,12 +362,15 @@ module _ {R D : Type 0} (driving : Driving R) (kind : Kind) (grants : Grants D) 
             Ends driving kind grants m.driver m.drawing t r over s q → grants.stands q →
             LeadsEach driving kind grants m t (r ∷ []) (ended s over q)
         ends_leads kept r over s q same came holds v st =
-            by_test (calls kind r) (λ called. stops_leads kept r called over s q same (rw called at came) holds v st)
+            by_test (calls kind r)
+            (λ called. stops_leads kept r called over s came.0 came.1 q same came.2 (rw called at came.3) came.4 holds
+            v st)
             (λ uncalled.
-            let final = rw uncalled at came in
-            polled (ended s over q) v st (ends r) q (r ∷ []) (due v st).unended (can v st, uncalled) (final.2
-            ∙ st.drawing)
-            holds refl (same_driver v s st final.1) same (idle v r st) final.0 refl refl (counted v r st))
+            let final_so = rw uncalled at came.3 in
+            let last = subst (λ (over : Option How). TellsEnd grants over came.1 q) final_so.0 came.4 in
+            polled (ended s over q) v st (ends r) q (r ∷ []) (due v st).unended (can v st, uncalled)
+            (came.0, told_run v r came.0 st came.2, last_told came.0 came.1 q final_so.2 last)
+            holds refl (same_driver v s st final_so.1) same (idle v r st) final_so.0 refl refl (counted v r st))
 
         pub ends_run : (kept : keeps kind ≡ driving.keeps) (r : Ran) (over : Option How) (s : R) (q : D) →
             driving.ends s ≡ driving.ends m.driver →
@@ -334,28 +382,58 @@ module _ {R D : Type 0} (driving : Driving R) (kind : Kind) (grants : Grants D) 
                   ends_leads kept r over s q same_end came holds;
             })
 
-  -- one that gives up
-  pub cancels : (m : Machine R D) (v : Retrying D) → IsMachineOf driving kind grants m v →
-      IsMachineOf driving kind grants (cancelled m) (gives_up v)
-  cancels m v st = record {
-    law = law_given_up grants kind v st.law;
-    driver = st.driver;
-    deadline = st.deadline;
-    under_way = st.under_way;
-    over = ap (λ (over : Option How). if is_some over then over else Some how.Cancelled) st.over;
-    drawing = st.drawing;
-    had = st.had;
-    told = st.told;
-  }
+  -- one that gives up, where it is not over, and what it may stand for
+  pub gone_stands : (m : Machine R D) (q : D) → m.over ≡ None → grants.ended m.drawing (not m.under_way) q →
+      (v : Retrying D) → IsMachineOf driving kind grants m v →
+      GivesUp grants v (given_up v q) × IsMachineOf driving kind grants (cancelled m q) (given_up v q)
+  gone_stands m q unended tells v st =
+      let none = sym st.over ∙ unended in
+      let told = subst (λ (running : Bool). grants.ended v.drawing (not running) q) st.under_way
+      (subst (λ (p : D). grants.ended p (not m.under_way) q) st.drawing tells) in
+      let gives : GivesUp grants v (given_up v q) = rw none (told, refl) in (
+        gives,
+        record {
+          law = law_given_up grants lawful kind v (given_up v q) st.law gives;
+          driver = st.driver;
+          deadline = st.deadline;
+          under_way = st.under_way;
+          over = refl;
+          drawing = refl;
+          had = st.had;
+          told = st.told;
+        },
+      )
 
-  -- one that is not over ends as cancelled
-  pub cancels_unended : (m : Machine R D) → m.over ≡ None → IsMachine driving kind grants m →
-      IsMachine driving kind grants (record m { over = Some how.Cancelled })
-  cancels_unended m unended is = (
-    gives_up is.0,
-    subst (λ (over : Option How). IsMachineOf driving kind grants (record m { over = over }) (gives_up is.0))
-        (ap (λ (over : Option How). if is_some over then over else Some how.Cancelled) unended) (cancels m is.0 is.1),
-  )
+  -- one that is over stays so
+  stays_given : (m : Machine R D) → is_some m.over ≡ true → (v : Retrying D) → IsMachineOf driving kind grants m v →
+      GivesUp grants v v
+  stays_given m over v st = rw (sym (ap is_some st.over) ∙ over) refl
+
+  pub over_stays : (m : Machine R D) → is_some m.over ≡ true → (v : Retrying D) →
+      IsMachineOf driving kind grants m v →
+      (u : Retrying D) × GivesUp grants v u × IsMachineOf driving kind grants m u
+  over_stays m over v st = (v, stays_given m over v st, st)
+
+  pub cancels : (m n : Machine R D) → Cancels grants m n → (v : Retrying D) → IsMachineOf driving kind grants m v →
+      (u : Retrying D) × GivesUp grants v u × IsMachineOf driving kind grants n u
+  cancels m n did v st =
+      by_test (is_some m.over)
+      (λ over. (
+        v,
+        stays_given m over v st,
+        subst (λ (n : Machine R D). IsMachineOf driving kind grants n v) (sym (rw over at did)) st,
+      ))
+      (λ isnt.
+      let gone = rw isnt at did in
+      let so = gone_stands m n.drawing (none_of m.over isnt) gone.0 v st in (
+        given_up v n.drawing,
+        so.0,
+        subst (λ (n' : Machine R D). IsMachineOf driving kind grants n' (given_up v n.drawing)) (sym gone.1) so.1,
+      ))
+
+  pub cancels_left : (m n : Machine R D) → Cancels grants m n → IsMachine driving kind grants m →
+      IsMachine driving kind grants n
+  cancels_left m n did is = let so = cancels m n did is.0 is.1 in (so.0, so.2)
 
   -- what is always so of a machine: it has what draws as that stands, and no fewer tickets than at its beginning
   pub has_drawn : (m : Machine R D) → IsMachine driving kind grants m →

@@ -1,27 +1,30 @@
 -- A poll of a task, of its machine and its runs, leaves one, whatever happens in it.
-use Rattle.std.proofs.Common.{◌≡◌, ℕ, ◌-◌, Bool, true, false, ◌||◌, if◌then◌else◌, List, [], ◌++◌, Option, None}
-use Rattle.std.proofs.Common.{is_some, IfSome, refl, sym, ap, ◌∙◌, subst, arith}
+use Rattle.std.proofs.Common.{◌≡◌, ℕ, ◌-◌, Bool, true, false, not, ◌||◌, if◌then◌else◌, List, [], ◌++◌, Option, Some}
+use Rattle.std.proofs.Common.{None, is_some, IfSome, refl, sym, ap, ◌∙◌, subst, arith}
+use Rattle.std.specs.Bool.{MatchBool}
 use Rattle.std.proofs.lemmas.List.{append-nil}
 use Rattle.sched_time.specs.declared.numbers.Tick.{Tick}
 use Rattle.sched_driver.specs.Driven.{Driven}
 use Rattle.sched_effect.specs.declared.ran.Ran.{Ran}
 use Rattle.sched_ticket_draws.specs.Grants.{Grants, Lawful}
 use Rattle.sched_task.specs.declared.endings.How.{How}
+use Rattle.sched_task.specs.declared.endings.How.TheVariants as how
 use Rattle.sched_task_law.specs.Kind.{Kind}
-use Rattle.sched_task_law.specs.Past.{unstepped, nothing_yet, next_start_by, waits_by, waits_for}
+use Rattle.sched_task_law.specs.Past.{unstepped, nothing_yet, is_under_way, next_start_by, waits_by, waits_for}
 use Rattle.sched_task_law.specs.Law.{is_refused}
 use Rattle.sched_task_law.proofs.Lists.{by_test}
+use Rattle.sched_task_law.proofs.Fields.{none_of}
 use Rattle.sched_task_law.proofs.Events.{denied_is}
 use Rattle.sched_run_machine.specs.declared.runner.Polled.{Polled}
 use Rattle.sched_run_machine.specs.Drives.{Driving}
-use Rattle.sched_run_machine.specs.Machine.{Machine, begins, unbegun, would_be_late, cancelled, timed_out, IsMachineOf}
-use Rattle.sched_run_machine.specs.Machine.{Looks, PollsEach}
+use Rattle.sched_run_machine.specs.Machine.{Machine, begins, unbegun, would_be_late, cancelled, TimesOut, Cancels}
+use Rattle.sched_run_machine.specs.Machine.{IsMachineOf, Looks, PollsEach}
 use Rattle.sched_run_machine.specs.Of.{past_of, made_of, IsOf, IsTask}
 use Rattle.sched_run_machine.specs.Retrying.{RetryingOf, Retrying, RetryPoll, along, IsAlong, KeepsLaw, TaskPoll}
-use Rattle.sched_run_machine.specs.Retrying.{gives_up}
+use Rattle.sched_run_machine.specs.Retrying.{given_up, GivesUp}
 use Rattle.sched_run_machine.specs.Runner.{Runs, begun_with, leaves_run, told_by, RunPolls}
 use Rattle.sched_run_machine.proofs.Settles.{rests}
-use Rattle.sched_run_machine.proofs.Calls.{law_given_up, cancels, running_in_time}
+use Rattle.sched_run_machine.proofs.Calls.{law_given_up-not, gone_stands, running_in_time}
 use Rattle.sched_run_machine.proofs.Runs.{finishes, begun_then, Grows, grows}
 
 -- a machine that is too late has no run under way
@@ -113,10 +116,10 @@ module _ {R D : Type 0} (driving : Driving R) (grants : Grants D) (lawful : Lawf
 
   -- nothing finishes where the deadline ends it
   pub late_grows : (m n : Machine R D) (r : Runs) (t : Tick) → would_be_late (driving.ends m.driver) m t.now ≡ true →
-      n ≡ timed_out m → Grows r r t [] n.under_way
+      TimesOut grants m n → Grows r r t [] n.under_way
   late_grows m n r t late same = record {
     runs = sym (append-nil r.runs);
-    begun = rw (same, late_idle (driving.ends m.driver) m t.now late) refl;
+    begun = rw (same.1, late_idle (driving.ends m.driver) m t.now late) refl;
   }
 
   module _ {E : Type 0} (fits : Option How → List Ran → E → Type 0) (m n : Machine R D) (t : Tick) (r s : Runs)
@@ -132,14 +135,14 @@ module _ {R D : Type 0} (driving : Driving R) (grants : Grants D) (lawful : Lawf
 
     -- its deadline ended it
     pub comes_late : Looks driving kind grants m t false → m.over ≡ None → PollsEach driving kind grants m t [] n →
-        would_be_late (driving.ends m.driver) m t.now ≡ true → n ≡ timed_out m → s ≡ r → is_some ending ≡ true →
+        would_be_late (driving.ends m.driver) m t.now ≡ true → TimesOut grants m n → s ≡ r → is_some ending ≡ true →
         IfSome ending (fits n.over r.runs) → Comes []
     comes_late looks unended polls late same runs some fit = record {
       looks = looks;
       unended = unended;
       polls = polls;
       grown = rw runs (late_grows m n r t late same);
-      over = rw same (sym some);
+      over = rw same.1 (sym some);
       fit = rw runs fit;
     }
 
@@ -187,17 +190,64 @@ module _ {R D : Type 0} (driving : Driving R) (grants : Grants D) (lawful : Lawf
   }
 
   -- one that is not over gives up
+  abbrev pub GoneTo : Machine R D → Runs → Bool → Machine R D → Type 0
+  GoneTo m r untaken n =
+      IsOf driving grants kind n r true
+      × GivesUp grants (made_of driving grants m r untaken) (made_of driving grants n r true)
+
+  gone_to : (m : Machine R D) (q : D) (r : Runs) (untaken : Bool) → IsOf driving grants kind m r untaken →
+      m.over ≡ None → grants.ended m.drawing (not m.under_way) q → GoneTo m r untaken (cancelled m q)
+  gone_to m q r untaken of unended tells =
+      let st = of.1 in
+      let v = along (made_of driving grants m r untaken) of.0 in
+      let so = gone_stands driving kind grants lawful m q unended tells v st in
+      let granted : grants.granted m.drawing - m.had ≡ grants.granted q - m.had =
+      ap (λ (n : ℕ). n - m.had) (sym (lawful.ends m.drawing (not m.under_way) q tells).same.granted) in
+      let denied : is_refused m.over ≡ false = rw unended refl in
+      let gone : given_up v q ≡ along (made_of driving grants (cancelled m q) r true) of.0 =
+      (λ i. record {
+        past = record {
+          driver = of.0;
+          deadline = driving.ends m.driver;
+          runs = r.runs;
+          begun = r.begun;
+          over = Some how.Cancelled;
+          denied = denied i;
+          granted = granted i;
+        };
+        drawing = q;
+        had = m.had;
+        untaken = true;
+      }) in
+      let gone_of : made_of driving grants (cancelled m q) r true ≡ given_up (made_of driving grants m r untaken) q =
+      (λ i. record {
+        past = record {
+          driver = m.driver;
+          deadline = driving.ends m.driver;
+          runs = r.runs;
+          begun = r.begun;
+          over = Some how.Cancelled;
+          denied = sym denied i;
+          granted = sym granted i;
+        };
+        drawing = q;
+        had = m.had;
+        untaken = true;
+      }) in (
+        (of.0, subst (λ (u : Retrying D). IsMachineOf driving kind grants (cancelled m q) u) gone so.1),
+        subst (λ (b : Bool). MatchBool b
+            (made_of driving grants (cancelled m q) r true ≡ made_of driving grants m r untaken)
+            (grants.ended m.drawing (not (is_under_way r.runs r.begun)) q
+            × (made_of driving grants (cancelled m q) r true ≡ given_up (made_of driving grants m r untaken) q)))
+            (sym (ap is_some unended))
+            (subst (λ (running : Bool). grants.ended m.drawing (not running) q) st.under_way tells, gone_of),
+      )
+
   pub gives_up_so : (m n : Machine R D) (r : Runs) (untaken : Bool) → IsOf driving grants kind m r untaken →
-      m.over ≡ None →
-      n ≡ cancelled m → IsOf driving grants kind n r true
-  gives_up_so m n r untaken of unended same =
-      subst (λ (n : Machine R D). IsOf driving grants kind n r true) (sym same)
-      (let v = along (made_of driving grants m r untaken) of.0 in
-      let gone : gives_up v ≡ along (made_of driving grants (cancelled m) r true) of.0 = rw unended refl in (
-        of.0,
-        subst (λ (u : Retrying D). IsMachineOf driving kind grants (cancelled m) u) gone
-            (cancels driving kind grants lawful m v of.1),
-      ))
+      m.over ≡ None → Cancels grants m n → GoneTo m r untaken n
+  gives_up_so m n r untaken of unended did =
+      let gone = rw unended at did in
+      subst (λ (n : Machine R D). GoneTo m r untaken n) (sym gone.1) (gone_to m n.drawing r untaken of unended gone.0)
 
   -- one whose ending is taken
   pub taken_so : (m : Machine R D) (r : Runs) (untaken : Bool) → IsOf driving grants kind m r untaken →
@@ -293,14 +343,20 @@ module _ {R D : Type 0} (driving : Driving R) (grants : Grants D) (kind : Kind) 
         },
       )
 
-  pub keeps_given_up : (v : RetryingOf R D) → KeepsLaw driving grants kind v → KeepsLaw driving grants kind (gives_up v)
-  keeps_given_up v is =
-      let may = is.1 in (
+  pub keeps_given_up : (lawful : Lawful grants) (v u : RetryingOf R D) → KeepsLaw driving grants kind v →
+      GivesUp grants v u → KeepsLaw driving grants kind u
+  keeps_given_up lawful v u is gives =
+      by_test (is_some v.past.over)
+      (λ over. subst (λ (u : RetryingOf R D). KeepsLaw driving grants kind u) (sym (rw over at gives)) is)
+      (λ isnt.
+      let gone = rw isnt at gives in
+      let may = is.1 in
+      subst (λ (u : RetryingOf R D). KeepsLaw driving grants kind u) (sym gone.1) (
         is.0,
         record {
           stands = may.stands;
-          law = law_given_up grants kind (along v is.0) may.law;
-          deadline =
-              may.deadline;
+          law = law_given_up-not grants lawful kind (along v is.0) (given_up (along v is.0) u.drawing)
+              (none_of v.past.over isnt) may.law gone.0 refl;
+          deadline = may.deadline;
         },
-      )
+      ))

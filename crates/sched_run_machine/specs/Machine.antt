@@ -17,7 +17,7 @@ use Rattle.sched_task_law.specs.Past.{nothing_until, is_under_way}
 use Rattle.sched_task_law.specs.Poll.{stays, IsDue, May}
 use Rattle.sched_task_law.specs.Codes.{coded_how}
 use Rattle.sched_run_machine.specs.Drives.{Driving, Stepped, Refused}
-use Rattle.sched_run_machine.specs.Retrying.{Retrying, RetryLaw, Drawn, HostPoll}
+use Rattle.sched_run_machine.specs.Retrying.{Retrying, RetryLaw, Drawn, Tells, HostPoll}
 use Rattle.sched_run_machine.specs.declared.next.Next.{Next}
 use Rattle.sched_run_machine.specs.declared.next.Next.TheVariants.{Wait}
 
@@ -62,26 +62,45 @@ WaitsInTime deadline _ = Unit {0}
 abbrev pub would_be_late : {R D : Type 0} → Option ℕ → Machine R D → ℕ → Bool
 would_be_late deadline m now = is_past deadline now && (nat_lt 0 m.told && not m.under_way)
 
--- one that its deadline ends
-abbrev pub timed_out : {R D : Type 0} → Machine R D → Machine R D
-timed_out m = record m { over = Some how.DeadlinePassed }
-
--- What a poll at this moment leaves: the machine as it was; the machine with a run under way, which does not begin too
--- late; or, where that would begin too late, the machine ended by its deadline.
-abbrev pub PollsInTime : {R D : Type 0} → Option ℕ → Machine R D → ℕ → Machine R D → Type 0
-PollsInTime deadline m now n =
-    (n ≡ m) ⊎ (((would_be_late deadline m now ≡ false) × (n ≡ record m { under_way = true }))
-    ⊎ ((m.over ≡ None) × (would_be_late deadline m now ≡ true) × (n ≡ timed_out m)))
+-- one that its deadline ends, with what it draws by then
+abbrev pub timed_out : {R D : Type 0} → Machine R D → D → Machine R D
+timed_out m drawing = record m { over = Some how.DeadlinePassed; drawing = drawing }
 
 -- one to whose run, or to the beginning of it, memory is refused
-abbrev pub breaks_off : {R D : Type 0} → Bool → Machine R D → Machine R D
-breaks_off begun m = record m { under_way = begun; over = Some (how.Broken NoMemory) }
+abbrev pub breaks_off : {R D : Type 0} → Bool → Machine R D → D → Machine R D
+breaks_off begun m drawing = record m { under_way = begun; over = Some (how.Broken NoMemory); drawing = drawing }
 
--- one that is not over is cancelled
-abbrev pub cancelled : {R D : Type 0} → Machine R D → Machine R D
-cancelled m = record m { over = if is_some m.over then m.over else Some how.Cancelled }
+-- one that is cancelled
+abbrev pub cancelled : {R D : Type 0} → Machine R D → D → Machine R D
+cancelled m drawing = record m { over = Some how.Cancelled; drawing = drawing }
 
 module _ {D : Type 0} (grants : Grants D) where
+  -- Its deadline ends a machine, and what it draws by is told so: the next run was not begun.
+  abbrev pub TimesOut : {R : Type 0} → Machine R D → Machine R D → Type 0
+  TimesOut m n = grants.ended m.drawing true n.drawing × (n ≡ timed_out m n.drawing)
+
+  -- Memory is refused to its run, or to the beginning of it, and what it draws by is told so.
+  abbrev pub BreaksOff : {R : Type 0} → Bool → Machine R D → Machine R D → Type 0
+  BreaksOff begun m n = grants.ended m.drawing (not begun) n.drawing × (n ≡ breaks_off begun m n.drawing)
+
+  -- One that is not over is cancelled. What it draws by is told so, and that no run was begun where none is under way.
+  abbrev pub Cancels : {R : Type 0} → Machine R D → Machine R D → Type 0
+  Cancels m n =
+      MatchBool (is_some m.over) (n ≡ m)
+      (grants.ended m.drawing (not m.under_way) n.drawing × (n ≡ cancelled m n.drawing))
+
+  -- What a poll at this moment leaves: the machine as it was; the machine with a run under way, which does not begin
+  -- too late; or, where that would begin too late, the machine ended by its deadline.
+  abbrev pub PollsInTime : {R : Type 0} → Option ℕ → Machine R D → ℕ → Machine R D → Type 0
+  PollsInTime deadline m now n =
+      (n ≡ m) ⊎ (((would_be_late deadline m now ≡ false) × (n ≡ record m { under_way = true }))
+      ⊎ ((m.over ≡ None) × (would_be_late deadline m now ≡ true) × TimesOut m n))
+
+  -- what it draws by is told that the task is over, where it is
+  abbrev pub TellsEnd : Option How → D → D → Type 0
+  TellsEnd None d e = e ≡ d
+  TellsEnd (Some how) d e = grants.ended d false e
+
   -- a machine that has not begun, and what it stands for
   abbrev pub begins : {R : Type 0} → R → D → Machine R D
   begins driver drawing = record {
@@ -145,7 +164,13 @@ module _ {R D : Type 0} (driving : Driving R) (kind : Kind) (grants : Grants D) 
   Stops r p t code (Some (how.Broken fault)) s q = Refused driving r t fault × (s ≡ r) × (q ≡ p)
   Stops r p t code _ s q = ⊥
 
-  -- what the end of a run comes to: where it calls for no step, it ends the task
+  -- where it calls for no step, it ends the task
+  abbrev pub StopsOrEnds : R → D → Tick → Ran → Option How → R → D → Type 0
+  StopsOrEnds r p t ran over s q =
+      MatchBool (calls kind ran) (Stops r p t (code_of ran) over s q) ((over ≡ Some (final kind)) × (s ≡ r) × (q ≡ p))
+
+  -- What the end of a run comes to: what draws is told how it went; the schedule is asked, and it draws; and it is told
+  -- that the task is over, where it is.
   abbrev pub Ends : R → D → Tick → Ran → Option How → R → D → Type 0
   Ends r p t ran over s q =
-      MatchBool (calls kind ran) (Stops r p t (code_of ran) over s q) ((over ≡ Some (final kind)) × (s ≡ r) × (q ≡ p))
+      (x : D) × (y : D) × Tells grants ran t.now p x × StopsOrEnds r x t ran over s y × TellsEnd grants over y q

@@ -1,13 +1,17 @@
 -- What contracts see of a retry or a repeat, what is true of it between any two polls, and one poll of it.
-use Rattle.std.specs.Prelude.{◌≡◌, ℕ, ◌+◌, Bool, true, false, if◌then◌else◌, List, ◌++◌, is_some, refl}
+use Rattle.std.specs.Prelude.{◌≡◌, ℕ, ◌+◌, Bool, true, false, not, if◌then◌else◌, List, ◌++◌, Some, is_some, refl}
+use Rattle.std.specs.Bool.{MatchBool}
 use Rattle.std.specs.Coded.{Coded, code_by, coded×, coded_ℕ, coded_bool}
 use Rattle.sched_time.specs.declared.numbers.Tick.{Tick}
 use Rattle.sched_driver.specs.Driven.{Driven}
 use Rattle.sched_effect.specs.declared.ran.Ran.{Ran}
+use Rattle.sched_effect.specs.declared.ran.Ran.TheVariants.{Won, Lost}
 use Rattle.sched_ticket_draws.specs.Grants.{Grants}
+use Rattle.sched_task.specs.declared.endings.How.TheVariants.{Cancelled}
 use Rattle.sched_task_law.specs.Kind.{Kind, draws}
-use Rattle.sched_task_law.specs.Past.{PastOf}
-use Rattle.sched_task_law.specs.Poll.{Happened, stops_denied, recurs, OnePoll, cancelled}
+use Rattle.sched_task_law.specs.Past.{PastOf, is_under_way}
+use Rattle.sched_task_law.specs.Poll.{Happened, stays, cannot_begin, runs_on, cannot_run, ends, breaks, stops_done}
+use Rattle.sched_task_law.specs.Poll.{stops_denied, recurs, times_out, OnePoll}
 use Rattle.sched_task_law.specs.Law.{Law}
 use Rattle.sched_task_law.specs.Codes.{coded_past}
 use Rattle.sched_run_machine.specs.Drives.{Driving}
@@ -53,12 +57,30 @@ module _ {D : Type 0} (grants : Grants D) where
   Drawn true now d e = grants.drew d now true e
   Drawn false now d e = e ≡ d
 
-  -- What a poll at a moment draws: a ticket where a finished run lets the schedule go on, if one is needed, and nothing
-  -- elsewhere.
+  -- what it draws by is told at a moment how a run went
+  abbrev pub Tells : Ran → ℕ → D → D → Type 0
+  Tells (Won code) now d e = grants.succeeded d now e
+  Tells (Lost code) now d e = grants.failed d now code e
+
+  -- and then, where that ends the task, that it is over
+  abbrev pub TellsLast : Ran → ℕ → D → D → Type 0
+  TellsLast r now d e = (x : D) × Tells r now d x × grants.ended x false e
+
+  -- What a poll at a moment does to what it draws by, in this order. That is told how a finished run went, before the
+  -- schedule is asked. A ticket is drawn where that goes on, if one is needed, and nowhere else. It is told last that
+  -- the task is over, where that is so, and whether the run was not begun that was to be made next.
   abbrev pub DrawsIn : Bool → Happened → ℕ → D → D → Type 0
-  DrawsIn needed (recurs r) now d e = Drawn needed now d e
-  DrawsIn needed (stops_denied r) now d e = grants.drew d now false e
-  DrawsIn needed _ now d e = e ≡ d
+  DrawsIn needed stays now d e = e ≡ d
+  DrawsIn needed cannot_begin now d e = grants.ended d true e
+  DrawsIn needed runs_on now d e = e ≡ d
+  DrawsIn needed cannot_run now d e = grants.ended d false e
+  DrawsIn needed (ends r) now d e = TellsLast r now d e
+  DrawsIn needed (breaks r fault) now d e = TellsLast r now d e
+  DrawsIn needed (stops_done r) now d e = TellsLast r now d e
+  DrawsIn needed (stops_denied r) now d e =
+      (x : D) × (y : D) × Tells r now d x × grants.drew x now false y × grants.ended y false e
+  DrawsIn needed (recurs r) now d e = (x : D) × Tells r now d x × Drawn needed now x e
+  DrawsIn needed times_out now d e = grants.ended d true e
 
   -- One poll of it, exactly.
   pub record RetryPoll (kind : Kind) (v : Retrying D) (t : Tick) (ready : Bool) (u : Retrying D) : Type 0 where
@@ -109,9 +131,12 @@ module _ {R D : Type 0} (driving : Driving R) (grants : Grants D) (kind : Kind) 
     pub leads : (d : Driven) → IsAlong v d →
         (e : Driven) × RetryPoll grants kind (along v d) t ready (along u e) × IsAlong u e
 
--- one that is not over is cancelled
-abbrev pub gives_up : {R D : Type 0} → RetryingOf R D → RetryingOf R D
-gives_up v = record v {
-  past = cancelled v.past;
-  untaken = if is_some v.past.over then v.untaken else true;
-}
+-- one that is cancelled, whose request is over for what it draws by
+abbrev pub given_up : {R D : Type 0} → RetryingOf R D → D → RetryingOf R D
+given_up v drawing = record v { past = record v.past { over = Some Cancelled }; drawing = drawing; untaken = true }
+
+-- One that is not over is cancelled. What it draws by is told so, and that no run was begun where none is under way.
+abbrev pub GivesUp : {R D : Type 0} → Grants D → RetryingOf R D → RetryingOf R D → Type 0
+GivesUp grants v u =
+    MatchBool (is_some v.past.over) (u ≡ v)
+    (grants.ended v.drawing (not (is_under_way v.past.runs v.past.begun)) u.drawing × (u ≡ given_up v u.drawing))

@@ -1,9 +1,9 @@
 //! The machine of a retry or of a repeat.
 ghost use Rattle.std.specs.Prelude.{◌≡◌, ◌+◌, [], ◌∷◌, true, false, None};
-ghost use Rattle.sched_run_machine.specs.Retrying.{Retrying, gives_up};
-ghost use Rattle.sched_run_machine.specs.Machine.{begins, unbegun, is_told, would_be_late, timed_out, breaks_off};
-ghost use Rattle.sched_run_machine.specs.Machine.{cancelled, IsMachineOf, Looks, IsMachine, PollsEach, PollsInTime};
-ghost use Rattle.sched_run_machine.specs.Machine.{WaitsInTime, Ends};
+ghost use Rattle.sched_run_machine.specs.Retrying.{Retrying, Tells, GivesUp};
+ghost use Rattle.sched_run_machine.specs.Machine.{begins, unbegun, is_told, would_be_late, TimesOut, BreaksOff};
+ghost use Rattle.sched_run_machine.specs.Machine.{Cancels, IsMachineOf, Looks, IsMachine, PollsEach, PollsInTime};
+ghost use Rattle.sched_run_machine.specs.Machine.{WaitsInTime, TellsEnd, StopsOrEnds, Ends};
 ghost use Rattle.sched_run_machine.specs.Aims.{EndsAs};
 ghost use Rattle.sched_task_law.specs.Kind.{a_retry, a_repeat, repeats};
 ghost use Rattle.sched_ticket_draws.specs.Freely.{free_grants};
@@ -68,7 +68,8 @@ impl<R: Drives, D: Draws, A: Aims> Model for Machine<R, D, A> {
 }
 
 impl<R: Drives, D: Draws> Machine<R, D, Retries> {
-    /// The machine of a retry that has not begun, and that draws its tickets by this value. It takes no memory.
+    /// The machine of a retry that has not begun, and that draws its tickets by this value. It takes no memory. Where
+    /// what it draws by may refuse a first run, ask it (`Draws::admit`) before.
     pub fn new(driver: R, drawing: D) -> Machine<R, D>
         requires fresh { R.driving.fresh driver }
         ensures begins { result ≡ begins D.grants driver drawing }
@@ -117,7 +118,7 @@ impl<R: Drives, D: Draws, A: Aims> Machine<R, D, A> {
     /// yet.
     pub fn poll(&mut self, tick: &Tick)
         ensures polls { PollsEach R.driving (A.kind R.driving.keeps) D.grants self.old tick.entry.now [] self.new }
-        ensures in_time { PollsInTime (R.driving.ends self.old.driver) self.old tick.entry.now.now self.new }
+        ensures in_time { PollsInTime D.grants (R.driving.ends self.old.driver) self.old tick.entry.now.now self.new }
         ensures deadline { R.driving.ends self.new.driver ≡ R.driving.ends self.old.driver }
     {
         if self.stays(tick) {
@@ -135,8 +136,9 @@ impl<R: Drives, D: Draws, A: Aims> Machine<R, D, A> {
         requires looks { Looks R.driving (A.kind R.driving.keeps) D.grants self.old _tick.now false }
         requires late { would_be_late (R.driving.ends self.old.driver) self.old _tick.now.now ≡ true }
         ensures polls { PollsEach R.driving (A.kind R.driving.keeps) D.grants self.old _tick.entry.now [] self.new }
-        ensures ends { self.new ≡ timed_out self.old }
+        ensures ends { TimesOut D.grants self.old self.new }
     {
+        self.drawing.ended(true);
         self.over = Some(How::DeadlinePassed);
     }
 
@@ -154,8 +156,8 @@ impl<R: Drives, D: Draws, A: Aims> Machine<R, D, A> {
     /// under way, nothing changes.
     ///
     /// A success ends a retry, and a failure a repeat. Another run steps the schedule; where that goes on, a retry
-    /// draws a
-    /// ticket, and with one it waits for the start planned, as a repeat does. A refused step ends either as `Broken`.
+    /// draws a ticket, and with one it waits for the start planned, as a repeat does. A refused step ends either as
+    /// `Broken`. What it draws by is told first how the run went, and last, where it is over, that its request is.
     pub fn report(&mut self, alloc: Global, tick: &Tick, ran: Ran) -> bool
         ensures heard { result ≡ is_told self.old }
         ensures told { result ≡ true →
@@ -198,8 +200,9 @@ impl<R: Drives, D: Draws, A: Aims> Machine<R, D, A> {
         requires in_time { would_be_late (R.driving.ends self.old.driver) self.old _tick.now.now ≡ false }
         requires begun { self.old.under_way ≡ true → begun ≡ true }
         ensures polls { PollsEach R.driving (A.kind R.driving.keeps) D.grants self.old _tick.entry.now [] self.new }
-        ensures breaks_off { self.new ≡ breaks_off begun self.old }
+        ensures breaks_off { BreaksOff D.grants begun self.old self.new }
     {
+        self.drawing.ended(!begun);
         self.under_way = begun;
         self.over = Some(How::Broken(RunFault::NoMemory));
     }
@@ -256,15 +259,17 @@ impl<R: Drives, D: Draws, A: Aims> Machine<R, D, A> {
         self.over
     }
 
-    /// Ends a machine that is not over as `Cancelled`; one that is over stays as it is.
+    /// Ends a machine that is not over as `Cancelled`, and tells what it draws by so; one that is over stays as it is.
     pub fn cancel(&mut self)
-        ensures cancelled { self.new ≡ cancelled self.old }
+        ensures cancelled { Cancels D.grants self.old self.new }
         ensures stands { (v : Retrying D) → IsMachineOf R.driving (A.kind R.driving.keeps) D.grants self.old v →
-            IsMachineOf R.driving (A.kind R.driving.keeps) D.grants self.new (gives_up v) }
+            (u : Retrying D) × GivesUp D.grants v u
+            × IsMachineOf R.driving (A.kind R.driving.keeps) D.grants self.new u }
     {
         if self.over.is_some() {
             return;
         }
+        self.drawing.ended(!self.under_way);
         self.over = Some(How::Cancelled);
     }
 
@@ -325,8 +330,8 @@ impl<R: Drives, D: Draws, A: Aims> Machine<R, D, A> {
     }
 }
 
-// Ends a run as it went: one that calls for it steps the schedule, and draws a ticket where that goes on and one is
-// needed. Answers how this ends the machine, or `None` where it goes on.
+// Ends a run as it went: tells what draws how it went, asks the schedule, and tells that the task is over, where it is.
+// Answers how this ends the machine, or `None` where it goes on.
 fn end_run<R: Drives, D: Draws, A: Aims>(
     alloc: Global,
     driver: &mut R,
@@ -338,6 +343,47 @@ fn end_run<R: Drives, D: Draws, A: Aims>(
     ensures stands { D.grants.stands drawing.new }
     ensures deadline { R.driving.ends driver.new ≡ R.driving.ends driver.old }
     ensures ends { Ends R.driving (A.kind R.driving.keeps) D.grants
+        driver.old drawing.old tick.entry.now ran result driver.new drawing.new }
+{
+    tell_run(drawing, tick.now, &ran);
+    let over = stop_or_go_on::<R, D, A>(alloc, driver, drawing, tick, ran);
+    tell_end(drawing, &over);
+    over
+}
+
+// Tells what draws how a run went.
+fn tell_run<D: Draws>(drawing: &mut D, now: Moment, ran: &Ran)
+    ensures { Tells D.grants ran.now now drawing.old drawing.new }
+{
+    match ran {
+        Ran::Won(_) => drawing.succeeded(now),
+        Ran::Lost(code) => drawing.failed(now, *code),
+    }
+}
+
+// Tells what draws that its request is over, where it is.
+fn tell_end<D: Draws>(drawing: &mut D, over: &Option<How>)
+    ensures { TellsEnd D.grants over.now drawing.old drawing.new }
+{
+    match over {
+        None => {}
+        Some(_) => drawing.ended(false),
+    }
+}
+
+// A run that calls for it steps the schedule, and draws a ticket where that goes on and one is needed. Answers how this
+// ends the machine, or `None` where it goes on.
+fn stop_or_go_on<R: Drives, D: Draws, A: Aims>(
+    alloc: Global,
+    driver: &mut R,
+    drawing: &mut D,
+    tick: &Tick,
+    ran: Ran,
+) -> Option<How>
+    requires stands { D.grants.stands drawing.old }
+    ensures stands { D.grants.stands drawing.new }
+    ensures deadline { R.driving.ends driver.new ≡ R.driving.ends driver.old }
+    ensures ends { StopsOrEnds R.driving (A.kind R.driving.keeps) D.grants
         driver.old drawing.old tick.entry.now ran result driver.new drawing.new }
 {
     let code = match A::called(ran) {

@@ -8,8 +8,8 @@ use sched_time::{Millis, Moment};
 /// it was granted.
 ///
 /// One request after another uses it: `admit` before its first run, `succeeded` or `failed` after each run, `draw`
-/// before it waits for a retry, and `ended` once it is over. Budgets and quotas admit each request, which a quota counts,
-/// and do nothing where they are told how it went.
+/// before it waits for a retry, and `ended` once it is over. Budgets and quotas admit each request, and a quota counts
+/// it; where they are told how it went, they do nothing.
 pub trait Draws: Drop {
     // What it grants, and what a call of it does.
     ghost grants: { Grants Self };

@@ -17,8 +17,8 @@ returns-in_default-clause-unbegun g c = λ clock call told gave. (
   c.args.call,
   (
     (c.alloc-alloc.result, c.in_default.field-0, c.in_default.ensures),
-    broken_at_once g.D.Draws.grants g.met.D.Draws.lawful g.S.Drives.driving.keeps g.K.Clock.tells g.K.Clock.waits
-        (C-step g) g.I.Coded.coded g.F.Coded.coded
+    broken_at_once g.D.Draws.grants g.met.D.Draws.lawful g.met.D.Quiet.quiet g.S.Drives.driving.keeps
+        g.K.Clock.tells g.K.Clock.waits (C-step g) g.I.Coded.coded g.F.Coded.coded
         c.args.begin.now c.begin.new.self clock c.args.clock.now c.now.new.self (g.G.Rng.stream c.args.words.now)
         (g.G.Rng.stream c.four_words.new.rng)
         (g.G.Rng.stream c.four_words-2.new.rng) call c.args.call c.args.first.1

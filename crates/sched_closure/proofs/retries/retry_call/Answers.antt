@@ -14,7 +14,8 @@ returns-in-Ok-clause-unbegun g c = (
     nothing = refl;
     calls = called g.C.FnMut c.call.ensures c.in-Ok.is;
     wins = λ plan deadline drawing holds.
-        wins_once g.D.Draws.grants g.met.D.Draws.lawful g.S.Drives.driving.keeps plan deadline drawing holds
+        wins_once g.D.Draws.grants g.met.D.Draws.lawful g.met.D.Quiet.quiet g.S.Drives.driving.keeps
+        plan deadline drawing holds
         c.now-began.result _;
   },
 )

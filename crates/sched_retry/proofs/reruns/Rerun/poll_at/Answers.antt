@@ -45,8 +45,8 @@ returns-then-is_too_late-clause-poll g c =
     (EndingFits g.X.Item.Coded.coded g.X.Fault.Coded.coded) r.machine out c.args.tick.now r.runner r.runner r.ending
     (Some DeadlinePassed) c.self.invariant (rw c.if-stays.false at c.stays.ensures.looks)
     (c.stays.ensures.unended c.if-stays.false)
-    c.time_out.ensures.polls late c.time_out.ensures.ends refl refl (rw c.time_out.ensures.ends refl))
-    true (rw c.time_out.ensures.ends refl))
+    c.time_out.ensures.polls late c.time_out.ensures.ends refl refl (rw c.time_out.ensures.ends.1 refl))
+    true (rw c.time_out.ensures.ends.1 refl))
 
 pub invariant_of-self : goal.invariant_of-self
 invariant_of-self g c =
@@ -60,7 +60,7 @@ invariant_of-self g c =
     (EndingFits g.X.Item.Coded.coded g.X.Fault.Coded.coded) r.machine out c.args.tick.now r.runner r.runner r.ending
     (Some DeadlinePassed) c.self.invariant (rw c.if-stays.false at c.stays.ensures.looks)
     (c.stays.ensures.unended c.if-stays.false)
-    c.time_out.ensures.polls late c.time_out.ensures.ends refl refl (rw c.time_out.ensures.ends refl))
+    c.time_out.ensures.polls late c.time_out.ensures.ends refl refl (rw c.time_out.ensures.ends.1 refl))
 
 pub report_poll-requires : goal.report_poll-requires
 report_poll-requires g c =
