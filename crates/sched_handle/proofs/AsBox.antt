@@ -12,7 +12,7 @@ use Rattle.std_heap.specs.contracts.GlobalAllocator.TheImpl.{ghosts, dict}
 use Rattle.std_heap.proofs.Global.TheLaws as heap
 use Rattle.sched_handle.specs.contracts.held.Held as Held
 use Rattle.sched_handle.proofs.held.Held.TheLaws as held
-use Rattle.sched_handle.specs.contracts.handle.parts.Parts as Parts
+use Rattle.sched_parts.specs.contracts.parts.Parts as Parts
 use Rattle.sched_handle.specs.contracts.handle.Handle as Handle
 
 abbrev pub E : Bx

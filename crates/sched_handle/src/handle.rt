@@ -5,11 +5,9 @@ ghost use Rattle.sched_handle.specs.declared.held.Held.TheVariants as what;
 ghost use Rattle.sched_handle.specs.Handle.{handle_owns, what_coded};
 ghost use Rattle.sched_handle.specs.Fills.{Fills, Frees, HasNoPolicy};
 
-mod parts;
-
 use crate::held::{Held, Kind};
 use crate::status::Status;
-use parts::Parts;
+use sched_parts::Parts;
 use sched_plan::SharedPlan;
 use std::alloc::Global;
 use std::marker::Model;

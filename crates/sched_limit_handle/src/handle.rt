@@ -4,11 +4,9 @@ ghost use Rattle.sched_limit_handle.specs.declared.held.Held.{Held as What};
 ghost use Rattle.sched_limit_handle.specs.Handle.{handle_owns, what_coded};
 ghost use Rattle.sched_limit_handle.specs.Fills.{Fills, Frees};
 
-mod parts;
-
 use crate::held::Held;
 use crate::status::Status;
-use parts::Parts;
+use sched_parts::Parts;
 use std::alloc::Global;
 use std::marker::Model;
 use std::mem;

@@ -42,7 +42,7 @@ use Rattle.std_heap.specs.contracts.GlobalAllocator.TheImpl.{ghosts}
 use Rattle.sched_handle.proofs.AsBox.{E, FromHandle as From, null_word, null_typed}
 use Rattle.sched_handle.specs.contracts.held.Held as Held
 use Rattle.sched_handle.specs.contracts.handle.Handle as Handle
-use Rattle.sched_handle.specs.contracts.handle.parts.Parts as Parts
+use Rattle.sched_parts.specs.contracts.parts.Parts as Parts
 use Rattle.sched_handle.specs.contracts.handle.Handle.into_parts as F
 use Rattle.sched_handle.specs.contracts.handle.Handle.into_parts.Key.{name as #self}
 use Rattle.sched_handle.proofs.handle.Handle.into_parts.Statement as stated

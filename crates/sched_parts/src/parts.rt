@@ -1,13 +1,16 @@
-//! A box with its fields in sight of the module above.
+//! The parts of a box.
 ghost use Rattle.std.specs.Prelude.{◌≡◌};
 ghost use Rattle.std.specs.Box.Ownership.{box_owns};
 
 use std::alloc::Allocator;
 use std::marker::Model;
 
-pub(super) struct Parts<T, A: Allocator> {
-    pub(super) ptr: *mut T,
-    pub(super) alloc: A,
+/// A box with its fields in sight. It owns what the box owned, and is made a box again: it can't be dropped.
+pub struct Parts<T, A: Allocator> {
+    /// Where the value is.
+    pub ptr: *mut T,
+    /// What its block is of.
+    pub alloc: A,
     pub ghost value: { T },
 }
 
@@ -16,7 +19,8 @@ impl<T, A: Allocator> Model for Parts<T, A> {
 }
 
 impl<T, A: Allocator> Parts<T, A> {
-    pub(super) fn of(whole: Box<T, A>) -> Parts<T, A>
+    /// The parts of this box.
+    pub fn of(whole: Box<T, A>) -> Parts<T, A>
     where
         T: Drop,
         ensures { result.value ≡ whole.value }
@@ -25,7 +29,8 @@ impl<T, A: Allocator> Parts<T, A> {
         Parts { ptr, alloc }
     }
 
-    pub(super) fn into_box(self) -> Box<T, A>
+    /// The box again.
+    pub fn into_box(self) -> Box<T, A>
         ensures { result.value ≡ self.value }
     {
         let Parts { ptr, alloc } = self;
