@@ -9,14 +9,14 @@ use crate::faults::PoolFault;
 use crate::lines::push_line;
 use sched_cli_plan::{PrintFault, Sink, put_all, put_long};
 use sched_effect::{Effect, Scripted};
-use sched_pool_job::JobEnd;
+use sched_retry::RetryEnd;
 use sched_task::How;
 use std::alloc::Global;
 
 /// Jobs that have ended, and the line of their total.
 #[derive(Drop)]
 pub(crate) struct Ended {
-    pub(crate) ends: Vec<JobEnd<Scripted>>,
+    pub(crate) ends: Vec<RetryEnd<Scripted>>,
     pub(crate) total: String,
 }
 
@@ -41,7 +41,7 @@ pub(crate) fn write_ended<W: Sink>(
 // Writes the line of each job, many at a time, and the last line.
 fn write_lines<W: Sink>(
     alloc: Global,
-    ends: &[JobEnd<Scripted>],
+    ends: &[RetryEnd<Scripted>],
     last: &str,
     writer: &mut W,
 ) -> Result<(), PrintFault>
@@ -64,7 +64,7 @@ fn write_lines<W: Sink>(
 }
 
 // Whether each job won, or ended with a failure.
-fn have_answered(ends: &[JobEnd<Scripted>]) -> bool
+fn have_answered(ends: &[RetryEnd<Scripted>]) -> bool
     ensures { result ≡ all_answered ends.now }
 {
     for end in ends {
@@ -76,7 +76,7 @@ fn have_answered(ends: &[JobEnd<Scripted>]) -> bool
 }
 
 // Whether the job won, or ended with a failure.
-fn has_answered(end: &JobEnd<Scripted>) -> bool
+fn has_answered(end: &RetryEnd<Scripted>) -> bool
     ensures { result ≡ is_answered end.now.over }
 {
     matches!(

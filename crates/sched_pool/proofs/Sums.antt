@@ -13,9 +13,9 @@ use Rattle.sched_ticket.specs.declared.view.View.{View}
 use Rattle.sched_ticket.proofs.Sums.{total-append}
 use Rattle.sched_task_law.specs.Kind.{retry}
 use Rattle.sched_task_law.specs.Past.{Past}
-use Rattle.sched_task_law.specs.Law.{Law}
+use Rattle.sched_task_law.specs.Law.{Law, is_refused}
 use Rattle.sched_task_law.proofs.Lists.{by_test}
-use Rattle.sched_pool_job.specs.Ends.{is_refused, IsRefusedBy}
+use Rattle.sched_pool_job.specs.Jobs.{IsRefusedBy}
 use Rattle.sched_task_law.proofs.Events.{denied_is}
 use Rattle.sched_pool.specs.Ends.{joined, IsEnd, has_refused, Agrees}
 

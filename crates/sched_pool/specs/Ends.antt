@@ -7,8 +7,8 @@ use Rattle.sched_ticket.specs.Whole.{IsWhole}
 use Rattle.sched_ticket.specs.Held.{Name, Held, IsOf}
 use Rattle.sched_task_law.specs.Kind.{retry}
 use Rattle.sched_task_law.specs.Past.{Past}
-use Rattle.sched_task_law.specs.Law.{Law}
-use Rattle.sched_pool_job.specs.Ends.{is_refused, IsRefusedBy}
+use Rattle.sched_task_law.specs.Law.{Law, is_refused}
+use Rattle.sched_pool_job.specs.Jobs.{IsRefusedBy}
 
 -- lists, one after the other
 abbrev pub joined : List (List ℕ) → List ℕ

@@ -5,7 +5,8 @@ ghost use Rattle.sched_pool.specs.Ends.{IsEnd};
 
 use crate::boards::Board;
 use sched_effect::Effect;
-use sched_pool_job::{Job, JobEnd};
+use sched_pool_job::Job;
+use sched_retry::RetryEnd;
 use sched_ticket::{Budget, Naming, Pass};
 use std::alloc::Global;
 use std::sync::Mutex;
@@ -14,7 +15,7 @@ use std::sync::Mutex;
 #[derive(Drop)]
 pub struct PoolEnd<X: Effect> {
     /// The jobs, in the order of their numbers.
-    pub jobs: Vec<JobEnd<X>>,
+    pub jobs: Vec<RetryEnd<X>>,
     /// One pass for all jobs, and for the pass that was handed in.
     pub pass: Pass,
     /// How many tickets the jobs were granted.
@@ -47,7 +48,7 @@ fn take_back<X: Effect, N: Naming>(
     jobs: Vec<Mutex<Job<'_, X, N>>>,
     budget: &Budget,
     mut pass: Pass,
-    mut ends: Vec<JobEnd<X>>,
+    mut ends: Vec<RetryEnd<X>>,
 ) -> PoolEnd<X>
     requires name { budget.now ≡ N.budget }
     requires of { IsOf N.budget pass }

@@ -12,8 +12,8 @@ use crate::faults::ShareFault;
 use rand_core::Rng;
 use sched_effect::Effect;
 use sched_pool_claim::Share;
-use sched_pool_job::JobEnd;
 use sched_pool_worker::{Finish, Gate, Station};
+use sched_retry::RetryEnd;
 use sched_task::Clock;
 use sched_ticket::{Naming, Pass};
 use sched_time::NoMemory;
@@ -173,7 +173,7 @@ impl<'a, X: Effect, N: Naming> Board<'a, X, N> {
 }
 
 // Whether every job is over.
-fn all_ended<X: Effect>(ends: &[JobEnd<X>]) -> bool
+fn all_ended<X: Effect>(ends: &[RetryEnd<X>]) -> bool
     ensures { result ≡ all_over ends.now }
 {
     ends.iter().all(|end| end.how().is_some())

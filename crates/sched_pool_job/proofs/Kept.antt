@@ -5,7 +5,6 @@ use Rattle.sched_time.specs.declared.numbers.Tick.{Tick}
 use Rattle.sched_plan.specs.Schedule.{Schedule}
 use Rattle.sched_plan.specs.declared.history.Event.{Event}
 use Rattle.sched_driver.specs.Driven.{Driven, next_start_of}
-use Rattle.sched_effect.specs.declared.ran.Ran.{Ran}
 use Rattle.sched_task.specs.declared.endings.How.{How}
 use Rattle.sched_ticket.specs.Held.{Name}
 use Rattle.sched_ticket_draws.specs.Grants.{Grants}
@@ -14,14 +13,11 @@ use Rattle.sched_task_law.specs.Kind.{Kind, retry}
 use Rattle.sched_task_law.specs.Past.{Past, is_under_way, waits_by}
 use Rattle.sched_task_law.specs.Poll.{Happened, stays, cannot_begin, runs_on, cannot_run, ends, breaks, stops_done}
 use Rattle.sched_task_law.specs.Poll.{stops_denied, recurs, times_out, May, after}
-use Rattle.sched_task_law.specs.Law.{Law}
 use Rattle.sched_task_law.proofs.Law.{or_false}
-use Rattle.sched_task_law.proofs.Events.{denied_is}
 use Rattle.sched_task_law.proofs.Lists.{by_test}
 use Rattle.sched_task_law.proofs.Fields.{none_of}
 use Rattle.sched_run_machine.specs.Retrying.{Retrying, RetryPoll, GivesUp}
 use Rattle.sched_pool_job.specs.Jobs.{IsJob}
-use Rattle.sched_pool_job.specs.Ends.{ended}
 
 none_is : (o : Option How) → o ≡ None → is_some o ≡ true → ⊥
 none_is o none some = let bad = rw none at some in cc
@@ -84,24 +80,3 @@ waits_unended v = by_test (is_some v.over || (is_under_way v.runs v.begun || v.d
       none_of v.over (or_false (is_some v.over) _ no).0,
       some,
     ))))
-
--- what is left of a retry says what it has done
-pub end_is : (v : Past) → Law retry v → v.deadline ≡ None → ended v.driver v.runs v.begun v.over v.granted ≡ v
-end_is v law none i = record {
-  driver = v.driver;
-  deadline = sym none i;
-  runs = v.runs;
-  begun = v.begun;
-  over = v.over;
-  denied = sym (denied_is retry v v.over law.ended) i;
-  granted = v.granted;
-}
-
--- and keeps its law
-pub law_left : (v : Past) (driver : Driven) (runs : List Ran) (begun : List ℕ) (over : Option How) (granted : ℕ) →
-    Law retry v →
-    v.deadline ≡ None → driver ≡ v.driver → runs ≡ v.runs → begun ≡ v.begun → over ≡ v.over → granted ≡ v.granted →
-    Law retry (ended driver runs begun over granted)
-law_left v driver runs begun over granted law none is_driver is_runs is_begun is_over is_granted =
-    rw (is_driver, is_runs, is_begun, is_over, is_granted) (subst (λ (p : Past). Law retry p) (sym (end_is v law none))
-    law)

@@ -1,3 +1,2 @@
--- What is true of a job, and of what is left of it.
+-- What is true of a job.
 pub mod Jobs
-pub mod Ends

@@ -5,14 +5,12 @@ ghost use Rattle.sched_task_law.specs.Kind.{retry};
 ghost use Rattle.sched_driver.specs.Driven.{next_start_of};
 ghost use Rattle.sched_task_law.specs.Past.{waits_by};
 ghost use Rattle.sched_task_law.specs.Law.{Law};
-ghost use Rattle.sched_pool_job.specs.Jobs.{IsSeen};
-ghost use Rattle.sched_pool_job.specs.Ends.{IsRefusedBy};
+ghost use Rattle.sched_pool_job.specs.Jobs.{IsSeen, IsRefusedBy};
 
-use crate::ends::JobEnd;
 use crate::sights::Seen;
 use futures::task::{Context, Poll};
 use sched_effect::Effect;
-use sched_retry::Retry;
+use sched_retry::{Retry, RetryEnd};
 use sched_task::{How, Task};
 use sched_ticket::{Budget, Naming, Pass};
 use sched_ticket_draws::OnBudget;
@@ -73,7 +71,7 @@ impl<'a, X: Effect, N: Naming> Job<'a, X, N> {
     }
 
     /// Its end, and the pass with the tickets that it was granted.
-    pub fn into_end(self) -> (JobEnd<X>, Pass)
+    pub fn into_end(self) -> (RetryEnd<X>, Pass)
         ensures end { result.0 ≡ self.entry.past }
         ensures pass { result.1 ≡ self.entry.drawing.pass }
         ensures of { IsOf N.budget result.1 }
@@ -82,7 +80,7 @@ impl<'a, X: Effect, N: Naming> Job<'a, X, N> {
         ensures law { Law retry result.0 }
     {
         let Job { retry, name: _ } = self;
-        let (end, drawing) = JobEnd::of_retry(retry);
+        let (end, drawing) = retry.into_end();
         let (pass, _) = drawing.into_parts();
         (end, pass)
     }

@@ -2,10 +2,8 @@
 //! it has done, and leaves an end that keeps its law. It stands on the retries of `sched_retry`.
 #![tactic(auto)]
 
-mod ends;
 mod jobs;
 mod sights;
 
-pub use ends::JobEnd;
 pub use jobs::Job;
 pub use sights::Seen;

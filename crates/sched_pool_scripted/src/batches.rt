@@ -10,9 +10,9 @@ use crate::ends::are_ends_of;
 use sched_effect::Scripted;
 use sched_pool::laws::totals_agree;
 use sched_pool::{PoolEnd, PoolStop};
-use sched_pool_job::JobEnd;
 use sched_pool_json::JobRead;
 use sched_pool_worker::{OpenGate, Station};
+use sched_retry::RetryEnd;
 use sched_task::{MidWords, VirtualClock};
 use sched_ticket::{Budget, Naming, Pass, TicketFault};
 use sched_time::{Moment, NoMemory};
@@ -30,7 +30,7 @@ const HOLD: usize = 64;
 #[derive(Drop)]
 pub struct Batch {
     /// The jobs, in the order in which they were read.
-    pub ends: Vec<JobEnd<Scripted>>,
+    pub ends: Vec<RetryEnd<Scripted>>,
     /// How many tickets the budget gave out.
     pub granted: u64,
 }

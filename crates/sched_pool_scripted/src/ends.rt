@@ -3,11 +3,11 @@ ghost use Rattle.std.specs.Prelude.{◌≡◌, IsTrue};
 ghost use Rattle.sched_pool_scripted.specs.Ends.{IsEndOf, AreEndsOf};
 
 use sched_effect::{Ran, Scripted};
-use sched_pool_job::JobEnd;
 use sched_pool_json::JobRead;
+use sched_retry::RetryEnd;
 
 /// Whether each job that was read has its end, in order: with its plan, and with its script.
-pub(crate) fn are_ends_of(jobs: &[JobRead], ends: &[JobEnd<Scripted>]) -> bool
+pub(crate) fn are_ends_of(jobs: &[JobRead], ends: &[RetryEnd<Scripted>]) -> bool
     ensures { IsTrue result → AreEndsOf jobs.now ends.now }
 {
     if jobs.len() != ends.len() {
@@ -22,7 +22,7 @@ pub(crate) fn are_ends_of(jobs: &[JobRead], ends: &[JobEnd<Scripted>]) -> bool
 }
 
 // Whether the job ended so: with its plan, and with its script.
-fn is_end_of(job: &JobRead, end: &JobEnd<Scripted>) -> bool
+fn is_end_of(job: &JobRead, end: &RetryEnd<Scripted>) -> bool
     ensures { IsTrue result → IsEndOf job.now end.now }
 {
     job.plan().same(end.driver().plan()) && same_runs(job.script(), end.effect().script())

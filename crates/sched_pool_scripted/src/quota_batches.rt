@@ -12,8 +12,8 @@ use crate::ends::are_ends_of;
 use crate::refusals::are_just;
 use crate::requests::{QuotaRetry, retries_of};
 use sched_effect::Scripted;
-use sched_pool_job::JobEnd;
 use sched_pool_json::JobRead;
+use sched_retry::RetryEnd;
 use sched_task::{MidWords, VirtualClock};
 use sched_ticket_quota::{Pass, Quota, QuotaFault, Terms};
 use sched_time::{Moment, NoMemory};
@@ -27,7 +27,7 @@ use thiserror::Error;
 #[derive(Drop)]
 pub struct QuotaBatch {
     /// The jobs, in the order in which they were read.
-    pub ends: Vec<JobEnd<Scripted>>,
+    pub ends: Vec<RetryEnd<Scripted>>,
     /// How many tickets the quota gave out.
     pub granted: u64,
     /// In how many windows it gave them.
@@ -61,7 +61,7 @@ impl From<NoMemory> for QuotaBatchFault {
 // The jobs that were taken back, one pass for all of them, and the window of each of its tickets.
 #[derive(Drop)]
 struct TakenBack {
-    ends: Vec<JobEnd<Scripted>>,
+    ends: Vec<RetryEnd<Scripted>>,
     pass: Pass,
     windows: Vec<u64>,
 }
@@ -79,7 +79,7 @@ impl TakenBack {
             mut windows,
         } = self;
         ends.reserve(1)?;
-        let (end, drawing) = JobEnd::of_retry(retry);
+        let (end, drawing) = retry.into_end();
         ends.push_reserved(end);
         let (own, noted) = drawing.into_parts();
         let pass = pass.join(own, quota);

@@ -11,14 +11,14 @@ ghost use Rattle.sched_pool_scripted.specs.QuotaBatch.{asked_in, IsJust};
 
 use sched_effect::Scripted;
 use sched_plan::Event;
-use sched_pool_job::JobEnd;
+use sched_retry::RetryEnd;
 use sched_task::How;
 use sched_ticket_quota::{LAST_WINDOW, MAX_RESERVE, Terms};
 
 /// Whether each job that was refused failed last in a window that gave as many tickets as its requests allow. The
 /// windows are those of all tickets, which rise, and all requests are of the window 0.
 pub(crate) fn are_just(
-    ends: &[JobEnd<Scripted>],
+    ends: &[RetryEnd<Scripted>],
     windows: &[u64],
     terms: &Terms,
     requests: usize,
@@ -36,7 +36,7 @@ pub(crate) fn are_just(
 }
 
 // Whether the job was not refused, or failed last in such a window.
-fn is_just(end: &JobEnd<Scripted>, windows: &[u64], terms: &Terms, requests: usize) -> bool
+fn is_just(end: &RetryEnd<Scripted>, windows: &[u64], terms: &Terms, requests: usize) -> bool
     requires rises { IsSorted nat_cmp windows.now }
     requires terms { AreTerms terms.now }
     ensures { IsTrue result → IsJust terms.now requests windows.now end.now }

@@ -1,5 +1,6 @@
 -- What a task hands out once it is over.
 use Rattle.std.specs.Prelude.{◌≡◌, ℕ, List, Option, Some, None, Result, Ok, Err}
+use Rattle.sched_driver.specs.Driven.{Driven}
 use Rattle.sched_effect.specs.Runs.{ran_by}
 use Rattle.sched_effect.specs.declared.ran.Ran.{Ran}
 use Rattle.sched_effect.specs.declared.ran.Ran.TheVariants as ran
@@ -7,6 +8,8 @@ use Rattle.sched_task.specs.declared.endings.How.{How}
 use Rattle.sched_task.specs.declared.endings.How.TheVariants as how
 use Rattle.sched_task.specs.declared.endings.RunFault.TheVariants.{NoMemory}
 use Rattle.sched_task_law.specs.Lists.{last_element}
+use Rattle.sched_task_law.specs.Past.{Past}
+use Rattle.sched_task_law.specs.Law.{is_refused}
 use Rattle.sched_run_machine.specs.declared.runner.Polled.{Polled}
 use Rattle.sched_run_machine.specs.declared.runner.Polled.TheVariants.{Pending, Finished}
 use Rattle.sched_retry.specs.declared.endings.Ending.{Ending}
@@ -67,3 +70,15 @@ module _ {I F : Type 0} (item_code : I → ℕ) (fault_code : F → ℕ) where
   EndingFits over runs DeadlinePassed = over ≡ Some how.DeadlinePassed
   EndingFits over runs Cancelled = over ≡ Some how.Cancelled
   EndingFits over runs (Broken fault) = over ≡ Some (how.Broken fault)
+
+-- what a retry has done, by what is left of it
+abbrev pub left : Driven → List Ran → List ℕ → Option How → ℕ → Past
+left driver runs begun over granted = record {
+  driver = driver;
+  deadline = None;
+  runs = runs;
+  begun = begun;
+  over = over;
+  denied = is_refused over;
+  granted = granted;
+}

@@ -5,9 +5,9 @@
 #![tactic(auto)]
 
 mod endings;
+mod ends;
 mod reruns;
-mod whole;
 
 pub use endings::Ending;
+pub use ends::RetryEnd;
 pub use reruns::{Repeat, Rerun, Retry};
-pub use whole::Whole;

@@ -1,17 +1,15 @@
 //! Retries and repeats.
-ghost use Rattle.std.specs.Prelude.{◌≡◌, ◌+◌, false, length, is_some, IfSome};
-ghost use Rattle.futures.specs.Task.{Keeps};
+ghost use Rattle.std.specs.Prelude.{◌≡◌, ◌+◌, true, false, length, is_some, IfSome};
 ghost use Rattle.sched_driver.specs.Driven.{Driven};
-ghost use Rattle.sched_task.specs.Polls.{is_ready};
 ghost use Rattle.sched_ticket_draws.specs.Freely.{free_grants};
-ghost use Rattle.sched_task_law.specs.Kind.{repeats};
-ghost use Rattle.sched_task_law.specs.Past.{nothing_yet, waits_by, bit};
-ghost use Rattle.sched_task_law.specs.Law.{is_stop};
-ghost use Rattle.sched_run_machine.specs.Retrying.{IsAlong, KeepsLaw, TaskPoll, GivesUp};
+ghost use Rattle.sched_task_law.specs.Kind.{retry, repeats};
+ghost use Rattle.sched_task_law.specs.Past.{nothing_yet, bit};
+ghost use Rattle.sched_task_law.specs.Law.{Law, is_stop};
+ghost use Rattle.sched_run_machine.specs.Retrying.{IsAlong, KeepsLaw};
 ghost use Rattle.sched_retry.specs.Ending.{EndingFits};
 
 use crate::endings::{Ending, ending_of};
-use crate::whole::Whole;
+use crate::ends::RetryEnd;
 use futures::task::{Context, Poll};
 use sched_driver::Driver;
 use sched_effect::{Coded, Effect};
@@ -91,58 +89,6 @@ impl<X: Effect, R: Drives> Rerun<X, Unlimited, R, Repeats> {
 }
 
 impl<X: Effect, D: Draws, R: Drives, A: Aims> Rerun<X, D, R, A> {
-    /// Polls the task once at the tick, and is ready where it is over.
-    ///
-    /// A run is polled, or begun, unless the task is over or waits for a later moment. A success ends a retry, and a
-    /// failure a repeat. Another run steps the schedule; where that goes on, a retry draws a ticket, and with one it
-    /// waits for the start planned, as a repeat does. Where another run would begin past the deadline it ends as
-    /// `DeadlinePassed`. A refused step or growth ends it as `Broken`.
-    pub fn poll_at(&mut self, alloc: Global, tick: &Tick, cx: &mut Context<'_>) -> Poll<()>
-        ensures poll { TaskPoll R.driving D.grants (A.kind R.driving.keeps) self.old tick.entry.now (is_ready result)
-            self.new }
-        ensures answers { is_ready result ≡ is_some self.new.past.over }
-        ensures kept { Keeps cx.old cx.new }
-    {
-        if self.machine.stays(tick) {
-            return ready_where(self.machine.over());
-        }
-        if self.machine.is_too_late(tick.now) {
-            self.machine.time_out(tick);
-            self.ending = Some(Ending::DeadlinePassed);
-            return Poll::Ready(());
-        }
-        let polled = self.runner.poll_run(tick, cx);
-        self.machine.report_poll(alloc, tick, &polled);
-        self.ending = ending_of(polled, self.machine.over());
-        ready_where(self.machine.over())
-    }
-
-    /// The moment that it waits for, or `None` where it waits for none.
-    pub fn due(&self) -> Option<Moment>
-        ensures { result ≡ waits_by (R.driving.starts self.now.past.driver) self.now.past }
-    {
-        self.machine.due()
-    }
-
-    /// How it ended, or `None` where it is not over. Whenever it is asked, the law of the task holds.
-    pub fn over(&self) -> Option<How>
-        ensures over { result ≡ self.now.past.over }
-        ensures law { KeepsLaw R.driving D.grants (A.kind R.driving.keeps) self.now }
-    {
-        self.machine.over()
-    }
-
-    /// Ends a task that is not over as `Cancelled`; one that is over stays as it is.
-    pub fn cancel(&mut self)
-        ensures { GivesUp D.grants self.old self.new }
-    {
-        if self.machine.over().is_some() {
-            return;
-        }
-        self.machine.cancel();
-        self.ending = Some(Ending::Cancelled);
-    }
-
     /// The ending, once, where the task is over; `None` before that and after it was taken.
     pub fn take_ending(&mut self) -> Option<Ending<X::Item, X::Fault>>
         ensures once { is_some result ≡ self.old.untaken }
@@ -201,19 +147,18 @@ impl<X: Effect, D: Draws, R: Drives, A: Aims> Rerun<X, D, R, A> {
         let (driver, drawing) = machine.into_parts();
         (effect, driver, drawing)
     }
+}
 
-    /// All that it had: its parts with its beginnings, how it ended, and its ending where that was not taken.
-    pub fn into_whole(self) -> Whole<X, D, R>
-        ensures runs { X.finished result.effect ≡ self.past.runs }
-        ensures driver { result.driver ≡ self.past.driver }
-        ensures begun { result.begun.items ≡ self.past.begun }
-        ensures over { result.over ≡ self.past.over }
-        ensures untaken { is_some result.ending ≡ self.untaken }
-        ensures fits { IfSome result.ending (EndingFits X.Item.coded X.Fault.coded
-            self.past.over self.past.runs) }
-        ensures drawing { result.drawing ≡ self.drawing }
-        ensures had { result.had ≡ self.had }
-        ensures law { KeepsLaw R.driving D.grants (A.kind R.driving.keeps) self }
+impl<X: Effect, D: Draws> Rerun<X, D, Driver, Retries> {
+    /// The end of a retry whose ending was not taken, and what it drew by, with all its tickets. It takes no memory.
+    pub fn into_end(self) -> (RetryEnd<X>, D)
+        requires untaken { self.untaken ≡ is_some self.past.over }
+        ensures end { result.0 ≡ self.past }
+        ensures law { Law retry result.0 }
+        ensures drawing { result.1 ≡ self.drawing }
+        ensures stands { D.grants.stands result.1 }
+        ensures granted { D.grants.granted result.1 ≡ self.had + result.0.granted }
+        ensures refused { result.0.denied ≡ true → D.grants.refused result.1 }
     {
         let Rerun {
             runner,
@@ -221,18 +166,18 @@ impl<X: Effect, D: Draws, R: Drives, A: Aims> Rerun<X, D, R, A> {
             ending,
         } = self;
         let over = machine.over();
-        let had = machine.had();
+        let granted = machine.granted();
         let (effect, begun) = runner.into_parts();
         let (driver, drawing) = machine.into_parts();
-        Whole {
+        let end = RetryEnd {
             effect,
             driver,
             begun,
             over,
             ending,
-            drawing,
-            had,
-        }
+            granted,
+        };
+        (end, drawing)
     }
 }
 
@@ -251,19 +196,46 @@ impl<X: Effect, D: Draws, R: Drives, A: Aims> Task for Rerun<X, D, R, A> {
 
     ghost rests = { λ v over. waits_by-over (R.driving.starts v.past.driver) v.past over };
 
+    /// Polls the task once at the tick, and is ready where it is over.
+    ///
+    /// A run is polled, or begun, unless the task is over or waits for a later moment. A success ends a retry, and a
+    /// failure a repeat. Another run steps the schedule; where that goes on, a retry draws a ticket, and with one it
+    /// waits for the start planned, as a repeat does. Where another run would begin past the deadline it ends as
+    /// `DeadlinePassed`. A refused step or growth ends it as `Broken`.
     fn poll_at(&mut self, alloc: Global, tick: &Tick, cx: &mut Context<'_>) -> Poll<()> {
-        Rerun::poll_at(self, alloc, tick, cx)
+        if self.machine.stays(tick) {
+            return ready_where(self.machine.over());
+        }
+        if self.machine.is_too_late(tick.now) {
+            self.machine.time_out(tick);
+            self.ending = Some(Ending::DeadlinePassed);
+            return Poll::Ready(());
+        }
+        let polled = self.runner.poll_run(tick, cx);
+        self.machine.report_poll(alloc, tick, &polled);
+        self.ending = ending_of(polled, self.machine.over());
+        ready_where(self.machine.over())
     }
 
+    /// The moment that it waits for, or `None` where it waits for none.
     fn due(&self) -> Option<Moment> {
-        Rerun::due(self)
+        self.machine.due()
     }
 
-    fn over(&self) -> Option<How> {
-        Rerun::over(self)
+    /// How it ended, or `None` where it is not over. Whenever it is asked, the law of the task holds.
+    fn over(&self) -> Option<How>
+        ensures over { result ≡ self.now.past.over }
+        ensures law { KeepsLaw R.driving D.grants (A.kind R.driving.keeps) self.now }
+    {
+        self.machine.over()
     }
 
+    /// Ends a task that is not over as `Cancelled`; one that is over stays as it is.
     fn cancel(&mut self) {
-        Rerun::cancel(self)
+        if self.machine.over().is_some() {
+            return;
+        }
+        self.machine.cancel();
+        self.ending = Some(Ending::Cancelled);
     }
 }

@@ -1,9 +1,7 @@
 //! Retries with a fallback.
 ghost use Rattle.std.specs.Prelude.{◌≡◌, ◌+◌, false, is_some, IfSome};
-ghost use Rattle.futures.specs.Task.{Keeps};
-ghost use Rattle.sched_task.specs.Polls.{is_ready};
 ghost use Rattle.sched_task_law.specs.Past.{nothing_yet};
-ghost use Rattle.sched_retry_or.specs.Falling.{falls_due, FallingLaw, FallingPoll, GivesUp};
+ghost use Rattle.sched_retry_or.specs.Falling.{FallingLaw};
 ghost use Rattle.sched_retry_or.specs.Ending.{RetryOrFits};
 
 use crate::endings::RetryOrEnding;
@@ -75,72 +73,6 @@ impl<X: Effect, D: Draws, F: Fallback<X>, R: GivesOutput> RetryOr<X, D, F, R> {
             ending: None,
             fallback,
         }
-    }
-
-    /// Polls the retry once at the tick, and is ready where it is over.
-    ///
-    /// It is polled as `Retry` is, except that it does not end where the schedule is done or a ticket is refused:
-    /// then each later poll asks the fallback once, with the last failure and the driver's last output, until it
-    /// answers.
-    pub fn poll_at(&mut self, alloc: Global, tick: &Tick, cx: &mut Context<'_>) -> Poll<()>
-        ensures poll { FallingPoll R.driving R.outputs D.grants self.old tick.entry.now (is_ready result) self.new }
-        ensures answers { is_ready result ≡ is_some self.new.over }
-        ensures kept { Keeps cx.old cx.new }
-    {
-        if self.over.is_some() {
-            return Poll::Ready(());
-        }
-        if let Some(fault) = &self.stopped {
-            let output = last_output(self.retry.driver());
-            return match self.fallback.poll_fallback(fault, output, cx) {
-                Poll::Pending => Poll::Pending,
-                Poll::Ready(Err(_)) => {
-                    let cause = RunFault::NoMemory;
-                    self.over = Some(How::Broken(cause));
-                    self.ending = Some(RetryOrEnding::Broken(cause));
-                    Poll::Ready(())
-                }
-                Poll::Ready(Ok(run)) => {
-                    self.over = self.retry.over();
-                    self.ending = Some(RetryOrEnding::Fallen(run));
-                    Poll::Ready(())
-                }
-            };
-        }
-        let _ = self.retry.poll_at(alloc, tick, cx);
-        let over = self.retry.over();
-        let (stopped, ending) = or_stopped(self.retry.take_ending());
-        self.over = unless_stop(over);
-        self.stopped = stopped;
-        self.ending = ending;
-        ready_where(self.over)
-    }
-
-    /// The moment that it waits for, or `None` where it waits for none, as while its fallback is asked.
-    pub fn due(&self) -> Option<Moment>
-        ensures { result ≡ falls_due R.driving self.now }
-    {
-        self.retry.due()
-    }
-
-    /// How it ended, or `None` where it is not over. Whenever it is asked, the law of a retry holds.
-    pub fn over(&self) -> Option<How>
-        ensures over { result ≡ self.now.over }
-        ensures law { FallingLaw R.driving R.outputs D.grants self.now }
-    {
-        self.over
-    }
-
-    /// Ends a retry that is not over as `Cancelled`; one that is over stays as it is.
-    pub fn cancel(&mut self)
-        ensures { GivesUp D.grants self.old self.new }
-    {
-        if self.over.is_some() {
-            return;
-        }
-        self.retry.cancel();
-        self.over = Some(How::Cancelled);
-        self.ending = Some(RetryOrEnding::Cancelled);
     }
 
     /// The ending, once, where the retry is over; `None` before that and after it was taken.
@@ -217,19 +149,61 @@ impl<X: Effect, D: Draws, F: Fallback<X>, R: GivesOutput> Task for RetryOr<X, D,
 
     ghost rests = { falls_due-over R.driving };
 
+    /// Polls the retry once at the tick, and is ready where it is over.
+    ///
+    /// It is polled as `Retry` is, except that it does not end where the schedule is done or a ticket is refused:
+    /// then each later poll asks the fallback once, with the last failure and the driver's last output, until it
+    /// answers.
     fn poll_at(&mut self, alloc: Global, tick: &Tick, cx: &mut Context<'_>) -> Poll<()> {
-        RetryOr::poll_at(self, alloc, tick, cx)
+        if self.over.is_some() {
+            return Poll::Ready(());
+        }
+        if let Some(fault) = &self.stopped {
+            let output = last_output(self.retry.driver());
+            return match self.fallback.poll_fallback(fault, output, cx) {
+                Poll::Pending => Poll::Pending,
+                Poll::Ready(Err(_)) => {
+                    let cause = RunFault::NoMemory;
+                    self.over = Some(How::Broken(cause));
+                    self.ending = Some(RetryOrEnding::Broken(cause));
+                    Poll::Ready(())
+                }
+                Poll::Ready(Ok(run)) => {
+                    self.over = self.retry.over();
+                    self.ending = Some(RetryOrEnding::Fallen(run));
+                    Poll::Ready(())
+                }
+            };
+        }
+        let _ = self.retry.poll_at(alloc, tick, cx);
+        let over = self.retry.over();
+        let (stopped, ending) = or_stopped(self.retry.take_ending());
+        self.over = unless_stop(over);
+        self.stopped = stopped;
+        self.ending = ending;
+        ready_where(self.over)
     }
 
+    /// The moment that it waits for, or `None` where it waits for none, as while its fallback is asked.
     fn due(&self) -> Option<Moment> {
-        RetryOr::due(self)
+        self.retry.due()
     }
 
-    fn over(&self) -> Option<How> {
-        RetryOr::over(self)
+    /// How it ended, or `None` where it is not over. Whenever it is asked, the law of a retry holds.
+    fn over(&self) -> Option<How>
+        ensures over { result ≡ self.now.over }
+        ensures law { FallingLaw R.driving R.outputs D.grants self.now }
+    {
+        self.over
     }
 
+    /// Ends a retry that is not over as `Cancelled`; one that is over stays as it is.
     fn cancel(&mut self) {
-        RetryOr::cancel(self)
+        if self.over.is_some() {
+            return;
+        }
+        self.retry.cancel();
+        self.over = Some(How::Cancelled);
+        self.ending = Some(RetryOrEnding::Cancelled);
     }
 }

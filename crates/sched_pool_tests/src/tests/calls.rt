@@ -4,7 +4,7 @@ ghost use Rattle.sched_pool.specs.Held.{IsOf};
 
 use super::*;
 use futures::task::{Context, Poll};
-use sched_pool::{Coded, Ending, JobEnd, NoMemory, OpenGate};
+use sched_pool::{Coded, Ending, NoMemory, OpenGate, RetryEnd};
 use std::alloc::AllocGlobal;
 use std::marker::Brand;
 use std::random::RandomSource;
@@ -114,7 +114,7 @@ fn adds<'a, N: Naming>(
 }
 
 // The body of the reply, or the reason of the last outage.
-fn told(end: &JobEnd<Call>) -> &'static str {
+fn told(end: &RetryEnd<Call>) -> &'static str {
     match end.ending() {
         Some(Ending::Won(reply)) => reply.body,
         Some(Ending::ScheduleDone(Err(outage))) => outage.reason,
@@ -123,7 +123,7 @@ fn told(end: &JobEnd<Call>) -> &'static str {
 }
 
 // Asserts what is told of the calls.
-fn are_told(rt: &impl Abort, ends: &[JobEnd<Call>], want: &[&str]) {
+fn are_told(rt: &impl Abort, ends: &[RetryEnd<Call>], want: &[&str]) {
     assert_eq!(rt; ends.len(), want.len());
     for (end, want) in ends.iter().zip(want) {
         assert_eq!(rt; told(end), *want);

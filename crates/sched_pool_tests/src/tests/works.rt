@@ -4,7 +4,7 @@ ghost use Rattle.sched_pool.specs.Held.{IsOf};
 ghost use Rattle.sched_pool.specs.Portion.{IsShareOf};
 
 use super::*;
-use sched_pool::{Code, Ending, Finish, How, JobEnd, OpenGate, PoolEnd, Seen, Share};
+use sched_pool::{Code, Ending, Finish, How, OpenGate, PoolEnd, RetryEnd, Seen, Share};
 use std::alloc::AllocGlobal;
 use std::marker::Brand;
 use std::random::RandomSource;
@@ -84,7 +84,7 @@ fn failure(ending: &Ending<Code, Code>) -> Option<u64> {
     }
 }
 
-fn left(job: &JobEnd<Scripted>) -> Left {
+fn left(job: &RetryEnd<Scripted>) -> Left {
     let ending = match job.ending() {
         Some(ending) => Some(failure(ending)),
         None => None,

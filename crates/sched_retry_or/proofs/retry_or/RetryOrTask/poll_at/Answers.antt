@@ -5,7 +5,7 @@ use Rattle.sched_task_law.proofs.Fields.{none_of}
 use Rattle.sched_retry_or.specs.Falling.{Falling, FallingPoll}
 use Rattle.sched_retry_or.specs.Stops.{unless_stop}
 use Rattle.sched_retry_or.proofs.Polls.{falling_over, has_output, all_ends_retry, beneath_poll, beneath_is}
-use Rattle.sched_retry_or.proofs.retry_or.RetryOr.poll_at.Goals as goal
+use Rattle.sched_retry_or.proofs.retry_or.RetryOrTask.poll_at.Goals as goal
 
 pub returns-then-is_some-clause-poll : goal.returns-then-is_some-clause-poll
 returns-then-is_some-clause-poll g c =

@@ -4,7 +4,7 @@ use Rattle.sched_task_law.specs.Kind.{retry}
 use Rattle.sched_task_law.specs.Past.{Past, bit}
 use Rattle.sched_task_law.specs.Law.{is_stop}
 use Rattle.sched_task_law.proofs.Events.{events_law}
-use Rattle.sched_pool_job.proofs.ends.JobEnd.granted.Goals as goal
+use Rattle.sched_retry.proofs.ends.RetryEnd.granted.Goals as goal
 
 pub returns-clause-events : goal.returns-clause-events
 returns-clause-events g c =

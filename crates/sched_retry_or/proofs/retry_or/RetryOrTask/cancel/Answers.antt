@@ -3,7 +3,7 @@ use Rattle.std.proofs.Common.{is_some, refl, sym, ap, ◌∙◌}
 use Rattle.sched_task_law.proofs.Fields.{none_of}
 use Rattle.sched_retry_or.specs.Falling.{Falling}
 use Rattle.sched_retry_or.proofs.Polls.{gone_is}
-use Rattle.sched_retry_or.proofs.retry_or.RetryOr.cancel.Goals as goal
+use Rattle.sched_retry_or.proofs.retry_or.RetryOrTask.cancel.Goals as goal
 
 pub returns-then-is_some : goal.returns-then-is_some
 returns-then-is_some g c =

@@ -2,7 +2,7 @@
 use Rattle.std.proofs.Common.{ap, ◌∙◌}
 use Rattle.sched_retry_or.specs.Falling.{Falling, falls_due}
 use Rattle.sched_retry_or.proofs.Polls.{due_as}
-use Rattle.sched_retry_or.proofs.retry_or.RetryOr.due.Goals as goal
+use Rattle.sched_retry_or.proofs.retry_or.RetryOrTask.due.Goals as goal
 
 pub returns : goal.returns
 returns g c =

@@ -10,7 +10,7 @@ use Rattle.sched_run_machine.proofs.Made.{stays_so, comes_late, polled_run, leav
 use Rattle.sched_retry.specs.Ending.{over_by, EndingFits}
 use Rattle.sched_retry.specs.declared.endings.Ending.TheVariants.{DeadlinePassed}
 use Rattle.sched_retry.proofs.Polls.{some_by, fits_then, can_be_over}
-use Rattle.sched_retry.proofs.reruns.Rerun.poll_at.Goals as goal
+use Rattle.sched_retry.proofs.reruns.RerunTask.poll_at.Goals as goal
 
 pub returns-then-stays-clause-poll : goal.returns-then-stays-clause-poll
 returns-then-stays-clause-poll g c =

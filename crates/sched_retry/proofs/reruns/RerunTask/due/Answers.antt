@@ -3,7 +3,7 @@ use Rattle.std.proofs.Common.{◌≡◌, ap, ◌∙◌, sym}
 use Rattle.sched_task_law.specs.Past.{waits_by}
 use Rattle.sched_run_machine.specs.Retrying.{RetryingOf}
 use Rattle.sched_run_machine.proofs.Made.{made_waits}
-use Rattle.sched_retry.proofs.reruns.Rerun.due.Goals as goal
+use Rattle.sched_retry.proofs.reruns.RerunTask.due.Goals as goal
 
 pub returns : goal.returns
 returns g c =

@@ -5,7 +5,7 @@ use Rattle.sched_run_machine.specs.Machine.{Machine}
 use Rattle.sched_run_machine.specs.Of.{made_of}
 use Rattle.sched_run_machine.specs.Retrying.{RetryingOf, GivesUp}
 use Rattle.sched_run_machine.proofs.Made.{gives_up_so}
-use Rattle.sched_retry.proofs.reruns.Rerun.cancel.Goals as goal
+use Rattle.sched_retry.proofs.reruns.RerunTask.cancel.Goals as goal
 
 pub returns-then-is_some : goal.returns-then-is_some
 returns-then-is_some g c =

@@ -2,7 +2,7 @@
 use Rattle.std.proofs.Common.{subst}
 use Rattle.sched_run_machine.specs.Retrying.{RetryingOf, KeepsLaw}
 use Rattle.sched_run_machine.proofs.Made.{keeps_law}
-use Rattle.sched_retry.proofs.reruns.Rerun.into_whole.Goals as goal
+use Rattle.sched_retry.proofs.reruns.RerunTask.over.Goals as goal
 
 pub returns-clause-law : goal.returns-clause-law
 returns-clause-law g c =
