@@ -4,17 +4,16 @@ use Rattle.std.specs.List.{FoldsTo}
 use Rattle.rand_core.specs.Stream.{Stream}
 use Rattle.sched_time.specs.declared.numbers.Tick.{Tick}
 use Rattle.sched_ticket_draws.specs.Grants.{Grants}
+use Rattle.sched_task.specs.declared.endings.How.{How}
 use Rattle.sched_task_law.specs.Deadline.{is_past}
-use Rattle.sched_task_law.specs.Kind.{a_retry}
+use Rattle.sched_task_law.specs.Kind.{Kind}
 use Rattle.sched_task_law.specs.Past.{Past, is_under_way, waits_for}
 use Rattle.sched_task_law.proofs.Lists.{by_test}
 use Rattle.sched_run_machine.specs.Drives.{Driving}
 use Rattle.sched_run_machine.specs.Machine.{Machine, unbegun, would_be_late, IsMachineOf}
 use Rattle.sched_closure.specs.Turns.{calling, Turn}
 use Rattle.sched_closure.specs.Calls.{machine_turning}
-use Rattle.sched_closure.specs.Endings.{how_of, gave}
 use Rattle.sched_closure.specs.Begins.{Goes}
-use Rattle.sched_closure.specs.declared.endings.CallEnding.{CallEnding}
 use Rattle.sched_closure.proofs.Told.{through, machine_follows, deadline_stays, budget_stays}
 use Rattle.sched_closure.proofs.Ended.{ends_with}
 
@@ -28,32 +27,34 @@ first_in_time deadline m now none =
 pub none_waited : (v : Past) → is_under_way v.runs v.begun ≡ true → None ≡ waits_for v
 none_waited v runs = by_test (is_some v.over) (λ over. rw over refl) (λ live. rw (live, runs) refl)
 
-module _ {R D K C I F : Type 0} (driving : Driving R) (grants : Grants D) (tells : K → ℕ → K → Type 0)
+module _ {R D K C I F : Type 0} (driving : Driving R) (kind : Kind) (grants : Grants D) (tells : K → ℕ → K → Type 0)
     (waits : K → ℕ → ℕ → K → Type 0) (gives : C → Result I F → C → Type 0) (item_code : I → ℕ)
     (fault_code : F → ℕ) where
-  pub goes_so : (made retry : Machine R D) (clock then : K) (words left : Stream) (call called : C) (ticks : List Tick)
-      (outcome : Result I F) (ending : CallEnding I F) →
-      FoldsTo (Turn (machine_turning grants (a_retry driving.keeps) driving) tells waits gives item_code fault_code)
-      (calling made clock words call None) ticks (calling retry then left called (Some outcome)) →
-      gave ending ≡ outcome → retry.over ≡ Some (how_of ending) →
-      IsMachineOf driving (a_retry driving.keeps) grants made
+  pub goes_so : (made left : Machine R D) (clock then : K) (words unread : Stream) (call called : C) (ticks : List Tick)
+      (outcome handed : Result I F) (how : How) →
+      FoldsTo (Turn (machine_turning grants kind driving) tells waits gives item_code fault_code)
+      (calling made clock words call None) ticks (calling left then unread called (Some outcome)) →
+      handed ≡ outcome → left.over ≡ Some how →
+      IsMachineOf driving kind grants made
       (unbegun grants (driving.plan made.driver) (driving.ends made.driver) made.drawing) →
-      Goes driving grants tells waits gives item_code fault_code
-      (calling made clock words call None) (calling retry then left called (Some (gave ending))) ending
-  goes_so made retry clock then words left call called ticks outcome ending turns same over begins =
-      let follows = machine_follows driving (a_retry driving.keeps) grants in
+      Goes grants tells waits gives item_code fault_code driving kind
+      (calling made clock words call None) (calling left then unread called (Some handed)) how handed
+  goes_so made left clock then words unread call called ticks outcome handed how turns same over begins =
+      let follows = machine_follows driving kind grants in
       let to = through tells waits gives item_code fault_code _ _ _ _ follows _ ticks _ turns _ begins tt in record {
-        ticks = ticks;
-        leads = λ v st.
-            let was = through tells waits gives item_code fault_code _ _ _ _ follows _ ticks _ turns v st tt in (
-              was.0,
-              rw same was.1,
-              ends_with item_code fault_code was.0.past.over was.0.past.runs _ _ _ same (sym was.2.over ∙ over) was.3,
-              was.2,
-            );
+        turns = record {
+          ticks = ticks;
+          leads = λ v st.
+              let was = through tells waits gives item_code fault_code _ _ _ _ follows _ ticks _ turns v st tt in (
+                was.0,
+                rw same was.1,
+                ends_with item_code fault_code was.0.past.over was.0.past.runs _ _ _ same (sym was.2.over ∙ over) was.3,
+                was.2,
+              );
+        };
         begins = begins;
         deadline = to.2.deadline
-            ∙ deadline_stays grants (a_retry driving.keeps) tells waits gives item_code fault_code _ ticks _ to.1;
+            ∙ deadline_stays grants kind tells waits gives item_code fault_code _ ticks _ to.1;
         budget = ap grants.name to.2.drawing
-            ∙ budget_stays grants (a_retry driving.keeps) tells waits gives item_code fault_code _ ticks _ to.1;
+            ∙ budget_stays grants kind tells waits gives item_code fault_code _ ticks _ to.1;
       }

@@ -1,12 +1,14 @@
 -- What a first call makes of a retry that has not begun.
 use Rattle.std.proofs.Common.{◌≡◌, ℕ, Bool, true, false, List, [], ◌∷◌, Option, Some, None, Result, Err, refl, sym}
-use Rattle.std.proofs.Common.{arith}
+use Rattle.std.proofs.Common.{subst, arith}
+use Rattle.std.specs.List.{FoldsTo}
 use Rattle.rand_core.specs.Stream.{Stream}
 use Rattle.sched_time.specs.declared.numbers.Tick.{Tick}
 use Rattle.sched_plan.specs.Schedule.{Schedule}
 use Rattle.sched_ticket_draws.specs.Grants.{Grants, Lawful, IsQuiet}
 use Rattle.sched_effect.specs.declared.ran.Ran.TheVariants.{Won, Lost}
 use Rattle.sched_task.specs.Words.{next_four}
+use Rattle.sched_task.specs.declared.endings.How.TheVariants as how
 use Rattle.sched_task.specs.declared.endings.RunFault.TheVariants.{NoMemory}
 use Rattle.sched_task_law.specs.Kind.{a_retry}
 use Rattle.sched_task_law.specs.Poll.{runs_on, ends, breaks, RefusedIn}
@@ -14,9 +16,10 @@ use Rattle.sched_task_law.proofs.Law.{law_of_nothing, none_planned, first_can, f
 use Rattle.sched_run_machine.specs.Retrying.{Retrying, RetryLaw}
 use Rattle.sched_run_machine.specs.Machine.{unbegun}
 use Rattle.sched_run_machine.proofs.Settles.{Settled, settles, next}
-use Rattle.sched_closure.specs.Turns.{calling}
+use Rattle.sched_closure.specs.Turns.{calling, Turn}
 use Rattle.sched_closure.specs.Calls.{task_turning}
-use Rattle.sched_closure.specs.Begins.{WinsOnce, BrokenAtOnce}
+use Rattle.sched_closure.specs.Endings.{EndsWith}
+use Rattle.sched_closure.specs.Begins.{HasNotBegun, WinsOnce, TakesTurns}
 use Rattle.sched_closure.proofs.First.{idle_turn, run_turn}
 
 -- the plan has had no event, so that there is room for one
@@ -78,23 +81,30 @@ module _ {T D K C I F : Type 0} (grants : Grants D) (lawful : Lawful grants) (qu
       (fault : F) (began ended : Tick) →
       tells clock began.now during → (began.words, between) ≡ next_four words → gives call (Err fault) called →
       tells during ended.now then → (ended.words, left) ≡ next_four between →
-      BrokenAtOnce grants keeps tells waits gives item_code fault_code
-      (calling task clock words call None) (calling after then left called (Some (Err fault))) fault
+      TakesTurns grants tells waits gives item_code fault_code (a_retry keeps) (HasNotBegun grants)
+      (RetryLaw grants (a_retry keeps)) (calling task clock words call None)
+      (calling after then left called (Some (Err fault))) (how.Broken NoMemory) (Err fault)
   broken_at_once task after clock during then words between left call called fault began ended told lanes gave
       tells_then lanes_then = record {
         ticks = began ∷ ended ∷ [];
-        breaks = λ plan deadline drawing holds.
+        leads = λ v is.
+            let drawing = is.2 in
             let code = fault_code fault in
-            let first = starts grants lawful quiet keeps plan deadline drawing holds began in
-            let second = breaks_then grants lawful quiet keeps plan deadline drawing holds began ended code in
-            let running = running_by grants lawful quiet keeps plan deadline drawing holds began in
-            let broken = next grants lawful (a_retry keeps) running ended (breaks (Lost code) NoMemory) drawing in (
+            let first = starts grants lawful quiet keeps is.0 is.1 drawing is.3 began in
+            let second = breaks_then grants lawful quiet keeps is.0 is.1 drawing is.3 began ended code in
+            let running = running_by grants lawful quiet keeps is.0 is.1 drawing is.3 began in
+            let broken = next grants lawful (a_retry keeps) running ended (breaks (Lost code) NoMemory) drawing in
+            subst (λ (v : Retrying D). (u : Retrying D)
+            × FoldsTo (Turn (task_turning grants (a_retry keeps)) tells waits gives item_code fault_code)
+            (calling v clock words call None) (began ∷ ended ∷ []) (calling u then left called (Some (Err fault)))
+            × EndsWith item_code fault_code u.past.over u.past.runs (how.Broken NoMemory) (Err fault)
+            × RetryLaw grants (a_retry keeps) u) (sym is.4) (
               broken,
               (
                 calling running during between call None,
                 idle_turn (task_turning grants (a_retry keeps)) tells waits gives item_code fault_code _ _ clock during
                     words between call None
-                    began (sym (none_planned deadline plan)) refl told lanes
+                    began (sym (none_planned is.1 is.0)) refl told lanes
                     (record { poll = first.poll; runs = refl }),
                 (
                   calling broken then left called (Some (Err fault)),

@@ -2,11 +2,12 @@
 use Rattle.std.specs.Prelude.{◌≡◌, ℕ, Option, Some, None, is_some, IfSome, IfNone, Result}
 use Rattle.rand_core.specs.Stream.{Stream}
 use Rattle.sched_ticket_draws.specs.Grants.{Grants}
+use Rattle.sched_task_law.specs.Kind.{a_retry}
 use Rattle.sched_run_machine.specs.Drives.{Driving}
 use Rattle.sched_run_machine.specs.Machine.{Machine, begins}
 use Rattle.sched_closure.specs.Turns.{calling}
 use Rattle.sched_closure.specs.Begins.{Goes}
-use Rattle.sched_closure.specs.Endings.{gave}
+use Rattle.sched_closure.specs.Endings.{how_of, gave}
 use Rattle.sched_closure.specs.declared.endings.CallEnding.{CallEnding}
 
 -- The limit was asked at the moment that the clock told. Where it admitted the first call, a retry with that limit
@@ -21,7 +22,7 @@ pub record AsksFirst {R D K C I F : Type 0} (driving : Driving R) (grants : Gran
   pub told : tells clock moment between
   pub admits : grants.admitted limit moment (is_some ending) asked
   pub goes : IfSome ending (λ (e : CallEnding I F). (called : C)
-      × Goes driving grants tells waits gives item_code fault_code
+      × Goes grants tells waits gives item_code fault_code driving (a_retry driving.keeps)
       (calling (begins grants driver asked) between words call None)
-      (calling retry after left called (Some (gave e))) e)
+      (calling retry after left called (Some (gave e))) (how_of e) (gave e))
   pub rests : IfNone ending ((retry ≡ begins grants driver asked) × (after ≡ between) × (left ≡ words))

@@ -1,14 +1,11 @@
 //! A closure that is called again after each success.
-ghost use Rattle.std.specs.Prelude.{◌≡◌, ℕ, List, Some, None};
-ghost use Rattle.std.specs.List.{FoldsTo};
-ghost use Rattle.sched_time.specs.declared.numbers.Tick.{Tick as Ticked};
+ghost use Rattle.std.specs.Prelude.{◌≡◌, Some, None};
 ghost use Rattle.sched_ticket_draws.specs.Freely.{free_grants};
 ghost use Rattle.sched_task_law.specs.Kind.{a_repeat};
-ghost use Rattle.sched_run_machine.specs.Retrying.{Retrying};
-ghost use Rattle.sched_run_machine.specs.Machine.{begins, unbegun, IsMachineOf};
-ghost use Rattle.sched_closure.specs.Turns.{calling, Turn};
-ghost use Rattle.sched_closure.specs.Calls.{task_turning};
-ghost use Rattle.sched_closure.specs.Endings.{how_of_repeat, gave_of_repeat, EndsWith};
+ghost use Rattle.sched_run_machine.specs.Machine.{begins};
+ghost use Rattle.sched_closure.specs.Turns.{calling};
+ghost use Rattle.sched_closure.specs.Begins.{Goes};
+ghost use Rattle.sched_closure.specs.Endings.{how_of_repeat, gave_of_repeat};
 
 use crate::endings::{RepeatCallEnding, repeat_ending};
 use crate::turns::call_on;
@@ -47,19 +44,11 @@ where
     C: FnMut() -> Result<I, F>,
     requires fresh { S.driving.fresh driver }
     requires callable { C.IsAlwaysCallable call }
-    ensures turns { (ticks : List Ticked) × (called : C)
-        × ((v : Retrying ℕ) →
-        IsMachineOf S.driving (a_repeat S.driving.keeps) free_grants (begins free_grants driver 0) v →
-        (u : Retrying ℕ)
-        × FoldsTo (Turn (task_turning free_grants (a_repeat S.driving.keeps)) K.tells K.waits C.step I.coded F.coded)
-        (calling v clock.old (G.stream words.old) call None)
-        ticks
-        (calling u clock.new (G.stream words.new) called (Some (gave_of_repeat result.0)))
-        × EndsWith I.coded F.coded u.past.over u.past.runs (how_of_repeat result.0) (gave_of_repeat result.0)
-        × IsMachineOf S.driving (a_repeat S.driving.keeps) free_grants result.1 u) }
-    ensures stands { IsMachineOf S.driving (a_repeat S.driving.keeps) free_grants (begins free_grants driver 0)
-        (unbegun free_grants (S.driving.plan driver) (S.driving.ends driver) 0) }
-    ensures deadline { S.driving.ends result.1.driver ≡ S.driving.ends driver }
+    ensures goes { (called : C) × Goes free_grants K.tells K.waits C.step I.coded F.coded
+        S.driving (a_repeat S.driving.keeps)
+        (calling (begins free_grants driver 0) clock.old (G.stream words.old) call None)
+        (calling result.1 clock.new (G.stream words.new) called (Some (gave_of_repeat result.0)))
+        (how_of_repeat result.0) (gave_of_repeat result.0) }
     ensures over { result.1.over ≡ Some (how_of_repeat result.0) }
 {
     let mut repeat = Machine::repeating(driver);

@@ -58,11 +58,12 @@ where
         IfOk made (λ m. S.driving.fresh m.0) }
     requires callable { C.IsAlwaysCallable call }
     ensures begun { IfSome result.1 (λ retry. (made : _) × (alloc : _) × B.step begin.old alloc (Ok made) begin.new
-        × (called : C) × Goes S.driving D.grants K.tells K.waits C.step I.coded F.coded
+        × (called : C) × Goes D.grants K.tells K.waits C.step I.coded F.coded S.driving (a_retry S.driving.keeps)
         (calling (begins D.grants made.0 made.1) clock.old (G.stream words.old) call None)
-        (calling retry clock.new (G.stream words.new) called (Some (gave result.0))) result.0) }
+        (calling retry clock.new (G.stream words.new) called (Some (gave result.0))) (how_of result.0)
+        (gave result.0)) }
     ensures unbegun { IfNone result.1 ((called : C)
-        × EndsUnbegun D.grants S.driving.keeps K.tells K.waits C.step I.coded F.coded
+        × EndsUnbegun D.grants K.tells K.waits C.step I.coded F.coded S.driving.keeps
         ((alloc : _) × (cause : _) × B.step begin.old alloc (Err cause) begin.new)
         (calling begin.old clock.old (G.stream words.old) call None)
         (calling begin.new clock.new (G.stream words.new) called (Some (gave result.0))) result.0) }
@@ -102,11 +103,12 @@ where
     requires callable { C.IsAlwaysCallable call }
     ensures begun { (k : K) (c : C) → K.tells k first.0 clock.old → C.step c (Err first.1) call →
         IfSome result.1 (λ retry. (made : _) × (alloc : _) × B.step begin.old alloc (Ok made) begin.new
-        × (called : C) × Goes S.driving D.grants K.tells K.waits C.step I.coded F.coded
+        × (called : C) × Goes D.grants K.tells K.waits C.step I.coded F.coded S.driving (a_retry S.driving.keeps)
         (calling (begins D.grants made.0 made.1) k (G.stream words.old) c None)
-        (calling retry clock.new (G.stream words.new) called (Some (gave result.0))) result.0) }
+        (calling retry clock.new (G.stream words.new) called (Some (gave result.0))) (how_of result.0)
+        (gave result.0)) }
     ensures unbegun { (k : K) (c : C) → K.tells k first.0 clock.old → C.step c (Err first.1) call →
-        IfNone result.1 ((called : C) × EndsUnbegun D.grants S.driving.keeps K.tells K.waits C.step I.coded F.coded
+        IfNone result.1 ((called : C) × EndsUnbegun D.grants K.tells K.waits C.step I.coded F.coded S.driving.keeps
         ((alloc : _) × (cause : _) × B.step begin.old alloc (Err cause) begin.new)
         (calling begin.old k (G.stream words.old) c None)
         (calling begin.new clock.new (G.stream words.new) called (Some (gave result.0))) result.0) }

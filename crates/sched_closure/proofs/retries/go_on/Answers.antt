@@ -54,7 +54,8 @@ returns-clause-begun g c = λ clock call told gave.
     c.args.call None ended
     fault (λ v st. none_waited v.past (sym st.under_way ∙ runs)) runs gave c.now.ensures c.four_words-2.ensures
     (rw (← c.ran_of.ensures) c.tell.ensures.polls) in
-    let so = goes_so g.S.Drives.driving g.D.Draws.grants g.K.Clock.tells g.K.Clock.waits (C-step g)
+    let so = goes_so g.S.Drives.driving (a_retry g.S.Drives.driving.keeps) g.D.Draws.grants g.K.Clock.tells
+    g.K.Clock.waits (C-step g)
     g.I.Coded.coded g.F.Coded.coded made c.match-tell.retry clock c.match-tell.clock (g.G.Rng.stream c.args.words.now)
     (g.G.Rng.stream c.match-tell.words) call in
     let over = sym c.over.ensures ∙ c.retry_ending-ending.ensures.over in
@@ -64,7 +65,7 @@ returns-clause-begun g c = λ clock call told gave.
         c.alloc-alloc.result,
         c.in-Ok.ensures,
         c.args.call,
-        so c.args.call (began ∷ ended ∷ []) c.match-tell.outcome c.retry_ending-ending.result
+        so c.args.call (began ∷ ended ∷ []) c.match-tell.outcome _ _
             (rw (w.retry-is, w.clock-is, w.words-is, w.outcome-is) (between, first, (then, second, refl)))
             c.retry_ending-ending.ensures.gave over c.begun-retry.ensures.stands,
       )
@@ -74,7 +75,7 @@ returns-clause-begun g c = λ clock call told gave.
             c.alloc-alloc.result,
             c.in-Ok.ensures,
             rest.1,
-            so rest.1 (began ∷ ended ∷ rest.0) c.match-tell.outcome c.retry_ending-ending.result
+            so rest.1 (began ∷ ended ∷ rest.0) c.match-tell.outcome _ _
                 (rw (w.retry-is, w.clock-is, w.words-is, w.outcome-is) (between, first, (then, second, rest.2)))
                 c.retry_ending-ending.ensures.gave over c.begun-retry.ensures.stands,
           )
