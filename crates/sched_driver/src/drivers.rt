@@ -72,15 +72,15 @@ impl Model for Driver {
 
     ghost coded = { coded_driven };
 
-    ghost use Rattle.sched_driver.specs.Driver.{IsDriven};
+    ghost use Rattle.sched_driver.specs.Driver.{KeepsJournal};
 
     ghost view = { λ d. record { plan = d.stepper.plan; journal = d.journal.items } };
 
-    ghost invariant = { λ d. IsDriven d.stepper d.journal.items };
+    ghost invariant = { λ d. KeepsJournal d.stepper d.journal.items };
 }
 
 impl Driver {
-    ghost use Rattle.sched_driver.specs.Driver.{HasRoom, Refuses};
+    ghost use Rattle.sched_driver.specs.Driver.{HasRoom, RefusesEvent};
 
     /// A driver of the plan before its first event. Fails only with `NoMemory`; the plan is then dropped.
     pub fn new(alloc: Global, plan: Plan) -> Result<Driver, NoMemory>
@@ -111,7 +111,7 @@ impl Driver {
         ensures decision { IfOk result (λ d. d ≡ (answer self.new.plan self.new.journal).decision) }
         ensures start { IfOk result (λ d. StartsBy tick.now d) }
         ensures room { IfOk result (λ _. HasRoom self.old tick.now) }
-        ensures refused { IfErr result (λ fault. Refuses self.old tick.now fault) }
+        ensures refused { IfErr result (λ fault. RefusesEvent self.old tick.now fault) }
         ensures unchanged { IfErr result (λ _. self.new ≡ self.old) }
     {
         self.has_room(tick.now)?;
@@ -180,7 +180,7 @@ impl Driver {
     // Whether one more event at this moment has a place in the journal.
     fn has_room(&self, now: Moment) -> Result<(), DriveFault>
         ensures ok { IfOk result (λ _. HasRoom self.now now) }
-        ensures refused { IfErr result (λ fault. Refuses self.now now fault) }
+        ensures refused { IfErr result (λ fault. RefusesEvent self.now now fault) }
     {
         self.stepper.check_order(now)?;
         if self.journal.len() == MAX_EVENTS {

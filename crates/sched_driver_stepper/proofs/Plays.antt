@@ -6,8 +6,9 @@ use Rattle.std.proofs.Math.Seq.{take-suc, drop-cons}
 use Rattle.sched_time.specs.declared.starts.Decision.{Decision}
 use Rattle.sched_plan.specs.declared.history.Event.{Event}
 use Rattle.sched_driver_tree.specs.declared.trees.StepFault.{StepFault}
+use Rattle.sched_driver_tree.specs.Stepper.{StepGives, RefusesStep}
 use Rattle.sched_driver_stepper.specs.Standing.{Standing, StandsFor}
-use Rattle.sched_driver_stepper.specs.Stepper.{Goes, Refuses, EndsEarly}
+use Rattle.sched_driver_stepper.specs.Stepper.{EndsEarly}
 
 -- it has had these events, after those that it had before
 pub record HasPlayed (old new : Standing) (events : List Event) : Type 0 where
@@ -17,7 +18,8 @@ pub record HasPlayed (old new : Standing) (events : List Event) : Type 0 where
 -- the step of the event at a place takes it to one event more
 pub played_one : (old mid new : Standing) (events : List Event) (i : ℕ) (e : Event) (d : Decision) →
     i < length events → e ≡ get_or events i e → HasPlayed old mid (take i events) → new.plan ≡ mid.plan →
-    ((h : List Event) → StandsFor mid h → Goes mid.plan (h ++ e ∷ []) d new) → HasPlayed old new (take (i + 1) events)
+    ((h : List Event) → StandsFor mid h → StepGives StandsFor mid.plan (h ++ e ∷ []) d new) →
+    HasPlayed old new (take (i + 1) events)
 played_one old mid new events i e d within item so_far plan goes = record {
   same_plan = plan ∙ so_far.same_plan;
   stands = λ h was.
@@ -31,7 +33,7 @@ played_one old mid new events i e d within item so_far plan goes = record {
 pub ends_early : (old mid new : Standing) (events : List Event) (i : ℕ) (e : Event) (fault : StepFault)
     (h : List Event) →
     i < length events → e ≡ get_or events i e → HasPlayed old mid (take i events) → new ≡ mid →
-    Refuses mid e.now fault → StandsFor old h → EndsEarly h events fault new
+    RefusesStep mid.floor e.now fault → StandsFor old h → EndsEarly h events fault new
 ends_early old mid new events i e fault h within item so_far same why was = record {
   played = take i events;
   refused = e;
@@ -39,5 +41,5 @@ ends_early old mid new events i e fault h within item so_far same why was = reco
   are = sym (take-append-drop i events) ∙ ap (λ es. take i events ++ es)
       (drop-cons events i e within ∙ ap (λ x. x ∷ drop (suc i) events) (sym item));
   stands = subst (λ v. StandsFor v (h ++ take i events)) (sym same) (so_far.stands h was);
-  why = subst (λ v. Refuses v e.now fault) (sym same) why;
+  why = subst (λ v. RefusesStep v.floor e.now fault) (sym same) why;
 }

@@ -11,17 +11,17 @@ use Rattle.sched_plan.specs.Starts.{StartsBy}
 use Rattle.sched_plan.proofs.Starts.{starts_are_not_before}
 use Rattle.sched_plan.specs.declared.history.Event.{Event}
 use Rattle.sched_driver_tree.specs.Standing.{last_answer, start_planned}
+use Rattle.sched_driver_tree.specs.Stepper.{StepGives}
 use Rattle.sched_driver_tree.proofs.Standings.{last_answer-push}
 use Rattle.sched_driver_stepper.specs.Standing.{Standing, StandsFor}
 use Rattle.sched_driver_stepper.specs.Kept.{IsKeptAfter, KeptSteps, standing_of}
-use Rattle.sched_driver_stepper.specs.Stepper.{Goes}
 use Rattle.sched_driver_stepper.specs.declared.kept.Kept.{Kept}
 
 -- What it is after a step, whatever it stood for: the step was that of its plan.
 pub goes_on : (plan : Schedule) (old : Kept) (start : Option ℕ) (floor : ℕ) (new : Kept) (e : Event) (d : Decision) →
     floor ≤ e.now → ((h : List Event) → IsKeptAfter plan h old → KeptSteps plan (h ++ e ∷ []) new d) →
     (h : List Event) → StandsFor (standing_of plan old start floor) h →
-    Goes plan (h ++ e ∷ []) d (standing_of plan new (start_of d) e.now)
+    StepGives StandsFor plan (h ++ e ∷ []) d (standing_of plan new (start_of d) e.now)
 goes_on plan old start floor new e d later law h was =
     let floor_is : floor ≡ last_moment h = ap (λ (v : Standing). v.floor) was.is in
     let step = law h record {

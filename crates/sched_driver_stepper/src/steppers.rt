@@ -41,7 +41,8 @@ impl Model for Stepper {
 
 impl Stepper {
     ghost use Rattle.sched_driver_stepper.specs.Kept.{IsFirstKept};
-    ghost use Rattle.sched_driver_stepper.specs.Stepper.{Goes, Refuses, EndsEarly};
+    ghost use Rattle.sched_driver_tree.specs.Stepper.{StepGives, RefusesStep};
+    ghost use Rattle.sched_driver_stepper.specs.Stepper.{EndsEarly};
 
     /// A stepper of the plan before its first event. Fails only with `NoMemory`; the plan is then dropped.
     pub fn new(alloc: Global, plan: Plan) -> Result<Stepper, NoMemory>
@@ -81,11 +82,11 @@ impl Stepper {
         // Whatever history it stood for, it now stands for that one with this event, and decides as the plan answers
         // it.
         ensures law { (h : List Event) → StandsFor self.old h → IfOk result
-            (λ d. Goes self.old.plan (h ++ event_of tick.entry.now input.now ∷ []) d self.new) }
+            (λ d. StepGives StandsFor self.old.plan (h ++ event_of tick.entry.now input.now ∷ []) d self.new) }
         ensures plan { self.new.plan ≡ self.old.plan }
         ensures start { IfOk result (λ d. StartsBy tick.entry.now.now d) }
         ensures order { IfOk result (λ _. self.old.floor ≤ tick.entry.now.now) }
-        ensures refused { IfErr result (λ fault. Refuses self.old tick.entry.now.now fault) }
+        ensures refused { IfErr result (λ fault. RefusesStep self.old.floor tick.entry.now.now fault) }
         ensures unchanged { IfErr result (λ _. self.new ≡ self.old) }
     {
         // Tells what the proof rests on: that the moment is within `FAR`.

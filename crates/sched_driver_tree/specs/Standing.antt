@@ -17,7 +17,7 @@ use Rattle.sched_step.specs.Progress.{Progress}
 use Rattle.sched_step.specs.ProgressCode.{coded_progress}
 use Rattle.sched_step.specs.StateOf.{state_of}
 
-pub record Standing : Type 0 where
+pub record TreeStanding : Type 0 where
   pub plan : Schedule
   pub state : Progress
   pub last : Option Answer
@@ -29,14 +29,14 @@ last_answer s [] = None
 last_answer s (e ∷ h) = Some (answer s (e ∷ h))
 
 -- what is kept after this history
-abbrev pub standing_after : Schedule → List Event → Standing
-standing_after s h = record { plan = s; state = state_of s h; last = last_answer s h; floor = last_moment h }
+abbrev pub tree_standing_after : Schedule → List Event → TreeStanding
+tree_standing_after s h = record { plan = s; state = state_of s h; last = last_answer s h; floor = last_moment h }
 
 -- It may stand for this history: the moments never fall, and its state, its last answer and its last moment are those
 -- that the schedule's definition gives for it.
-pub record StandsFor (v : Standing) (h : List Event) : Type 0 where
+pub record TreeStandsFor (v : TreeStanding) (h : List Event) : Type 0 where
   pub in_order : IsHistory h
-  pub is : v ≡ standing_after v.plan h
+  pub is : v ≡ tree_standing_after v.plan h
 
 -- the output of an answer, if there is one
 abbrev pub output_given : Option Answer → Option Datum
@@ -63,8 +63,8 @@ coded_answer =
     (λ a. (a.output, a.decision)) (λ p. record { output = p.0; decision = p.1 }) (λ _. refl)
 
 -- what is kept is stored as its parts
-abbrev pub coded_standing : Coded Standing
-coded_standing =
+abbrev pub coded_tree_standing : Coded TreeStanding
+coded_tree_standing =
     code_by ((Schedule × Progress) × (Option Answer × ℕ))
     (coded× (coded× coded_schedule coded_progress) (coded× (coded_option coded_answer) coded_ℕ))
     (λ v. ((v.plan, v.state), (v.last, v.floor)))

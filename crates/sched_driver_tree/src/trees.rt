@@ -3,7 +3,7 @@ ghost use Rattle.sched_plan.specs.declared.history.Event.{Event};
 ghost use Rattle.sched_step.specs.Progress.{fits};
 ghost use Rattle.sched_step.specs.StateOf.{event_of};
 ghost use Rattle.sched_step.specs.Starts.{StartsBy};
-ghost use Rattle.sched_driver_tree.specs.Standing.{standing_after, StandsFor, output_given, start_planned};
+ghost use Rattle.sched_driver_tree.specs.Standing.{tree_standing_after, TreeStandsFor, output_given, start_planned};
 
 use sched_plan::{Answer, Plan, SharedPlan, Val};
 use sched_step::{State, initial};
@@ -47,32 +47,32 @@ pub struct TreeStepper {
 }
 
 impl Model for TreeStepper {
-    ghost use Rattle.sched_driver_tree.specs.Standing.{Standing, coded_standing};
+    ghost use Rattle.sched_driver_tree.specs.Standing.{TreeStanding, coded_tree_standing};
 
-    ghost Value = { Standing };
+    ghost Value = { TreeStanding };
 
-    ghost coded = { coded_standing };
+    ghost coded = { coded_tree_standing };
 
-    ghost use Rattle.sched_driver_tree.specs.Stepper.{IsStepper};
+    ghost use Rattle.sched_driver_tree.specs.Stepper.{IsTreeStepper};
 
     ghost view = { λ s. record { plan = s.plan; state = s.state; last = s.last; floor = s.floor } };
 
-    ghost invariant = { λ s. IsStepper record { plan = s.plan; state = s.state; last = s.last; floor = s.floor } };
+    ghost invariant = { λ s. IsTreeStepper record { plan = s.plan; state = s.state; last = s.last; floor = s.floor } };
 }
 
 impl TreeStepper {
-    ghost use Rattle.sched_driver_tree.specs.Stepper.{Goes, Refuses};
+    ghost use Rattle.sched_driver_tree.specs.Stepper.{StepGives, RefusesStep};
 
     /// A stepper of the plan before its first event. Fails only with `NoMemory`; the plan is then dropped.
     pub fn new(alloc: Global, plan: Plan) -> Result<TreeStepper, NoMemory>
-        ensures { IfOk result (λ stepper. stepper ≡ standing_after plan []) }
+        ensures { IfOk result (λ stepper. stepper ≡ tree_standing_after plan []) }
     {
         TreeStepper::of_shared(alloc, SharedPlan::new(alloc, plan)?)
     }
 
     /// The same of a plan that others hold too, with no copy of it. Where it fails, this share of the plan is dropped.
     pub fn of_shared(alloc: Global, plan: SharedPlan) -> Result<TreeStepper, NoMemory>
-        ensures { IfOk result (λ stepper. stepper ≡ standing_after plan []) }
+        ensures { IfOk result (λ stepper. stepper ≡ tree_standing_after plan []) }
     {
         let state = initial(alloc, plan.get())?;
         Ok(TreeStepper {
@@ -90,12 +90,12 @@ impl TreeStepper {
     pub fn next(&mut self, alloc: Global, tick: &Tick, input: &Val) -> Result<Decision, StepFault>
         // Whatever history it stood for, it now stands for that one with this event, and decides as the plan answers
         // it.
-        ensures law { (h : List Event) → StandsFor self.old h → IfOk result
-            (λ d. Goes self.old.plan (h ++ event_of tick.entry.now input.now ∷ []) d self.new) }
+        ensures law { (h : List Event) → TreeStandsFor self.old h → IfOk result
+            (λ d. StepGives TreeStandsFor self.old.plan (h ++ event_of tick.entry.now input.now ∷ []) d self.new) }
         ensures plan { self.new.plan ≡ self.old.plan }
         ensures start { IfOk result (λ d. StartsBy tick.entry.now.now d) }
         ensures order { IfOk result (λ _. self.old.floor ≤ tick.entry.now.now) }
-        ensures refused { IfErr result (λ fault. Refuses self.old tick.entry.now.now fault) }
+        ensures refused { IfErr result (λ fault. RefusesStep self.old.floor tick.entry.now.now fault) }
         ensures unchanged { IfErr result (λ _. self.new ≡ self.old) }
     {
         self.check_order(tick.now)?;
@@ -147,7 +147,7 @@ impl TreeStepper {
         ensures value { result ≡ self.now.floor }
 
         // There is a history that it stands for.
-        ensures stands { (h : List Event) × StandsFor self.now h }
+        ensures stands { (h : List Event) × TreeStandsFor self.now h }
     {
         self.floor
     }
@@ -166,7 +166,7 @@ impl TreeStepper {
 
     /// Back to before the first event, whatever the moment of the next one. It takes no memory.
     pub fn reset(&mut self)
-        ensures { self.new ≡ standing_after self.old.plan [] }
+        ensures { self.new ≡ tree_standing_after self.old.plan [] }
     {
         self.state.renew(self.plan.get());
         self.last = None;

@@ -16,7 +16,6 @@ pub use Rattle.sched_ticket_draws.specs.Grants
 pub use Rattle.sched_ticket_draws.specs.Budgets
 pub use Rattle.sched_ticket_draws.specs.Quotas
 pub use Rattle.sched_ticket_draws.specs.Freely
-pub use Rattle.sched_task.specs.Polls
 pub use Rattle.sched_task.specs.Course
 pub use Rattle.sched_task.specs.Words
 pub use Rattle.sched_task.specs.System

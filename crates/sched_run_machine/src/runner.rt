@@ -1,7 +1,7 @@
 //! An effect with the beginnings of its runs.
 ghost use Rattle.std.specs.Prelude.{◌≡◌, [], is_some};
 ghost use Rattle.futures.specs.Task.{Keeps};
-ghost use Rattle.sched_task.specs.Polls.{is_ready};
+ghost use Rattle.sched_task.specs.Course.{is_ready};
 ghost use Rattle.sched_task_law.specs.Past.{is_under_way};
 ghost use Rattle.sched_run_machine.specs.Runner.{RunPolls};
 

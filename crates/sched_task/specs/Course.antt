@@ -1,8 +1,15 @@
 -- The polls of one task by a clock and a generator, one after the other.
 use Rattle.std.specs.Prelude.{◌≡◌, ℕ, Bool, true, false, List, [], ◌∷◌, Option, Some, None}
+use Rattle.futures.specs.declared.task.Poll.{Poll}
+use Rattle.futures.specs.declared.task.Poll.TheVariants.{Ready, Pending}
 use Rattle.rand_core.specs.Stream.{Stream}
 use Rattle.sched_time.specs.declared.numbers.Tick.{Tick}
 use Rattle.sched_task.specs.Words.{next_four}
+
+-- whether a poll was ready
+abbrev pub is_ready : {A : Type 0} → Poll A → Bool
+is_ready (Ready x) = true
+is_ready Pending = false
 
 -- a task that was not given yet, with its clock and its generator
 pub record Timing (T C G : Type 0) : Type 0 where

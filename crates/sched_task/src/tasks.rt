@@ -2,7 +2,7 @@
 ghost use Rattle.std.specs.Prelude.{◌≡◌, ℕ, Bool, true, Option, None, is_some};
 ghost use Rattle.futures.specs.Task.{Keeps};
 ghost use Rattle.sched_time.specs.declared.numbers.Tick.{Tick as Ticked};
-ghost use Rattle.sched_task.specs.Polls.{is_ready};
+ghost use Rattle.sched_task.specs.Course.{is_ready};
 ghost use Rattle.sched_task.specs.declared.endings.How.{How as Ending};
 
 use crate::endings::How;

@@ -2,7 +2,7 @@
 use Rattle.std.proofs.Common.{rules, ◌≡◌, ◌<◌, length, slice_index_or, subst}
 use Rattle.std.specs.Prelude.{HoldsAt}
 use Rattle.sched_time.specs.declared.numbers.Tick.{Tick}
-use Rattle.sched_task.specs.Polls.{is_ready}
+use Rattle.sched_task.specs.Course.{is_ready}
 use Rattle.sched_wheel.specs.Polled.{IsOpen}
 use Rattle.sched_wheel.proofs.Polls.{asked_then, course_of_none, course_of_poll, of_each_ok}
 use Rattle.sched_wheel.proofs.loops.take_turn.Goals as goal

@@ -5,14 +5,14 @@ use Rattle.sched_plan.specs.Schedule.{Schedule}
 use Rattle.sched_plan.specs.declared.history.Event.{Event}
 use Rattle.sched_step.specs.Progress.{fits}
 use Rattle.sched_step.specs.StateOf.{event_of}
-use Rattle.sched_driver_tree.specs.Standing.{Standing, StandsFor}
-use Rattle.sched_driver_tree.specs.Stepper.{Goes}
+use Rattle.sched_driver_tree.specs.Standing.{TreeStanding, TreeStandsFor}
+use Rattle.sched_driver_tree.specs.Stepper.{StepGives}
 use Rattle.sched_driver_tree.proofs.Standings.{goes_on}
 use Rattle.sched_driver_tree.proofs.trees.TreeStepper.next.Goals as goal
 
 pub invariant_of-self-2 : goal.invariant_of-self-2
 invariant_of-self-2 c =
-    let v : Standing = record {
+    let v : TreeStanding = record {
       plan = c.self.inside.plan;
       state = c.self.inside.state;
       last = c.self.inside.last;
@@ -21,7 +21,7 @@ invariant_of-self-2 c =
     let e = event_of c.args.tick.now c.args.input.now in
     let h = c.self.invariant.history in
     let same : c.get.result.now ≡ v.plan = c.get.ensures in
-    let floor_is : v.floor ≡ c.args.self.now.floor = ap (λ (v : Standing). v.floor) c.self.view_is in
+    let floor_is : v.floor ≡ c.args.self.now.floor = ap (λ (v : TreeStanding). v.floor) c.self.view_is in
     let later : v.floor ≤ e.now = rw floor_is c.in_ok-check_order.ensures.ok in
     record {
       history = h ++ e ∷ [];
@@ -34,13 +34,13 @@ invariant_of-self-2 c =
 
 pub returns-clause-law : goal.returns-clause-law
 returns-clause-law c =
-    let v : Standing = record {
+    let v : TreeStanding = record {
       plan = c.self.inside.plan;
       state = c.self.inside.state;
       last = c.self.inside.last;
       floor = c.self.inside.floor;
     } in
-    let new : Standing = record {
+    let new : TreeStanding = record {
       plan = c.self.inside.plan;
       state = c.advance.new.self;
       last = Some c.in_ok-answer.answer;
@@ -48,9 +48,9 @@ returns-clause-law c =
     } in
     let e = event_of c.args.tick.now c.args.input.now in
     let same : c.get.result.now ≡ v.plan = c.get.ensures in
-    let floor_is : v.floor ≡ c.args.self.now.floor = ap (λ (v : Standing). v.floor) c.self.view_is in
+    let floor_is : v.floor ≡ c.args.self.now.floor = ap (λ (v : TreeStanding). v.floor) c.self.view_is in
     let later : v.floor ≤ e.now = rw floor_is c.in_ok-check_order.ensures.ok in
-    subst (λ (o : Standing). (h : List Event) → StandsFor o h
-    → Goes o.plan (h ++ e ∷ []) c.in_ok-answer.answer.decision new)
+    subst (λ (o : TreeStanding). (h : List Event) → TreeStandsFor o h
+    → StepGives TreeStandsFor o.plan (h ++ e ∷ []) c.in_ok-answer.answer.decision new)
     c.self.view_is
     (goes_on v c.get.result.now e c.advance.new.self c.in_ok-answer.answer same later c.in_ok-answer.ensures.law)

@@ -1,6 +1,6 @@
 -- A poll of the task is one of its law, by each journal that its driver may stand for.
 use Rattle.std.proofs.Common.{true, [], Some, is_some, refl, sym, ap, ◌∙◌, subst}
-use Rattle.sched_task.specs.Polls.{is_ready}
+use Rattle.sched_task.specs.Course.{is_ready}
 use Rattle.sched_task_law.specs.Kind.{repeats}
 use Rattle.sched_run_machine.specs.Retrying.{RetryingOf, TaskPoll}
 use Rattle.sched_run_machine.specs.Of.{made_of}

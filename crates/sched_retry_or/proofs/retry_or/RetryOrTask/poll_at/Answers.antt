@@ -1,6 +1,6 @@
 -- A poll is one of the retry beneath, whose ending is taken, or asks the fallback once.
 use Rattle.std.proofs.Common.{is_some, sym, ap, ◌∙◌, subst}
-use Rattle.sched_task.specs.Polls.{is_ready}
+use Rattle.sched_task.specs.Course.{is_ready}
 use Rattle.sched_task_law.proofs.Fields.{none_of}
 use Rattle.sched_retry_or.specs.Falling.{Falling, FallingPoll}
 use Rattle.sched_retry_or.specs.Stops.{unless_stop}
