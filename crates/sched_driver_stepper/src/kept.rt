@@ -32,6 +32,7 @@ impl Kept {
 
     /// Steps the plan with one more event, in place, and gives what it decides. Fails only with `NoMemory`, and is then
     /// unchanged.
+    #[inline(always)]
     pub(crate) fn advance(
         &mut self,
         alloc: Global,

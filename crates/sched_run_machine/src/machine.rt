@@ -116,6 +116,7 @@ impl<R: Drives, D: Draws, A: Aims> Machine<R, D, A> {
     /// driver
     /// has a deadline and the tick is past that, it ends as `DeadlinePassed` and begins none, unless no run was made
     /// yet.
+    #[inline(always)]
     pub fn poll(&mut self, tick: &Tick)
         ensures polls { PollsEach R.driving (A.kind R.driving.keeps) D.grants self.old tick.entry.now [] self.new }
         ensures in_time { PollsInTime D.grants (R.driving.ends self.old.driver) self.old tick.entry.now.now self.new }
@@ -234,6 +235,7 @@ impl<R: Drives, D: Draws, A: Aims> Machine<R, D, A> {
     }
 
     /// What the host is to do. It waits for no moment past the deadline of its driver, where that has one.
+    #[inline(always)]
     pub fn next(&self) -> Next
         ensures finds { Finds self.now.over self.now.under_way result }
         ensures in_time { WaitsInTime (R.driving.ends self.now.driver) result }
