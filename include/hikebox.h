@@ -741,8 +741,9 @@ HIKEBOX_CHECKED hikebox_status hikebox_throttle_new(uint64_t now, uint32_t ratio
  */
 HIKEBOX_CHECKED hikebox_status hikebox_limit_both(hikebox_limit *limit, hikebox_limit *second);
 
-/* Puts another handle of the same limit, which has no request, into `part`. HIKEBOX_FULL; _EMPTY; _NO_MEMORY;
- * _TOO_MANY_PASSES: after more than 2^42 splits of one handle. */
+/* Puts another handle of the same limit, which has no request, into `part`. A handle that was made is split up to 2^42
+ * times, one that was split off it fewer than 2^20 times, and one that was split off that never: so join handles that
+ * were split off makers' handles. HIKEBOX_FULL; _EMPTY; _NO_MEMORY; _TOO_MANY_PASSES. */
 HIKEBOX_CHECKED hikebox_status hikebox_limit_split(hikebox_limit *limit, hikebox_limit *part);
 
 /*

@@ -185,6 +185,13 @@ static void four(void) {
     wants(hikebox_limit_both(&opens, &first), HIKEBOX_OUT_OF_RANGE);
     holds(first.held && opens.held);
     draws(&first, 0, 0, HIKEBOX_OUT_OF_TURN, 0);
+    // Another handle of all four, one that is split off that, and none that is split off the last.
+    wants(hikebox_limit_split(&first, &flights), HIKEBOX_OK);
+    wants(hikebox_limit_split(&flights, &second), HIKEBOX_OK);
+    admits(&second, 99, HIKEBOX_BREAKER_OPEN, 100);
+    wants(hikebox_limit_split(&second, &breaker), HIKEBOX_TOO_MANY_PASSES);
+    wants(hikebox_limit_free(&flights), HIKEBOX_OK);
+    wants(hikebox_limit_free(&second), HIKEBOX_OK);
     wants(hikebox_limit_free(&first), HIKEBOX_OK);
     wants(hikebox_limit_free(&opens), HIKEBOX_OK);
     for (int at = 0; at < 3; at++)

@@ -38,6 +38,7 @@ THREADS = 8
 #: What the types would refuse.
 ANY_FIVE: Any = 5
 ANY_CLASS: Any = Bucket
+ANY_LIST: Any = [Bucket.aws(), InFlight.envoy()]
 
 
 def admitted(limit: Limit) -> Request:
@@ -407,6 +408,7 @@ def test_terms_out_of_range(make: Callable[[], Any]) -> None:
         (lambda: Breaker(5, spaced(30), clock=ANY_FIVE), "clock: expected a function, got 5"),
         (lambda: Throttle(2, 60, random=ANY_FIVE), "random: expected a function, got 5"),
         (lambda: Retrying(recurs(1), budget=ANY_CLASS), "budget: expected an object, got the class Bucket"),
+        (lambda: Retrying(recurs(1), budget=ANY_LIST), "both(..) makes one of several limits"),
     ],
 )
 def test_what_is_told_of_wrong_terms(make: Callable[[], Any], told: str) -> None:

@@ -57,7 +57,8 @@ struct Shared {
 #[derive(Debug)]
 enum Made {
     Of(Terms),
-    Both(CallLimit, CallLimit),
+    /// Several at once, each of terms of its own.
+    All(Vec<CallLimit>),
 }
 
 /// Moment 0 of all limits, so that two at once have one clock.
@@ -308,7 +309,15 @@ impl CallLimit {
         match &self.shared.made {
             Made::Of(Terms::Bucket(bucket)) => thousandths(bucket.cost).unwrap_or(0),
             Made::Of(_) => 0,
-            Made::Both(first, second) => first.cost().max(second.cost()),
+            Made::All(limits) => limits.iter().map(CallLimit::cost).max().unwrap_or(0),
+        }
+    }
+
+    /// The limits that it asks, each of terms of its own.
+    fn parts(&self) -> Vec<CallLimit> {
+        match &self.shared.made {
+            Made::Of(_) => vec![self.clone()],
+            Made::All(limits) => limits.clone(),
         }
     }
 
@@ -340,7 +349,7 @@ fn moment_of(began: Moment) -> u64 {
 ///
 /// [`BudgetError::OutOfRange`] if they are more than four, and [`BudgetError::NoMemory`].
 pub fn both(first: &CallLimit, second: &CallLimit) -> Result<CallLimit, BudgetError> {
-    CallLimit::of(Made::Both(first.clone(), second.clone()))
+    CallLimit::of(Made::All([first.parts(), second.parts()].concat()))
 }
 
 impl Made {
@@ -351,11 +360,14 @@ impl Made {
             Self::Of(Terms::InFlight(flight)) => flight.made(),
             Self::Of(Terms::Breaker(breaker)) => breaker.made(now),
             Self::Of(Terms::Throttle(throttle)) => throttle.made(now),
-            Self::Both(first, second) => {
-                let part = lock(&second.handles().root).split().map_err(fault)?;
-                let mut both = lock(&first.handles().root).split().map_err(fault)?;
-                both.both(part).map_err(fault)?;
-                Ok(both)
+            // (a handle that was split off is hardly split again, so each limit gives one of its first)
+            Self::All(limits) => {
+                let mut parts = limits.iter().map(|limit| lock(&limit.handles().root).split().map_err(fault));
+                let mut all = parts.next().unwrap_or(Err(BudgetError::OutOfRange))?;
+                for part in parts {
+                    all.both(part?).map_err(fault)?;
+                }
+                Ok(all)
             }
         }
     }
@@ -592,7 +604,7 @@ impl fmt::Debug for CallLimit {
             Made::Of(Terms::InFlight(terms)) => terms.fmt(f),
             Made::Of(Terms::Breaker(terms)) => terms.fmt(f),
             Made::Of(Terms::Throttle(terms)) => terms.fmt(f),
-            Made::Both(first, second) => f.debug_tuple("Both").field(first).field(second).finish(),
+            Made::All(limits) => f.debug_list().entries(limits).finish(),
         }
     }
 }

@@ -147,6 +147,8 @@ def _grants_of(budget: Any, clock: Any, awaits: bool) -> Tuple[Grants, Optional[
     draw = getattr(budget, "draw", None)
     if isinstance(budget, type):
         raise TypeError(f"budget: expected an object, got the class {budget.__name__}")
+    if isinstance(budget, (list, tuple)):
+        raise TypeError(f"budget: expected one object, got {budget!r}; both(..) makes one of several limits")
     if not callable(draw):
         raise TypeError(f"budget: expected a Budget, a Quota, or something with draw(), got {budget!r}")
     if isinstance(budget, Budget) or (isinstance(budget, Quota) and budget.clock == clock):
