@@ -994,7 +994,13 @@ enum {
     /* A budget of `limit` tickets. */
     HIKEBOX_ON_BUDGET = 1,
     /* A quota of `reserve`, `share` and `period`. */
-    HIKEBOX_ON_QUOTA = 2
+    HIKEBOX_ON_QUOTA = 2,
+    /* A limit, which a request asks before its first call too: a bucket, a bound on retries in flight, a breaker or a
+     * throttle. */
+    HIKEBOX_ON_BUCKET = 3,
+    HIKEBOX_ON_IN_FLIGHT = 4,
+    HIKEBOX_ON_BREAKER = 5,
+    HIKEBOX_ON_THROTTLE = 6
 };
 
 /* A storm: many requests under one policy, on a peer that fails for a while. Moments and durations are in milliseconds,
@@ -1030,7 +1036,7 @@ typedef struct {
     uint64_t calls;
     /* The seed of the random words. */
     uint64_t words;
-    /* HIKEBOX_ON_NOTHING, HIKEBOX_ON_BUDGET or HIKEBOX_ON_QUOTA. */
+    /* What retries draw on: HIKEBOX_ON_NOTHING to HIKEBOX_ON_THROTTLE. */
     uint64_t draws_on;
     /* The limit of a budget: at most HIKEBOX_MAX_TICKETS. */
     uint64_t limit;
@@ -1038,13 +1044,33 @@ typedef struct {
     uint64_t reserve;
     uint64_t share;
     uint64_t period;
+    /* The terms of a bucket, as hikebox_bucket has them; `bucket_refund` is 0 or 1. A retry takes `cost` of it, and
+     * `late_cost` after a call that its client gave up; each is at most the capacity. */
+    uint64_t bucket_capacity;
+    uint64_t bucket_floor;
+    uint64_t bucket_debit;
+    uint64_t bucket_credit;
+    uint64_t bucket_refund;
+    uint64_t cost;
+    uint64_t late_cost;
+    /* The least number of retries in flight, as hikebox_in_flight_new takes it with `share`. */
+    uint64_t least;
+    /* The terms of a breaker, as hikebox_breaker has them. */
+    uint64_t failures;
+    uint64_t probes;
+    uint64_t deadline;
+    /* The ratio of a throttle, as hikebox_throttle_new takes it with `period`. */
+    uint64_t ratio;
+    /* A breaker's open times, of which the first `open_count` count, 1 to 64. */
+    uint64_t open_count;
+    uint64_t open_times[64];
 } hikebox_storm;
 
 /* 800 requests a second for a minute, on a peer that does 1,000 and is away from 10 to 20 s. */
 #define HIKEBOX_STORM                                                                                                  \
     {                                                                                                                  \
         sizeof(hikebox_storm), 800, 1, 60, 1000, 500, 5000, 10000, 20000, 0, 0, 0, 1000, 120000, 16777216, 0,          \
-            HIKEBOX_ON_NOTHING, 0, 0, 0, 1                                                                             \
+            HIKEBOX_ON_NOTHING, 0, 0, 0, 1, 0, 0, 0, 0, 0, 0, 0, 0, 0, 0, 0, 0, 0, { 0 }                               \
     }
 
 /* A window of a storm. */
@@ -1070,7 +1096,8 @@ typedef struct {
 typedef struct {
     /* The size of this struct. */
     size_t size;
-    /* The requests, and how they ended: won; lost, if the policy was done; denied, if there was no ticket; or open. */
+    /* The requests, and how they ended: won; lost, if the policy was done; denied, if there was no ticket, or if a
+     * limit refused them; or open. */
     uint64_t requests;
     uint64_t won;
     uint64_t lost;

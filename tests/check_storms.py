@@ -198,6 +198,20 @@ HERD = {
 }
 BROWN_OUT = {"outage": NONE, "slow": "10000..20000@50"}
 
+#: A tenth of the first storm, under each limit: how many are won, denied and lost, the calls, the tickets and when it
+#: has recovered.
+SMALL = {"rate": 80, "capacity": 100, "queue": 500}
+SMALL_TOTALS = ("won", "denied", "lost", "calls", "tickets", "recovered")
+SMALL_NUMBERS: List[Tuple[Dict[str, Any], Tuple[Optional[int], ...]]] = [
+    ({}, (884, 0, 3916, 36_518, 0, None)),
+    ({"quota": "1/100/1000"}, (4001, 799, 0, 4890, 90, 20_000)),
+    ({"limit": "grpc:100/100"}, (4000, 800, 0, 4849, 49, 20_000)),
+    ({"limit": "aws"}, (4000, 800, 0, 4900, 100, 20_000)),
+    ({"limit": "inflight:3/200"}, (4003, 797, 0, 4824, 24, 20_000)),
+    ({"limit": "breaker:5/1/1000"}, (2397, 2403, 0, 2404, 4, 41_000)),
+    ({"limit": "throttle:2000/60000"}, (2839, 1944, 17, 4926, 1586, None)),
+]
+
 #: The numbers that another program by the same rules gave.
 KNOWN: List[Tuple[Any, Dict[str, Any], Dict[str, Any]]] = [
     (NO_RETRY, {}, {"hundredths": 100, "recovered": 20_000}),
@@ -210,6 +224,7 @@ KNOWN: List[Tuple[Any, Dict[str, Any], Dict[str, Any]]] = [
     (FULL, HERD, {"won": 9885}),
     (HALF, HERD, {"won": 10_000}),
     (THREE, BROWN_OUT, {"recovered": None}),
+    *((FULL, {**SMALL, **limit}, dict(zip(SMALL_TOTALS, numbers))) for limit, numbers in SMALL_NUMBERS),
 ]
 #: Where no number is known: that it comes back.
 COMES_BACK = [(NO_RETRY, BROWN_OUT), (THREE, {**BROWN_OUT, **TENTH})]
@@ -217,8 +232,13 @@ COMES_BACK = [(NO_RETRY, BROWN_OUT), (THREE, {**BROWN_OUT, **TENTH})]
 
 def played(program: List[str], plan: Any, options: Dict[str, Any], form: str = "--json") -> Tuple[int, str, str]:
     """The status, the output and the errors of a program that plays this storm."""
-    words = [word for name, value in options.items() for word in (f"--{name}", str(value))]
-    with tempfile.NamedTemporaryFile("w", suffix=".json") as file:
+    with tempfile.NamedTemporaryFile("w", suffix=".json") as file, tempfile.NamedTemporaryFile("w") as times:
+        given = dict(options)
+        if "open" in given:
+            json.dump(given["open"], times)
+            times.flush()
+            given["open"] = times.name
+        words = [word for name, value in given.items() for word in (f"--{name}", str(value))]
         json.dump(plan, file)
         file.flush()
         done = subprocess.run([*program, *words, form, file.name], capture_output=True, text=True)
@@ -292,6 +312,23 @@ BAD = [
     "--words 18446744073709551616",
     "--budget 4294967297",
     "--budget 1 --quota 1/1/100",
+    "--budget 1 --limit aws",
+    "--quota 1/1/100 --limit aws",
+    "--limit aws:1",
+    "--limit token:1/2",
+    "--limit grpc:100",
+    "--limit grpc:1099511628/1",
+    "--limit grpc:1/1001",
+    "--limit bucket:9/1/1/1/1",
+    "--limit bucket:9/1/10/1/1/1",
+    "--limit bucket:9/1/1/1/1/1+twice",
+    "--limit inflight:4294967296/1",
+    "--limit breaker:0/1/1",
+    "--limit breaker:1/16/1",
+    "--limit throttle:999/1",
+    "--limit throttle:1000/0",
+    "--limit aws --open other.json",
+    "--open other.json",
     "--quota 1/1",
     "--quota 1/1/99",
     "--scenario flood",
@@ -488,12 +525,36 @@ def some_storm(rng: random.Random) -> Tuple[Any, Dict[str, Any]]:
         options["until"] = rng.choice([0, 1, 400, 1000 * seconds, 5000])
     if rng.random() < 0.7:
         options["words"] = rng.choice([0, 1, rng.randrange(2**64)])
-    limit = rng.choice(["budget", "quota", None])
+    limit = rng.choice(["budget", "quota", "limit", "limit", "limit", None])
     if limit == "budget":
         options[limit] = rng.choice([0, 1, 30, 2**32])
     if limit == "quota":
         options[limit] = f"{rng.choice([0, 1, 10])}/{rng.choice([0, 1, 100, 1500])}/{rng.choice([100, 101, 1000])}"
+    if limit == "limit":
+        options[limit] = some_limit(rng)
+        if options[limit].startswith("breaker") and rng.random() < 0.7:
+            options["open"] = rng.choice(
+                [{"spaced": 40}, {"exponential": [100, 2]}, {"meet": [{"recurs": 3}, {"linear": 30}]}]
+            )
     return plan, options
+
+
+def some_limit(rng: random.Random) -> str:
+    """A random limit."""
+    kind = rng.choice(["bucket", "grpc", "aws", "inflight", "breaker", "throttle"])
+    if kind == "aws":
+        return kind
+    if kind == "bucket":
+        capacity = rng.choice([0, 1, 50, 1000, 10_000])
+        numbers = [capacity, *(rng.randint(0, capacity) for _ in range(5))]
+        return f"bucket:{'/'.join(map(str, numbers))}{rng.choice(['', '+refund'])}"
+    numbers = {
+        "grpc": [rng.choice([1, 4, 10, 100]), rng.choice([0, 1, 100, 1000])],
+        "inflight": [rng.choice([0, 1, 3, 30]), rng.choice([0, 20, 200, 1000, 5000])],
+        "breaker": [rng.choice([1, 2, 5, 20]), rng.choice([1, 2, 15]), rng.choice([0, 1, 50, 1000])],
+        "throttle": [rng.choice([1000, 1100, 2000, 5000]), rng.choice([1, 100, 1000, 60_000])],
+    }[kind]
+    return f"{kind}:{'/'.join(map(str, numbers))}"
 
 
 def _span(rng: random.Random, seconds: int) -> str:

@@ -69,7 +69,13 @@ STRUCTS = {
 CALLS = ("sched_storm_call",)
 #: The crates whose structs have the layout of C.
 LAID_OUT = ("sched_handle", "sched_storm_call", "sched_ticket_lease", "hikebox_c")
-FIELDS = {"u64": "uint64_t", "u32": "uint32_t", "usize": "size_t", "[u32; 4]": "uint32_t[4]"}
+FIELDS = {
+    "u64": "uint64_t",
+    "u32": "uint32_t",
+    "usize": "size_t",
+    "[u32; 4]": "uint32_t[4]",
+    "[u64; 64]": "uint64_t[64]",
+}
 #: The structs after a size: their members follow it.
 AFTER_SIZE = ("CourseGiven", "Reply", "Usage", "StormGiven", "TotalsTold")
 

@@ -49,6 +49,9 @@ class Storm:
     words: int = 0
     budget: Optional[int] = None
     quota: Optional[Tuple[int, int, int]] = None
+    limit: Optional[Tuple[str, List[int], bool]] = None
+    #: The plan of a breaker's open times.
+    open_plan: Any = field(default_factory=lambda: {"spaced": 30_000})
 
     @property
     def last(self) -> int:
@@ -140,6 +143,204 @@ class Tickets:
         return has
 
 
+class Limit:
+    """What asks are granted, by a request's number: a bucket, what is in flight, a breaker or a throttle. None admits
+    and grants all."""
+
+    def admit(self, moment: int, request: int) -> bool:
+        return True
+
+    def fail(self, moment: int, request: int) -> None:
+        """A call failed."""
+
+    def draw(self, moment: int, request: int, is_late: bool) -> bool:
+        return True
+
+    def succeed(self, moment: int, request: int) -> None:
+        """A call succeeded."""
+
+    def end(self, request: int) -> None:
+        """The request is over."""
+
+
+class Bucket(Limit):
+    """Thousandths of tokens: a capacity, a floor, a retry's cost and that after a late call, a debit and a credit."""
+
+    def __init__(self, numbers: List[int], refunds: bool) -> None:
+        self.capacity, self.floor, self.cost, self.late, self.debit, self.credit = numbers
+        self.refunds = refunds
+        self.level = self.capacity
+        self.drew: Dict[int, int] = {}
+
+    def fail(self, moment: int, request: int) -> None:
+        self.level = max(0, self.level - self.debit)
+
+    def draw(self, moment: int, request: int, is_late: bool) -> bool:
+        cost = self.late if is_late else self.cost
+        if self.level < self.floor + cost:
+            return False
+        self.level -= cost
+        self.drew[request] = cost
+        return True
+
+    def succeed(self, moment: int, request: int) -> None:
+        worth = self.drew[request] if self.refunds and request in self.drew else self.credit
+        self.level = min(self.capacity, self.level + worth)
+
+
+class InFlight(Limit):
+    """As many retries at once as a share of the requests at once, or a least number."""
+
+    def __init__(self, numbers: List[int], _refunds: bool) -> None:
+        self.least, self.share = numbers
+        self.requests: set = set()
+        self.slots: set = set()
+
+    def admit(self, moment: int, request: int) -> bool:
+        self.requests.add(request)
+        return True
+
+    def draw(self, moment: int, request: int, is_late: bool) -> bool:
+        self.slots.discard(request)
+        if len(self.slots) + 1 > max(self.least, self.share * len(self.requests) // 1000):
+            return False
+        self.slots.add(request)
+        return True
+
+    def end(self, request: int) -> None:
+        self.slots.discard(request)
+        self.requests.discard(request)
+
+
+class Breaker(Limit):
+    """Open after so many failures in a row, for the first of its open times, then half open for some probes."""
+
+    def __init__(self, numbers: List[int], times: List[int]) -> None:
+        self.failures, self.probes, self.deadline = numbers
+        self.times = times
+        self.state, self.generation = "closed", 0
+        self.count = self.until = self.trip = self.admitted = self.won = self.since = 0
+        self.runs: Dict[int, int] = {}
+
+    def _turn(self, state: str) -> None:
+        self.state = state
+        self.generation += 1
+
+    def _probe(self, moment: int) -> None:
+        self._turn("half open")
+        self.admitted, self.won, self.since = 1, 0, moment
+
+    def _asks(self, moment: int) -> bool:
+        if self.state == "closed":
+            return True
+        if self.state == "open":
+            if moment < self.until:
+                return False
+            self._probe(moment)
+            return True
+        if self.admitted < self.probes:
+            self.admitted += 1
+            self.since = moment
+            return True
+        if moment >= self.since + self.deadline:
+            self._probe(moment)
+            return True
+        return False
+
+    def admit(self, moment: int, request: int) -> bool:
+        if not self._asks(moment):
+            return False
+        self.runs[request] = self.generation
+        return True
+
+    def draw(self, moment: int, request: int, is_late: bool) -> bool:
+        return self.admit(moment, request)
+
+    def _open(self, moment: int, trip: int) -> None:
+        self._turn("open")
+        self.trip = trip
+        self.until = moment + self.times[min(trip, len(self.times)) - 1]
+
+    def fail(self, moment: int, request: int) -> None:
+        if self.runs[request] != self.generation:
+            return
+        if self.state == "half open":
+            self._open(moment, self.trip + 1)
+        elif self.state == "closed":
+            self.count += 1
+            if self.count == self.failures:
+                self._open(moment, 1)
+
+    def succeed(self, moment: int, request: int) -> None:
+        if self.runs[request] != self.generation:
+            return
+        if self.state == "closed":
+            self.count = 0
+        elif self.state == "half open":
+            self.won += 1
+            if self.won == self.probes:
+                self._turn("closed")
+                self.count = self.trip = 0
+
+
+class Throttle(Limit):
+    """Refuses the more, the fewer of the requests of this window and the one before were accepted."""
+
+    def __init__(self, numbers: List[int], words: Iterator[int]) -> None:
+        self.ratio, self.period = numbers
+        self.words = words
+        #: The requests and the accepts of each window.
+        self.counts: Dict[int, List[int]] = {}
+
+    def _window(self, moment: int) -> List[int]:
+        return self.counts.setdefault(moment // self.period, [0, 0])
+
+    def admit(self, moment: int, request: int) -> bool:
+        word, *_ = (next(self.words) for _ in range(4))
+        here, before = self._window(moment), self.counts.get(moment // self.period - 1, [0, 0])
+        asked, accepted = here[0] + before[0], here[1] + before[1]
+        over = 1000 * asked - self.ratio * accepted
+        here[0] += 1
+        return not (over > 0 and word * (asked + 1) * 1000 < over * 2**32)
+
+    def draw(self, moment: int, request: int, is_late: bool) -> bool:
+        return self.admit(moment, request)
+
+    def succeed(self, moment: int, request: int) -> None:
+        self._window(moment)[1] += 1
+
+
+def limit_of(storm: Storm) -> Limit:
+    """The limit of a storm, which admits all where there is none."""
+    if storm.limit is None:
+        return Limit()
+    kind, numbers, refunds = storm.limit
+    if kind == "grpc":
+        tokens, ratio = numbers
+        return Bucket([1000 * tokens, 500 * tokens + 1, 0, 0, 1000, ratio], False)
+    if kind == "aws":
+        return Bucket([500_000, 0, 5000, 10_000, 0, 1000], True)
+    if kind == "breaker":
+        return Breaker(numbers, open_times(storm.open_plan))
+    if kind == "throttle":
+        return Throttle(numbers, seeded((storm.words + 1) % 2**64))
+    return {"bucket": Bucket, "inflight": InFlight}[kind](numbers, refunds)
+
+
+def open_times(plan: Any) -> List[int]:
+    """For how long a breaker is open, for each trip: the waits of a plan's course."""
+    moment, times = 0, []
+    events: List[reference.Event] = []
+    while len(times) < 64:
+        events.append(reference.Event(moment, (0, 0, 0, 0), 0))
+        start = reference.answer(plan, events).start
+        if start is None:
+            break
+        times.append(start - moment)
+        moment = start
+    return times
+
+
 @dataclass
 class Request:
     began: int
@@ -162,6 +363,8 @@ class Course:
         self.storm = storm
         self.peer = Peer(storm)
         self.tickets = Tickets(storm)
+        self.limit = limit_of(storm)
+        self.granted = 0
         self.words: Iterator[int] = seeded(storm.words)
         self.requests: Dict[int, Request] = {}
         self.calls: List[Call] = []
@@ -179,6 +382,10 @@ class Course:
             self._put(self.storm.comes_at(request), request, None)
         while self.pending:
             moment, request, what = heapq.heappop(self.pending)
+            if what is None and request not in self.requests and not self.limit.admit(moment, request):
+                self.last_moment = moment
+                self.requests[request] = Request(moment, ending="denied")
+                continue
             if what is None and len(self.calls) == self.storm.calls:
                 self.is_cut = True
                 return
@@ -209,16 +416,22 @@ class Course:
         request = self.requests[number]
         if how == SUCCEEDED:
             request.ending, request.took = "won", moment - request.began
+            self.limit.succeed(moment, number)
+            self.limit.end(number)
             return
+        self.limit.fail(moment, number)
         a, b, c, d = (next(self.words) for _ in range(4))
         request.failures.append(reference.Event(moment, (a, b, c, d), how))
         start = reference.answer(self.storm.plan, request.failures).start
         if start is None:
             request.ending = "lost"
-        elif not self.tickets.draw(moment):
+        elif not (self.tickets.draw(moment) and self.limit.draw(moment, number, how == LATE)):
             request.ending = "denied"
         else:
+            self.granted += 1
             self._put(start, number, None)
+            return
+        self.limit.end(number)
 
 
 ROW = ("from", "requests", "won", "retries", "succeeded", "refused", "shed", "late", "waiting")
@@ -265,7 +478,7 @@ def totals_of(course: Course, rows: List[Dict[str, int]]) -> Dict[str, Any]:
         "hundredths": (2 * 100 * calls + requests) // (2 * requests),
         "most_calls": max(begun),
         "most_from": rows[begun.index(max(begun))]["from"],
-        "tickets": course.tickets.given,
+        "tickets": course.granted if course.storm.limit else course.tickets.given,
         "p50": at_percent(50),
         "p99": at_percent(99),
         "slowest": at_percent(100),
@@ -319,6 +532,16 @@ def _quota(text: str) -> Tuple[int, int, int]:
     return int(reserve), int(share), int(period)
 
 
+def _limit(text: str) -> Tuple[str, List[int], bool]:
+    kind, _, numbers = text.partition(":")
+    numbers, _, refund = numbers.partition("+")
+    return kind, [int(number) for number in numbers.split("/") if number], refund == "refund"
+
+
+def _plan(path: str) -> Any:
+    return json.loads(Path(path).read_text())
+
+
 NUMBERS = (
     "rate",
     "together",
@@ -332,7 +555,7 @@ NUMBERS = (
     "words",
     "budget",
 )
-READERS = {"outage": _span, "slow": _slow, "quota": _quota}
+READERS = {"outage": _span, "slow": _slow, "quota": _quota, "limit": _limit, "open": _plan}
 
 
 def main() -> int:
@@ -347,6 +570,7 @@ def main() -> int:
     given = parser.parse_args()
     plan = json.loads(sys.stdin.read() if given.file == "-" else Path(given.file).read_text())
     named = {name: getattr(given, name) for name in (*NUMBERS, *READERS)}
+    named["open_plan"] = named.pop("open")
     rows, totals = report(Storm(plan, **{name: value for name, value in named.items() if value is not None}))
     if given.csv:
         sys.stdout.write(csv_text(rows))

@@ -19,8 +19,11 @@ from typing import Any, Dict, List, Tuple
 import pytest
 from conftest import TOP, heed_signals, python_environment
 
-from hikebox import Budget, Policy, Quota, Storm, StormError, exponential, milliseconds, recurs, spaced, storm
+from hikebox import Breaker, Bucket, Budget, InFlight, Policy, Quota, Storm, StormError, Throttle, both, exponential
+from hikebox import milliseconds, recurs, spaced, storm
 from hikebox.cli.storm_options import limits_of, parameters_of, tickets_of
+from hikebox.limits.kinds import times_of
+from hikebox.storms.limits import limit_of
 from hikebox.storms.parameters import SCENARIOS, Parameters, Slow, Span
 from hikebox.errors import BudgetError
 from hikebox.budgets.terms import Terms
@@ -35,8 +38,14 @@ FULL = recurs(8) & exponential(0.1, 2).cap(10).jittered(0, 1)
 
 def parsed(options: Dict[str, Any]) -> Dict[str, Any]:
     """The options of the program, as its twin in tests/ takes them."""
-    readers: Dict[str, Any] = {"outage": storms._span, "slow": storms._slow, "quota": storms._quota}
-    return {name: readers[name](value) if name in readers else value for name, value in options.items()}
+    readers: Dict[str, Any] = {
+        "outage": storms._span,
+        "slow": storms._slow,
+        "quota": storms._quota,
+        "limit": storms._limit,
+    }
+    read = {name: readers[name](value) if name in readers else value for name, value in options.items()}
+    return {"open_plan" if name == "open" else name: value for name, value in read.items()}
 
 
 def played(plan: Any, options: Dict[str, Any]) -> Storm:
@@ -45,6 +54,10 @@ def played(plan: Any, options: Dict[str, Any]) -> Storm:
     tickets: Any = told.pop("budget", None)
     if "quota" in told:
         tickets = Terms(*told.pop("quota"))
+    if "limit" in told:
+        del told["limit"]
+        open_plan = told.pop("open_plan", {"spaced": 30_000})
+        tickets = limit_of(options["limit"], tuple(times_of(Policy.from_dict(open_plan))))
     if "slow" in told:
         told["slow"] = Slow(*told["slow"])
     if "outage" in told:
@@ -93,6 +106,28 @@ def test_times_are_those_of_the_package() -> None:
         seconds=3, patience=250, outage=Span(1000, 2500), slow=Slow(2000, 3000, 29), window=500, until=4000
     )
     assert storm(recurs(0), outage=None, seconds=1).totals.won == 800
+
+
+@pytest.mark.parametrize("limit, numbers", check_storms.SMALL_NUMBERS, ids=str)
+def test_a_storm_under_each_limit(limit: Dict[str, Any], numbers: Tuple[Any, ...]) -> None:
+    totals = json.loads(played(json.loads(FULL.to_json()), {**check_storms.SMALL, **limit}).to_json())["totals"]
+    assert tuple(totals[name] for name in check_storms.SMALL_TOTALS) == numbers
+
+
+def test_a_limit_of_the_package_is_one_on_a_storm() -> None:
+    small: Dict[str, Any] = {"rate": 80, "capacity": 100, "queue": 500}
+    for limit, spelt in [
+        (Bucket.aws(), "aws"),
+        (Bucket.grpc(100, 0.1), "grpc:100/100"),
+        (InFlight.envoy(), "inflight:3/200"),
+        (Breaker(5, spaced(30), probe_deadline=1), "breaker:5/1/1000"),
+        (Throttle.google(), "throttle:2000/60000"),
+    ]:
+        assert storm(FULL, budget=limit, **small).totals == storm(FULL, budget=spelt, **small).totals
+    with pytest.raises(TypeError, match="expected one limit on a storm"):
+        storm(FULL, budget=both(Bucket.aws(), InFlight.envoy()))
+    with pytest.raises(BudgetError, match="such as grpc:100/100, got 'grpc:1'"):
+        storm(FULL, budget="grpc:1")
 
 
 def test_a_policy_is_as_for_the_other_calls() -> None:

@@ -1,6 +1,7 @@
 //! Storms: that they are those of `zsched storm`, their numbers, and what is refused.
 
 use hikebox::{BudgetError, Policy, Schedule, Storm, StormError, StormReport};
+use hikebox::{Breaker, Bucket, InFlight, Terms, Throttle};
 use std::io::Write;
 use std::process::{Command, Stdio};
 use std::time::Duration;
@@ -93,6 +94,28 @@ fn the_storm_that_never_ends_and_the_one_that_a_quota_ends() {
     let three = policy(Schedule::recurs(3));
     assert_eq!(Storm::new(&three).play().unwrap().totals.hundredths, 150);
     assert_eq!(Storm::brown_out(&three).play().unwrap().totals.recovered, None);
+}
+
+#[test]
+fn a_storm_under_each_limit() {
+    let breaker = Breaker { probe_deadline: SECOND, ..Breaker::consecutive(5, policy(Schedule::spaced(30 * SECOND))) };
+    let cases: [(Terms, &str); 5] = [
+        (Bucket::grpc(100, 0.1).into(), "grpc:100/100"),
+        (Bucket::aws().into(), "aws"),
+        (InFlight::envoy(20.0, 3).into(), "inflight:3/200"),
+        (breaker.into(), "breaker:5/1/1000"),
+        (Throttle::google().into(), "throttle:2000/60000"),
+    ];
+    for (terms, word) in cases {
+        let mut storm = Storm::new(&full()).rate(80).capacity(100).queue(500).limit(terms);
+        if word == "aws" {
+            storm = storm.late_cost(10.0);
+        }
+        let options = format!("--rate 80 --capacity 100 --queue 500 --limit {word}");
+        assert_eq!(storm.play().unwrap().to_json() + "\n", zsched("--json", &options, &full()), "{word}");
+    }
+    let dear = Storm::new(&full()).limit(Bucket { capacity: 1.0, cost: 2.0, ..Bucket::default() });
+    assert_eq!(dear.play().unwrap_err(), StormError::Tickets(BudgetError::OutOfRange));
 }
 
 #[test]

@@ -8,7 +8,7 @@ use crate::answers::tell_found;
 use crate::stops::{Stop, Told, tell_error};
 use sched_cli_plan::{Counted, PrintFault, Sink, read_all};
 use sched_cli_pool::PoolFault;
-use sched_cli_storm::print_storm;
+use sched_cli_storm::{open_times, print_storm};
 use sched_cli_storm_words::StormOptions;
 use sched_cli_words::Asked;
 use sched_plan_hint::plan_fault;
@@ -24,9 +24,41 @@ pub fn with_texts<R: Files>(rt: &R, alloc: Global, asked: Asked) -> Result<Asked
     match asked {
         Asked::Storm(options, origin) => {
             let texts = texts_of(rt, alloc, &options.names)?;
+            let options = with_open_times(rt, alloc, options)?;
             Ok(Asked::Storm(StormOptions { texts, ..options }, origin))
         }
         other => Ok(other),
+    }
+}
+
+// The options with the open times of a breaker, where a file has their plan.
+fn with_open_times<R: Files>(
+    rt: &R,
+    alloc: Global,
+    options: StormOptions,
+) -> Result<StormOptions, Stop> {
+    let Some(name) = &options.open else {
+        return Ok(options);
+    };
+    let text = text_of(rt, alloc, name.as_str())?;
+    match open_times(alloc, &text) {
+        Ok(Some(found)) => {
+            let times = found.0;
+            let last = found.1;
+            Ok(options.with_open_times(times, last))
+        }
+        Ok(None) => Err(Stop {
+            fault: PoolFault::Print(PrintFault::NotAPlan),
+            told: tell_line(
+                alloc,
+                name.as_str(),
+                "expected a plan that goes on at its first event",
+            ),
+        }),
+        Err(fault) => Err(Stop {
+            fault: PoolFault::Print(fault),
+            told: tell_fault(alloc, name.as_str(), &text),
+        }),
     }
 }
 
@@ -100,12 +132,23 @@ pub(crate) fn tell_storm(
         return tell_found(alloc, &found);
     }
     for (name, text) in options.names.iter().skip(1).zip(&options.texts) {
-        if let Some(fault) = plan_fault(alloc, text)? {
-            let line = fault.text(alloc)?;
-            return tell_line(alloc, name.as_str(), line.as_str());
+        let told = tell_fault(alloc, name.as_str(), text)?;
+        if matches!(&told, Told::More(_)) {
+            return Ok(told);
         }
     }
     Ok(Told::Alone)
+}
+
+// What is told of the text of the file of this name, where it is no plan.
+fn tell_fault(alloc: Global, name: &str, text: &[u8]) -> Result<Told, NoMemory> {
+    match plan_fault(alloc, text)? {
+        Some(fault) => {
+            let line = fault.text(alloc)?;
+            tell_line(alloc, name, line.as_str())
+        }
+        None => Ok(Told::Alone),
+    }
 }
 
 // A line that is told of the file of this name.

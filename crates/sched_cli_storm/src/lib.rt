@@ -5,6 +5,7 @@
 
 mod bars;
 mod lines;
+mod openings;
 mod printing;
 mod rows;
 mod side_by_side;
@@ -12,4 +13,5 @@ mod sweep_rows;
 mod sweep_table;
 mod totals;
 
+pub use openings::open_times;
 pub use printing::print_storm;

@@ -41,8 +41,8 @@ pub fn print_storm<W: Sink>(
     Ok(is_cut)
 }
 
-// The plan that the bytes spell.
-fn plan_in(alloc: Global, bytes: &[u8]) -> Result<Plan, PrintFault>
+/// The plan that the bytes spell.
+pub(crate) fn plan_in(alloc: Global, bytes: &[u8]) -> Result<Plan, PrintFault>
     ensures { ReadsPlan bytes.now result }
 {
     let value = read_value(alloc, bytes)?;

@@ -9,12 +9,14 @@ pub(crate) fn push_words(
     storm: &Storm,
     totals: &Totals,
 ) -> Result<(), NoMemory> {
-    push_endings(text, totals)?;
+    push_endings(text, storm, totals)?;
     push_calls(text, totals)?;
     match storm.parameters().draws {
         Draws::Nothing => {}
         Draws::Budget(limit) => write!(text, "{} tickets of {limit} given\n", totals.tickets)?,
-        Draws::Quota(_) => write!(text, "{} tickets given\n", totals.tickets)?,
+        Draws::Quota(_) | Draws::Limited(_) => {
+            write!(text, "{} tickets given\n", totals.tickets)?
+        }
     }
     push_times(text, totals)?;
     match totals.recovered {
@@ -27,13 +29,17 @@ pub(crate) fn push_words(
     Ok(())
 }
 
-// How the requests ended.
-fn push_endings(text: &mut String, totals: &Totals) -> Result<(), NoMemory> {
+// How the requests ended. A limit denies first calls too.
+fn push_endings(text: &mut String, storm: &Storm, totals: &Totals) -> Result<(), NoMemory> {
+    let denied = match storm.parameters().draws {
+        Draws::Limited(_) => "denied",
+        _ => "denied a retry",
+    };
     write!(text, "{} requests: ", totals.counts.requests)?;
     write!(text, "{} won, {} lost, ", totals.counts.won, totals.lost)?;
     write!(
         text,
-        "{} denied a retry, {} left open\n",
+        "{} {denied}, {} left open\n",
         totals.denied, totals.open
     )?;
     Ok(())

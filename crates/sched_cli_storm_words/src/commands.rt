@@ -94,7 +94,7 @@ const PEER: [Row; 5] = [
     },
 ];
 
-const RETRIES: [Row; 3] = [
+const RETRIES: [Row; 5] = [
     Row {
         name: "budget",
         takes: Takes::Number("N", 0, MAX_CALLS),
@@ -107,6 +107,22 @@ const RETRIES: [Row; 3] = [
         excludes: &["budget"],
         help: "Instead of a budget: in each window of PERIOD at most RESERVE retries plus SHARE of the requests \
                that arrive in it, such as 10/20%/60s (units: ms, s, m, h, d)",
+    },
+    Row {
+        name: "limit",
+        takes: Takes::Text("LIMIT"),
+        excludes: &["budget", "quota"],
+        help: "Instead of a budget: a limit that requests ask before their first call too, as \
+               bucket:CAPACITY/FLOOR/COST/LATE/DEBIT/CREDIT[+refund] (thousandths of a token; LATE is the cost after \
+               a late call), grpc:TOKENS/RATIO, aws, inflight:LEAST/SHARE (thousandths), \
+               breaker:FAILURES/PROBES/DEADLINE or throttle:RATIO/PERIOD (thousandths, milliseconds)",
+    },
+    Row {
+        name: "open",
+        takes: Takes::Text("FILE"),
+        excludes: &[],
+        help: "The plan of a breaker's open times: its first wait is that of the first trip, and so on \
+               [default: 30 s each]",
     },
     Row {
         name: "words",

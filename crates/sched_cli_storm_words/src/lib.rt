@@ -5,6 +5,7 @@
 mod axes;
 mod commands;
 mod faults;
+mod limits;
 mod numbers;
 mod options;
 mod rows;
@@ -13,6 +14,7 @@ mod sweeps;
 pub use axes::Axis;
 pub use commands::storm_command;
 pub use faults::StormFault;
+pub use limits::BreakerWords;
 pub use options::{Form, StormOptions, storm_options};
 pub use rows::{Row, Takes, file_command, with_option, with_options};
 pub use sweeps::{Sweep, Swept};

@@ -1,11 +1,20 @@
 //! What the options of the command ask for.
 use crate::faults::StormFault;
+use crate::limits::{BreakerWords, breaker_words_in, limit_in};
 use crate::numbers::{brown_out_in, span_in};
 use crate::sweeps::{Sweep, sweep_in};
 use clap::ArgMatches;
-use sched_storm::{BrownOut, Draws, MAX_REQUESTS, Parameters, Span, Storm};
+use sched_limit::MAX_TRIPS;
+use sched_storm::{BrownOut, Draws, Limit, MAX_REQUESTS, Parameters, Span, Storm};
 use sched_ticket_quota::Terms;
 use std::alloc::{AllocError, Global};
+
+const LIMIT_WANTED: &str =
+    "expected bucket:CAPACITY/FLOOR/COST/LATE/DEBIT/CREDIT (in thousandths of a token, with +refund or without), \
+     grpc:TOKENS/RATIO, aws, inflight:LEAST/SHARE, breaker:FAILURES/PROBES/DEADLINE or throttle:RATIO/PERIOD, \
+     such as grpc:100/100";
+
+const OPEN_WANTED: &str = "'--open <FILE>' is of '--limit breaker:..' alone";
 
 const SCENARIO_WANTED: &str = "expected outage, herd or brown-out";
 
@@ -43,6 +52,9 @@ pub struct StormOptions {
     pub form: Form,
     /// How wide a line with its bar is.
     pub width: u64,
+    /// The breaker of its limit, and the file of the plan of its open times, where there is one.
+    pub breaker: Option<BreakerWords>,
+    pub open: Option<String>,
     /// The files of the plans that it is played under, of which the first is the program's input.
     pub names: Vec<String>,
     /// The texts of the further files, in their order; none before they are read.
@@ -56,7 +68,8 @@ pub fn storm_options(
     options: &ArgMatches<'_>,
     quota: Option<Terms>,
 ) -> Result<StormOptions, StormFault> {
-    let parameters = parameters(alloc, options, quota)?;
+    let draws = draws(alloc, options, quota)?;
+    let parameters = parameters(alloc, options, draws)?;
     let Some(storm) = Storm::new(parameters) else {
         return Err(StormFault::bad(alloc, too_many(&parameters)));
     };
@@ -69,6 +82,8 @@ pub fn storm_options(
         sweep,
         form: form_in(options),
         width: number(options, "width", WIDTH),
+        breaker: options.get_str("limit").and_then(breaker_words_in),
+        open: open(alloc, options)?,
         names: names(alloc, options)?,
         texts: Vec::new(alloc),
     })
@@ -111,7 +126,7 @@ fn form_in(options: &ArgMatches<'_>) -> Form {
 fn parameters(
     alloc: Global,
     options: &ArgMatches<'_>,
-    quota: Option<Terms>,
+    draws: Draws,
 ) -> Result<Parameters, StormFault> {
     let base = scenario(alloc, options)?;
     let seconds = number(options, "seconds", base.seconds);
@@ -132,7 +147,7 @@ fn parameters(
         ),
         calls: number(options, "calls", base.calls),
         words: number(options, "words", base.words),
-        draws: draws(options, quota),
+        draws,
     })
 }
 
@@ -194,11 +209,68 @@ fn slow(
     }
 }
 
-// A quota, or a budget, or nothing.
-fn draws(options: &ArgMatches<'_>, quota: Option<Terms>) -> Draws {
+// A limit, a quota or a budget, or nothing.
+fn draws(
+    alloc: Global,
+    options: &ArgMatches<'_>,
+    quota: Option<Terms>,
+) -> Result<Draws, StormFault> {
+    if let Some(word) = options.get_str("limit") {
+        return match limit_in(word) {
+            Some(limit) => Ok(Draws::Limited(limit)),
+            None => Err(StormFault::value(alloc, "--limit <LIMIT>", word, LIMIT_WANTED)),
+        };
+    }
     match (quota, options.get_one::<u64>("budget")) {
-        (Some(terms), _) => Draws::Quota(terms),
-        (None, Some(limit)) => Draws::Budget(limit),
-        (None, None) => Draws::Nothing,
+        (Some(terms), _) => Ok(Draws::Quota(terms)),
+        (None, Some(limit)) => Ok(Draws::Budget(limit)),
+        (None, None) => Ok(Draws::Nothing),
+    }
+}
+
+// The file of the plan of a breaker's open times, where one is named.
+fn open(alloc: Global, options: &ArgMatches<'_>) -> Result<Option<String>, StormFault> {
+    let Some(name) = options.get_str("open") else {
+        return Ok(None);
+    };
+    if options
+        .get_str("limit")
+        .and_then(breaker_words_in)
+        .is_none()
+    {
+        return Err(StormFault::bad(alloc, OPEN_WANTED));
+    }
+    Ok(Some(String::from_str(alloc, name)?))
+}
+
+impl StormOptions {
+    /// The same, with a breaker that is open for these times, of which the first `last + 1` count.
+    pub fn with_open_times(self, times: [u64; MAX_TRIPS], last: u64) -> StormOptions {
+        let Some(breaker) = self.breaker.and_then(|words| words.breaker(times, last)) else {
+            return self;
+        };
+        let draws = Draws::Limited(Limit::Breaker(breaker));
+        let mut options = self;
+        let storm = with_draws(&options.storm, &draws);
+        options.storm = storm;
+        if let Some(sweep) = &mut options.sweep {
+            for swept in &mut sweep.storms {
+                let storm = with_draws(&swept.storm, &draws);
+                swept.storm = storm;
+            }
+        }
+        options
+    }
+}
+
+// The storm whose retries draw on this.
+fn with_draws(storm: &Storm, draws: &Draws) -> Storm {
+    let parameters = Parameters {
+        draws: *draws,
+        ..*storm.parameters()
+    };
+    match Storm::new(parameters) {
+        Some(storm) => storm,
+        None => *storm,
     }
 }

@@ -12,7 +12,7 @@ pub const MAX_TRIPS: usize = 64;
 /// A breaker: after so many failures in a row it is open, which it is for the first of its open times, and for the next
 /// where a probe failed. After that it is half open, and admits probes: where so many won it is closed, and where one
 /// failed it is open again. Probes that tell nothing are over at a deadline.
-#[derive(Drop)]
+#[derive(Clone, Copy, Debug, PartialEq, Eq, Drop)]
 pub struct Breaker {
     pub(crate) failures: u32,
     pub(crate) probes: u64,

@@ -14,7 +14,7 @@ use Rattle.sched_storm_report.specs.Counts.{no_counts, calls_in, failed_in, ende
 use Rattle.sched_storm_report.specs.Moments.{is_request, is_call, is_success, is_refused, is_shed, is_late, is_lost}
 use Rattle.sched_storm_report.specs.Moments.{is_denied, is_granted, is_won_from, always, latest, score_of, times_of}
 use Rattle.sched_storm_report.specs.Report.{window_of, windows_of, in_order, totals_of, recovered_in}
-use Rattle.sched_storm_report.specs.Laws.{AreTimes, turned_away}
+use Rattle.sched_storm_report.specs.Laws.{AreTimes, is_turned_away, turned_away}
 use Rattle.sched_storm_report.proofs.Laws.{score_adds_up, are_times}
 use Rattle.sched_storm_report.specs.declared.moments.Failure.TheVariants as failure
 use Rattle.sched_storm_report.specs.declared.moments.Then.TheVariants.{Lost, Denied, Waits}
@@ -24,19 +24,20 @@ use Rattle.sched_storm_report.specs.declared.moments.Moment.{Moment}
 use Rattle.sched_storm_report.specs.declared.report.Report.{Report}
 use Rattle.sched_storm_report.specs.declared.report.Totals.{Totals}
 use Rattle.sched_storm_report.specs.declared.tally.Window.{Window}
-use Rattle.sched_storm.specs.Parameters.{AreInRange, all_requests, peer_of, end_of_trouble, has_draws}
-use Rattle.sched_storm.specs.Tickets.{asked_of, given_of, tickets_of, HasUses, most_tickets}
+use Rattle.sched_storm_limit.specs.Ranges.{has_draws, is_limited}
+use Rattle.sched_storm.specs.Parameters.{AreInRange, all_requests, peer_of, end_of_trouble}
+use Rattle.sched_storm.specs.Tickets.{asked_of, given_of, tickets_of, HasUses, AreFew}
 use Rattle.sched_storm.specs.Plays.{Stage, Shared, start_at, first, played}
 use Rattle.sched_storm.specs.Storms.{calls_of, EndsSo, IsStorm, ends_of, IsReportOf}
 use Rattle.sched_storm.specs.Report.{AreGranted, AddsUp}
 use Rattle.sched_storm.proofs.Bounds.{tickets-le}
 use Rattle.sched_storm.proofs.Uses.{all_uses}
-use Rattle.sched_storm.proofs.Balances.{ends_call, ends_request, none_turned_away, calls_are, ends-le, retries-le}
+use Rattle.sched_storm.proofs.Balances.{ends_call, ends_request, none_turned_away, ends-le, retries-le}
 use Rattle.sched_storm.proofs.Balances.{over-le, requests-le, by_until, latest-le}
 use Rattle.sched_storm.proofs.Lawful.{TicketsAre, none_are, along}
 use Rattle.sched_storm.specs.declared.parameters.Parameters.{Parameters}
-use Rattle.sched_storm.specs.declared.parameters.Draws.{Draws}
-use Rattle.sched_storm.specs.declared.parameters.Draws.TheVariants.{Nothing, Budget, Quota}
+use Rattle.sched_storm_limit.specs.declared.draws.Draws.{Draws}
+use Rattle.sched_storm_limit.specs.declared.draws.Draws.TheVariants.{Nothing, Budget, Quota, Limited}
 
 -- one where something of this kind is told
 abbrev one : (Happening → Bool) → Moment → ℕ
@@ -88,22 +89,40 @@ over (m ∷ ms) =
     omega arith
 
 -- a storm has no more calls than it may, and one that is cut has as many
-few_calls : (p : Parameters) (is_cut : Bool) (es : List (Event Stage)) (due : ℕ → Option (Due Stage)) →
-    EndsSo p is_cut es due →
-    calls_of es ≤ p.calls
-few_calls p true es due ends = let same = ends.0 in omega arith
-few_calls p false es due ends = ends.0
+few_calls : (p : Parameters) (plan : Schedule) (is_cut : Bool) (es : List (Event Stage)) (due : ℕ → Option (Due Stage))
+    (last : Shared) → EndsSo p plan is_cut es due last → calls_of p plan es ≤ p.calls
+few_calls p plan true es due last ends = let same = ends.0 in omega arith
+few_calls p plan false es due last ends = ends.0
 
-all_calls : (p : Parameters) (is_cut : Bool) (es : List (Event Stage)) (due : ℕ → Option (Due Stage)) →
-    EndsSo p is_cut es due →
-    IsTrue is_cut → calls_of es ≡ p.calls
-all_calls p true es due ends cut = ends.0
-all_calls p false es due ends cut = absurd (false≢true cut)
+all_calls : (p : Parameters) (plan : Schedule) (is_cut : Bool) (es : List (Event Stage)) (due : ℕ → Option (Due Stage))
+    (last : Shared) → EndsSo p plan is_cut es due last → IsTrue is_cut → calls_of p plan es ≡ p.calls
+all_calls p plan true es due last ends cut = ends.0
+all_calls p plan false es due last ends cut = absurd (false≢true cut)
 
 tickets_if : (draws : Draws) (n : ℕ) → (if has_draws draws then n else 0) ≡ tickets_of draws n
 tickets_if Nothing n = refl
 tickets_if (Budget limit) n = refl
 tickets_if (Quota terms) n = refl
+tickets_if (Limited limit) n = refl
+
+-- each request that is denied before its first call is denied
+one_denied : (what : Happening) → cond {A = ℕ} (is_turned_away what) 1 0 ≤ cond {A = ℕ} (is_denied what) 1 0
+one_denied Request = omega arith
+one_denied Retry = omega arith
+one_denied (Won began) = omega arith
+one_denied (Failed f Lost) = omega arith
+one_denied (Failed f Denied) = omega arith
+one_denied (Failed f Waits) = omega arith
+one_denied Refused = omega arith
+
+away_denied : (ms : List Moment) → turned_away ms ≤ (score_of ms).denied
+away_denied [] = omega arith
+away_denied (m ∷ ms) =
+    let rest = away_denied ms in
+    let here = one_denied m.what in
+    let a = sum_by-cons (one is_turned_away) m ms in
+    let b = sum_by-cons (one is_denied) m ms in
+    omega arith
 
 -- ---- the report
 
@@ -123,8 +142,8 @@ module _ (p : Parameters) (plan : Schedule) (is_cut : Bool) (es : List (Event St
   granted : AreGranted p at_end
   granted =
       let s = score_of ms in
-      let none = none_turned_away p plan es storm.due storm.last storm.plays in
       let laws = score_adds_up ms in
+      let calls = laws.calls in
       let failures = laws.failures in
       let k = tickets_are in
       let asked : asked_of storm.last.drawn ≡ s.all.requests = let e = k.asked in omega arith in
@@ -142,8 +161,8 @@ module _ (p : Parameters) (plan : Schedule) (is_cut : Bool) (es : List (Event St
           subst (λ n. HasUses p.draws uses.0 s.all.requests n) given
               (subst (λ n. HasUses p.draws uses.0 n (given_of storm.last.drawn)) asked uses.1),
         ) ∣₁;
-        limit = subst (λ n. 1000 * n ≤ most_tickets p.draws p.until s.all.requests) given
-            (subst (λ n. 1000 * given_of storm.last.drawn ≤ most_tickets p.draws p.until n) asked
+        limit = subst (λ n. AreFew p.draws p.until s.all.requests n) given
+            (subst (λ n. AreFew p.draws p.until n (given_of storm.last.drawn)) asked
             (tickets-le p.draws p.until storm.last.drawn k.lawful));
       }
 
@@ -164,15 +183,14 @@ module _ (p : Parameters) (plan : Schedule) (is_cut : Bool) (es : List (Event St
       AddsUp p (record { windows = windows; totals = at_end })
   totals_add_up windows are sums times =
       let s = score_of ms in
-      let none = none_turned_away p plan es storm.due storm.last storm.plays in
       let laws = score_adds_up ms in
       let calls = laws.calls in
+      let denied = away_denied ms in
       let over_is = over ms in
       let over_few = over-le p plan es storm.due storm.last storm.plays in
       let ended_are = ended ms in
       let ended_few = ends-le p plan es storm.due storm.last storm.plays in
-      let same = calls_are p plan es storm.due storm.last storm.plays in
-      let few = few_calls p is_cut es storm.due storm.ends in
+      let few = few_calls p plan is_cut es storm.due storm.last storm.ends in
       let len : vec_len windows ≡ length windows.items = windows.ok.0 in
       let short = few_windows windows.items are in
       record {
@@ -181,6 +199,10 @@ module _ (p : Parameters) (plan : Schedule) (is_cut : Bool) (es : List (Event St
         endings = omega arith;
         successes = laws.successes;
         calls = omega arith;
+        turned_away = omega arith;
+        none_away = λ none.
+            let zero = none_turned_away p plan es storm.due storm.last storm.plays none in
+            omega arith;
         hundredths = refl;
         times = times;
         recovered = ap (recovered_in (end_of_trouble p)) (sym are);
@@ -188,7 +210,7 @@ module _ (p : Parameters) (plan : Schedule) (is_cut : Bool) (es : List (Event St
         retries = granted;
         requests = requests-le p plan es storm.due storm.last storm.plays;
         few = omega arith;
-        cut = λ h. sym same ∙ all_calls p is_cut es storm.due storm.ends h;
+        cut = λ h. all_calls p plan is_cut es storm.due storm.last storm.ends h;
       }
 
   pub adds_up : (r : Report) → IsReportOf p plan is_cut es r → AddUpTo r.windows.items no_counts r.totals.counts →

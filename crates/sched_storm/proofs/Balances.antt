@@ -3,7 +3,7 @@ use Rattle.std.proofs.Common.{◌≡◌, ℕ, zero, suc, ◌+◌, ◌<◌, ◌�
 use Rattle.std.proofs.Common.{None, refl, sym, ap, ◌∙◌, arith}
 use Rattle.std.specs.Prelude.{nat_le, nat_lt, count_by, sum_by}
 use Rattle.std.proofs.lemmas.List.Sums.{sum_by-cons}
-use Rattle.std.proofs.lemmas.Bool.{le-leb, le-ltb, leb-true}
+use Rattle.std.proofs.lemmas.Bool.{false≢true, le-leb, le-ltb, leb-true}
 use Rattle.sched_time.specs.Decision.{start_of}
 use Rattle.sched_plan.specs.Schedule.{Schedule}
 use Rattle.sched_plan.specs.Answer.{answer}
@@ -20,12 +20,18 @@ use Rattle.sched_storm_report.specs.declared.moments.Then.TheVariants.{Lost, Den
 use Rattle.sched_storm_report.specs.declared.moments.Happening.{Happening}
 use Rattle.sched_storm_report.specs.declared.moments.Happening.TheVariants as happening
 use Rattle.sched_storm_report.specs.declared.moments.Moment.{Moment}
+use Rattle.sched_storm_limit.specs.Limits as limits
+use Rattle.sched_storm_limit.specs.Limits.{LimitState}
+use Rattle.sched_storm_limit.specs.Ranges.{is_limited}
+use Rattle.sched_storm_limit.specs.declared.draws.Draws.{Draws}
+use Rattle.sched_storm_limit.specs.declared.draws.Draws.TheVariants.{Nothing, Budget, Quota, Limited}
 use Rattle.sched_storm.specs.Parameters.{all_requests, comes_at}
 use Rattle.sched_storm.specs.Calls.{called}
 use Rattle.sched_storm.specs.Tickets.{draw_at}
 use Rattle.sched_storm.specs.Drivers.{input_of, with_failure}
-use Rattle.sched_storm.specs.Plays.{Stage, begins, retries, succeeds, fails, is_call as is_call_stage, Shared, start_at}
-use Rattle.sched_storm.specs.Plays.{if_by, first, ending, coming, ended, drawing, going_on, failing, playing, played}
+use Rattle.sched_storm.specs.Plays.{Stage, begins, retries, succeeds, fails, Shared, start_at, if_by, first, ending}
+use Rattle.sched_storm.specs.Plays.{coming, ended, is_late, drawing, going_on, failing, with_request, arriving}
+use Rattle.sched_storm.specs.Plays.{playing, played}
 use Rattle.sched_storm.proofs.Played.{due_next}
 use Rattle.sched_storm.specs.declared.parameters.Parameters.{Parameters}
 use Rattle.sched_storm.specs.declared.calls.CallEnd.{CallEnd}
@@ -34,25 +40,45 @@ use Rattle.sched_storm.specs.declared.calls.Called.{Called}
 
 -- What holds of each answer to a call that fails holds of that answer: the request is lost or denied, or a retry is
 -- due.
-module _ (P : Answer Stage Shared Moment → Type 0) (p : Parameters) (t : ℕ) (failure : Failure) where
-  on_failure : (lost : (s : Shared) → P (ended s t failure Lost)) (denied : (s : Shared) → P (ended s t failure Denied))
-      (waits : (s : Shared) (h : List Failed_event) (start : ℕ) → P (drawing p s t failure h start true))
-      (s : Shared) (h : List Failed_event) (start : Option ℕ) → P (going_on p s t failure h start)
+module _ (P : Answer Stage Shared Moment → Type 0) (p : Parameters) (r t : ℕ) (failure : Failure) where
+  on_failure : (lost : (s : Shared) → P (ended p s r t failure Lost))
+      (denied : (s : Shared) → P (ended p s r t failure Denied))
+      (waits : (s : Shared) (h : List Failed_event) (start : ℕ) → P (drawing p s r t failure h start true))
+      (s : Shared) (h : List Failed_event) (start : Option ℕ) → P (going_on p s r t failure h start)
   on_failure lost denied waits s h None = lost s
-  on_failure lost denied waits s h (Some start) = let drawn = draw_at p.draws t s.drawn in
-      elim drawn.0 as (λ b. P (drawing p (record s { drawn = drawn.1 }) t failure h start b)) [
-        | true ↦ waits (record s { drawn = drawn.1 }) h start
-        | false ↦ denied (record s { drawn = drawn.1 })
+  on_failure lost denied waits s h (Some start) =
+      let asked = limits.drawing p.draws (is_late failure) t r s.limit in
+      let drawn = draw_at p.draws asked.0 t s.drawn in
+      let after : Shared = record s { drawn = drawn.1; limit = asked.1 } in
+      elim drawn.0 as (λ b. P (drawing p after r t failure h start b)) [
+        | true ↦ waits after h start
+        | false ↦ denied after
       ]
 
-  pub by_failure : (lost : (s : Shared) → P (ended s t failure Lost))
-      (denied : (s : Shared) → P (ended s t failure Denied))
-      (waits : (s : Shared) (h : List Failed_event) (start : ℕ) → P (drawing p s t failure h start true))
-      (plan : Schedule) (s : Shared) (before : List Failed_event) → P (failing p plan s t failure before)
+  pub by_failure : (lost : (s : Shared) → P (ended p s r t failure Lost))
+      (denied : (s : Shared) → P (ended p s r t failure Denied))
+      (waits : (s : Shared) (h : List Failed_event) (start : ℕ) → P (drawing p s r t failure h start true))
+      (plan : Schedule) (s : Shared) (before : List Failed_event) → P (failing p plan s r t failure before)
   by_failure lost denied waits plan s before =
       let words = next_four s.words in
       let h = with_failure before t words.0 (input_of failure) in
-      on_failure lost denied waits (record s { words = words.1 }) h (start_of (answer plan h).decision)
+      on_failure lost denied waits (record s { words = words.1; limit = limits.failing p.draws t r s.limit }) h
+      (start_of (answer plan h).decision)
+
+-- What holds of each answer to a request that comes holds of that answer: its first call comes to the peer, or it is
+-- denied.
+module _ (P : Answer Stage Shared Moment → Type 0) (p : Parameters) (r t : ℕ) where
+  on_arrival : (comes : (s : Shared) (c : Called) → P (coming p s t [] happening.Request c))
+      (denied : (s : Shared) → P (arriving p s t false)) (s : Shared) (b : Bool) → P (arriving p s t b)
+  on_arrival comes denied s true = comes s (called p s.busy t)
+  on_arrival comes denied s false = denied s
+
+  pub by_arrival : (comes : (s : Shared) (c : Called) → P (coming p s t [] happening.Request c))
+      (denied : (s : Shared) → P (arriving p s t false)) (plan : Schedule) (s : Shared) →
+      P (playing p plan s r t begins)
+  by_arrival comes denied plan s =
+      let asked = limits.admitting p.draws t r s.limit in
+      on_arrival comes denied (with_request p t (record s { limit = asked.1 })) asked.0
 
 -- a weight of what is due of a request
 abbrev weighed : (Stage → ℕ) → Option (Due Stage) → ℕ
@@ -77,11 +103,19 @@ weight_call w most won lost until t (Failed f) h = weight_if w until t (fails f 
 
 -- what follows a call that fails
 weight_failure : (w : Stage → ℕ) (most : ℕ) → ((h : List Failed_event) → w (retries h) ≤ most) →
-    (p : Parameters) (plan : Schedule) (s : Shared) (t : ℕ) (f : Failure) (before : List Failed_event) →
-    weighed w (failing p plan s t f before).next ≤ most
-weight_failure w most again p plan s t f before =
-    by_failure (λ (a : Answer Stage Shared Moment). weighed w a.next ≤ most) p t f (λ s. omega arith) (λ s. omega arith)
-    (λ s h start. weight_if w p.until start (retries h) most (again h)) plan s before
+    (p : Parameters) (plan : Schedule) (s : Shared) (r t : ℕ) (f : Failure) (before : List Failed_event) →
+    weighed w (failing p plan s r t f before).next ≤ most
+weight_failure w most again p plan s r t f before =
+    by_failure (λ (a : Answer Stage Shared Moment). weighed w a.next ≤ most) p r t f (λ s. omega arith)
+    (λ s. omega arith) (λ s h start. weight_if w p.until start (retries h) most (again h)) plan s before
+
+-- what follows a request that comes
+weight_arrival : (w : Stage → ℕ) (most : ℕ) → w succeeds ≤ most → ((f : Failure) (h : List Failed_event) →
+    w (fails f h) ≤ most) →
+    (p : Parameters) (plan : Schedule) (s : Shared) (r t : ℕ) → weighed w (playing p plan s r t begins).next ≤ most
+weight_arrival w most won lost p plan s r t =
+    by_arrival (λ (a : Answer Stage Shared Moment). weighed w a.next ≤ most) p r t
+    (λ s c. weight_call w most won lost p.until c.ends c.how []) (λ s. omega arith) plan s
 
 -- an event of a request where something was due of it
 abbrev event : ℕ → ℕ → Stage → Option (Due Stage) → Event Stage
@@ -95,17 +129,19 @@ is_end (retries h) = 0
 is_end succeeds = 1
 is_end (fails f h) = 1
 
-abbrev begun : Stage → ℕ
-begun what = cond (is_call_stage what) 1 0
-
+-- a call that begins comes to one end at most
 ends_step : (p : Parameters) (plan : Schedule) (s : Shared) (r t : ℕ) (what : Stage) →
-    weighed is_end (playing p plan s r t what).next + is_end what ≤ is_end what + begun what
-ends_step p plan s r t begins = let c = called p s.busy t in
-    let k = weight_call is_end 1 (omega arith) (λ f h. omega arith) p.until c.ends c.how [] in omega arith
-ends_step p plan s r t (retries h) = let c = called p s.busy t in
-    let k = weight_call is_end 1 (omega arith) (λ f h. omega arith) p.until c.ends c.how h in omega arith
+    weighed is_end (playing p plan s r t what).next ≤ cond (is_call (playing p plan s r t what).told.what) 1 0
+ends_step p plan s r t begins =
+    by_arrival (λ (a : Answer Stage Shared Moment). weighed is_end a.next ≤ cond (is_call a.told.what) 1 0) p r t
+    (λ s c. weight_call is_end 1 (omega arith) (λ f h. omega arith) p.until c.ends c.how []) (λ s. omega arith) plan s
+ends_step p plan s r t (retries h) =
+    let c = called p s.busy t in weight_call is_end 1 (omega arith) (λ f h. omega arith) p.until c.ends c.how h
 ends_step p plan s r t succeeds = omega arith
-ends_step p plan s r t (fails f h) = let k = weight_failure is_end 0 (λ h. omega arith) p plan s t f h in omega arith
+ends_step p plan s r t (fails f h) =
+    by_failure (λ (a : Answer Stage Shared Moment). weighed is_end a.next ≤ cond (is_call a.told.what) 1 0) p r t f
+    (λ s. omega arith) (λ s. omega arith) (λ s h' start. weight_if is_end p.until start (retries h') 0
+    (omega arith)) plan s h
 
 -- ---- what comes at first
 
@@ -147,17 +183,20 @@ first_in_time p r = elim (nat_lt r (all_requests p)) as (λ b. lateness p.until 
 
 -- What a test says of what is told is what a count says of what was due.
 module _ (f : Stage → ℕ) (test : Happening → Bool) (comes : f begins ≡ cond (test happening.Request) 1 0)
+    (denied : f begins ≡ cond (test happening.Refused) 1 0)
     (again : (h : List Failed_event) → f (retries h) ≡ cond (test happening.Retry) 1 0)
     (won : (began : ℕ) → f succeeds ≡ cond (test (happening.Won began)) 1 0)
     (failed : (fault : Failure) (h : List Failed_event) (next : Then) →
     f (fails fault h) ≡ cond (test (happening.Failed fault next)) 1 0) where
   same_told : (p : Parameters) (plan : Schedule) (s : Shared) (r t : ℕ) (what : Stage) →
       f what ≡ cond (test (playing p plan s r t what).told.what) 1 0
-  same_told p plan s r t begins = comes
+  same_told p plan s r t begins =
+      by_arrival (λ (a : Answer Stage Shared Moment). f begins ≡ cond (test a.told.what) 1 0) p r t
+      (λ s c. comes) (λ s. denied) plan s
   same_told p plan s r t (retries h) = again h
   same_told p plan s r t succeeds = won (comes_at p r)
   same_told p plan s r t (fails fault h) =
-      by_failure (λ (a : Answer Stage Shared Moment). f (fails fault h) ≡ cond (test a.told.what) 1 0) p t fault
+      by_failure (λ (a : Answer Stage Shared Moment). f (fails fault h) ≡ cond (test a.told.what) 1 0) p r t fault
       (λ s. failed fault h Lost) (λ s. failed fault h Denied) (λ s h' start. failed fault h Waits) plan s h
 
   count_told : (p : Parameters) (plan : Schedule) (s : Shared) (es : List (Event Stage)) (last : Shared) →
@@ -179,13 +218,14 @@ is_again (fails f h) = 0
 granted_step : (p : Parameters) (plan : Schedule) (s : Shared) (r t : ℕ) (what : Stage) →
     weighed is_again (playing p plan s r t what).next ≤ cond (is_granted (playing p plan s r t what).told.what) 1 0
 granted_step p plan s r t begins =
-    let c = called p s.busy t in weight_call is_again 0 (omega arith) (λ f h. omega arith) p.until c.ends c.how []
+    by_arrival (λ (a : Answer Stage Shared Moment). weighed is_again a.next ≤ cond (is_granted a.told.what) 1 0) p r t
+    (λ s c. weight_call is_again 0 (omega arith) (λ f h. omega arith) p.until c.ends c.how []) (λ s. omega arith) plan s
 granted_step p plan s r t (retries h) =
     let c = called p s.busy t in weight_call is_again 0 (omega arith) (λ f h. omega arith) p.until c.ends c.how h
 granted_step p plan s r t succeeds = omega arith
 granted_step p plan s r t (fails fault h) =
     by_failure (λ (a : Answer Stage Shared Moment). weighed is_again a.next ≤ cond
-    (is_granted a.told.what) 1 0) p t fault
+    (is_granted a.told.what) 1 0) p r t fault
     (λ s. omega arith) (λ s. omega arith) (λ s h' start. weight_if is_again p.until start (retries h') 1
     (omega arith)) plan s h
 
@@ -219,9 +259,9 @@ going_or_none : (o : Option (Due Stage)) → weighed goes_on o + is_none o ≤ 1
 going_or_none None = omega arith
 going_or_none (Some d) = let k = goes_on-le d.what in omega arith
 
--- a call ends, and nothing is due of its request any more
+-- a request comes or a call ends, and nothing is due of the request any more
 abbrev is_over : Stage → Option (Due Stage) → ℕ
-is_over begins o = 0
+is_over begins o = is_none o
 is_over (retries h) o = 0
 is_over succeeds o = is_none o
 is_over (fails f h) o = is_none o
@@ -229,8 +269,7 @@ is_over (fails f h) o = is_none o
 over_step : (p : Parameters) (plan : Schedule) (s : Shared) (r t : ℕ) (what : Stage) →
     let next = (playing p plan s r t what).next in
     weighed goes_on next + is_over what next ≤ goes_on what + comes what
-over_step p plan s r t begins = let c = called p s.busy t in
-    let k = weight_call goes_on 1 (omega arith) (λ f h. omega arith) p.until c.ends c.how [] in omega arith
+over_step p plan s r t begins = let k = going_or_none (playing p plan s r t begins).next in omega arith
 over_step p plan s r t (retries h) = let c = called p s.busy t in
     let k = weight_call goes_on 1 (omega arith) (λ f h. omega arith) p.until c.ends c.how h in omega arith
 over_step p plan s r t succeeds = omega arith
@@ -246,21 +285,46 @@ ends_request _ = false
 
 over_told : (p : Parameters) (plan : Schedule) (s : Shared) (r t : ℕ) (what : Stage) →
     cond (ends_request (playing p plan s r t what).told.what) 1 0 ≤ is_over what (playing p plan s r t what).next
-over_told p plan s r t begins = omega arith
+over_told p plan s r t begins =
+    by_arrival (λ (a : Answer Stage Shared Moment). cond (ends_request a.told.what) 1 0 ≤ is_none a.next) p r t
+    (λ s c. omega arith) (λ s. omega arith) plan s
 over_told p plan s r t (retries h) = omega arith
 over_told p plan s r t succeeds = omega arith
 over_told p plan s r t (fails fault h) =
-    by_failure (λ (a : Answer Stage Shared Moment). cond (ends_request a.told.what) 1 0 ≤ is_none a.next) p t fault
+    by_failure (λ (a : Answer Stage Shared Moment). cond (ends_request a.told.what) 1 0 ≤ is_none a.next) p r t fault
+    (λ s. omega arith) (λ s. omega arith) (λ s h' start. omega arith) plan s h
+
+none_arrival : (p : Parameters) (s : Shared) (t : ℕ) (b : Bool) → b ≡ true →
+    cond (is_turned_away (arriving p s t b).told.what) 1 0 ≤ 0
+none_arrival p s t true is = omega arith
+none_arrival p s t false is = absurd (false≢true is)
+
+all_admitted : (draws : Draws) → is_limited draws ≡ false → (t r : ℕ) (s : LimitState) →
+    (limits.admitting draws t r s).0 ≡ true
+all_admitted Nothing none t r s = refl
+all_admitted (Budget limit) none t r s = refl
+all_admitted (Quota terms) none t r s = refl
+all_admitted (Limited limit) none t r s = absurd (false≢true (sym none))
+
+none_step : (p : Parameters) (plan : Schedule) → is_limited p.draws ≡ false → (s : Shared) (r t : ℕ) (what : Stage) →
+    cond (is_turned_away (playing p plan s r t what).told.what) 1 0 ≤ 0
+none_step p plan none s r t begins =
+    let asked = limits.admitting p.draws t r s.limit in
+    none_arrival p (with_request p t (record s { limit = asked.1 })) t asked.0 (all_admitted p.draws none t r s.limit)
+none_step p plan none s r t (retries h) = omega arith
+none_step p plan none s r t succeeds = omega arith
+none_step p plan none s r t (fails fault h) =
+    by_failure (λ (a : Answer Stage Shared Moment). cond (is_turned_away a.told.what) 1 0 ≤ 0) p r t fault
     (λ s. omega arith) (λ s. omega arith) (λ s h' start. omega arith) plan s h
 
 comes_step : (p : Parameters) (plan : Schedule) (s : Shared) (r t : ℕ) (what : Stage) →
     weighed comes (playing p plan s r t what).next + comes what ≤ comes what
-comes_step p plan s r t begins = let c = called p s.busy t in
-    let k = weight_call comes 0 (omega arith) (λ f h. omega arith) p.until c.ends c.how [] in omega arith
+comes_step p plan s r t begins =
+    let k = weight_arrival comes 0 (omega arith) (λ f h. omega arith) p plan s r t in omega arith
 comes_step p plan s r t (retries h) = let c = called p s.busy t in
     let k = weight_call comes 0 (omega arith) (λ f h. omega arith) p.until c.ends c.how h in omega arith
 comes_step p plan s r t succeeds = omega arith
-comes_step p plan s r t (fails f h) = let k = weight_failure comes 0 (λ h. omega arith) p plan s t f h in omega arith
+comes_step p plan s r t (fails f h) = let k = weight_failure comes 0 (λ h. omega arith) p plan s r t f h in omega arith
 
 -- what is told of a call's end
 abbrev pub ends_call : Happening → Bool
@@ -288,12 +352,13 @@ are_until until (e ∷ es) h =
 
 told_at : (p : Parameters) (plan : Schedule) (s : Shared) (r t : ℕ) (what : Stage) →
     (playing p plan s r t what).told.at ≡ t
-told_at p plan s r t begins = refl
+told_at p plan s r t begins =
+    by_arrival (λ (a : Answer Stage Shared Moment). a.told.at ≡ t) p r t (λ s c. refl) (λ s. refl) plan s
 told_at p plan s r t (retries h) = refl
 told_at p plan s r t succeeds = refl
 told_at p plan s r t (fails fault h) =
     by_failure (λ (a : Answer Stage Shared Moment). a.told.at
-    ≡ t) p t fault (λ s. refl) (λ s. refl) (λ s h' start. refl) plan s h
+    ≡ t) p r t fault (λ s. refl) (λ s. refl) (λ s h' start. refl) plan s h
 
 latest_by : (p : Parameters) (plan : Schedule) (s : Shared) (es : List (Event Stage)) (at : ℕ) → at ≤ p.until →
     AreUntil p.until es →
@@ -312,41 +377,35 @@ module _ (p : Parameters) (plan : Schedule) (es : List (Event Stage)) (due : ℕ
   abbrev ms : List Moment
   ms = told_by (played p plan) (start_at p) es
 
-  calls_told : sum_by (λ (e : Event Stage). begun e.due.what) es ≡ count_by (λ (m : Moment). is_call m.what) ms
-  calls_told = count_told begun is_call refl (λ h. refl) (λ began. refl) (λ f h next. refl) p plan
-      (start_at p) es last h.answers
-
   requests_told : sum_by (λ (e : Event Stage). comes e.due.what) es ≡ count_by (λ (m : Moment). is_request m.what) ms
-  requests_told = count_told comes is_request refl (λ h. refl) (λ began. refl) (λ f h next. refl) p plan
+  requests_told = count_told comes is_request refl refl (λ h. refl) (λ began. refl) (λ f h next. refl) p plan
       (start_at p) es last h.answers
 
   retries_told : sum_by (λ (e : Event Stage). is_again e.due.what) es ≡ count_by (λ (m : Moment). is_retry m.what) ms
-  retries_told = count_told is_again is_retry refl (λ h. refl) (λ began. refl) (λ f h next. refl) p plan
+  retries_told = count_told is_again is_retry refl refl (λ h. refl) (λ began. refl) (λ f h next. refl) p plan
       (start_at p) es last h.answers
 
   ends_told : sum_by (λ (e : Event Stage). is_end e.due.what) es ≡ count_by (λ (m : Moment). ends_call m.what) ms
-  ends_told = count_told is_end ends_call refl (λ h. refl) (λ began. refl) (λ f h next. refl) p plan
+  ends_told = count_told is_end ends_call refl refl (λ h. refl) (λ began. refl) (λ f h next. refl) p plan
       (start_at p) es last h.answers
 
-  -- no request is refused before its first call
-  pub none_turned_away : turned_away ms ≡ 0
-  none_turned_away =
-      sym (count_told (λ what. 0) is_turned_away refl (λ h. refl) (λ began. refl) (λ f h next. refl) p plan
-      (start_at p) es last h.answers)
-      ∙ sum_none es
-
-  pub calls_are : count_by (λ (e : Event Stage). is_call_stage e.due.what) es
-      ≡ count_by (λ (m : Moment). is_call m.what) ms
-  calls_are = calls_told
+  -- where there is no limit no request is denied before its first call
+  pub none_turned_away : is_limited p.draws ≡ false → turned_away ms ≡ 0
+  none_turned_away none =
+      let few = told_sum_le (played p plan) (λ e. 0) (λ m. cond (is_turned_away m.what) 1 0)
+      (λ s r d. none_step p plan none s r d.at d.what) (start_at p) es last h.answers in
+      let zero = sum_none es in
+      omega arith
 
   -- each call ends once at most
   pub ends-le : count_by (λ (m : Moment). ends_call m.what) ms ≤ count_by (λ (m : Moment). is_call m.what) ms
   ends-le =
-      let all = balance (played p plan) (weighed is_end) (λ e. is_end e.due.what) (λ e. begun e.due.what)
-      (λ s r d. ends_step p plan s r d.at d.what) (first p) (all_requests p)
+      let all = balance (played p plan) (weighed is_end) (λ e. is_end e.due.what) (λ e. weighed is_end e.next)
+      (λ s r d. omega arith) (first p) (all_requests p)
       (λ r. let k = first_weight is_end 0 (omega arith) p r in
       omega arith) (first_late p) (start_at p) es due last h in
-      let calls = calls_told in
+      let calls = told_sum_ge (played p plan) (λ e. weighed is_end e.next) (λ m. cond (is_call m.what) 1 0)
+      (λ s r d. ends_step p plan s r d.at d.what) (start_at p) es last h.answers in
       let ends = ends_told in
       omega arith
 

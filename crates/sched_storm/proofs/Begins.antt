@@ -6,6 +6,8 @@ use Rattle.rand_xoshiro.specs.SplitMix64.{splitmix_seed}
 use Rattle.sched_storm_trace.specs.Trace.{Due}
 use Rattle.sched_storm_report.specs.Told.{AreTold}
 use Rattle.sched_storm_report.specs.declared.peer.Peer.{Peer}
+use Rattle.sched_storm_limit.specs.Limits.{state_at_first}
+use Rattle.sched_storm_limit.specs.States.{state_of}
 use Rattle.sched_storm.specs.Parameters.{AreInRange, all_requests, comes_at}
 use Rattle.sched_storm.specs.Tickets.{none_drawn, asked_of, given_of}
 use Rattle.sched_storm.specs.Drivers.{DriverStands}
@@ -28,6 +30,7 @@ pub record HasNothing (c : Course) : Type 0 where
   pub calls : c.calls ≡ 0
   pub busy : c.busy ≡ 0
   pub drawn : c.drawn ≡ none_drawn
+  pub limit : state_of c.limit ≡ state_at_first c.storm.draws c.storm.words
   pub slots : c.drivers.slots.items ≡ []
   pub slots_len : vec_len c.drivers.slots ≡ 0
   pub agenda : Holds c.agenda (λ _. None)
@@ -42,7 +45,13 @@ module _ (c : Course) (h : HasNothing c) where
       let words = h.words in
       let busy = h.busy in
       let drawn = h.drawn in
-      λ i. record { busy = sym busy i; words = words_of (sym words i); drawn = sym drawn i }
+      let limit = h.limit in
+      λ i. record {
+        busy = sym busy i;
+        words = words_of (sym words i);
+        drawn = sym drawn i;
+        limit = sym limit i;
+      }
 
   no_slot : (r : ℕ) → slot_of c r ≡ None
   no_slot r = ap (λ xs. get_or xs r None) h.slots

@@ -6,12 +6,12 @@ use Rattle.std.specs.Prelude.{nat_lt}
 use Rattle.sched_ticket_quota.specs.declared.view.Terms.{Terms}
 use Rattle.sched_ticket_quota.specs.Held.{AreTerms}
 use Rattle.sched_ticket_quota.specs.Windows.{allowed}
-use Rattle.sched_storm.specs.Parameters.{AreDraws}
-use Rattle.sched_storm.specs.Tickets.{asked_of, given_of, turned, at_moment, with_request, counted, tickets_for}
+use Rattle.sched_storm_limit.specs.Ranges.{AreDraws}
+use Rattle.sched_storm.specs.Tickets.{asked_of, given_of, turned, at_moment, with_request, counted}
 use Rattle.sched_storm.specs.Tickets.{may_draw, with_ticket, draw_at}
-use Rattle.sched_storm.specs.Tickets.{tickets_of, most_before, last_window, IsLawful, most_tickets}
-use Rattle.sched_storm.specs.declared.parameters.Draws.{Draws}
-use Rattle.sched_storm.specs.declared.parameters.Draws.TheVariants.{Nothing, Budget, Quota}
+use Rattle.sched_storm.specs.Tickets.{tickets_of, most_before, last_window, AreGiven, IsLawful, AreFew}
+use Rattle.sched_storm_limit.specs.declared.draws.Draws.{Draws}
+use Rattle.sched_storm_limit.specs.declared.draws.Draws.TheVariants.{Nothing, Budget, Quota, Limited}
 use Rattle.sched_storm.specs.declared.tickets.Drawn.{Drawn}
 
 -- ---- numbers
@@ -47,11 +47,13 @@ pub moment_asked : (draws : Draws) (t : ℕ) (d : Drawn) → asked_of (at_moment
 moment_asked Nothing t d = refl
 moment_asked (Budget limit) t d = refl
 moment_asked (Quota terms) t d = turned_asked (t / terms.period) d
+moment_asked (Limited limit) t d = refl
 
 pub moment_given : (draws : Draws) (t : ℕ) (d : Drawn) → given_of (at_moment draws t d) ≡ given_of d
 moment_given Nothing t d = refl
 moment_given (Budget limit) t d = refl
 moment_given (Quota terms) t d = turned_given (t / terms.period) d
+moment_given (Limited limit) t d = refl
 
 pub counted_asked : (draws : Draws) (t : ℕ) (d : Drawn) → asked_of (counted draws t d) ≡ asked_of d + 1
 counted_asked draws t d = let same = moment_asked draws t d in omega arith
@@ -63,6 +65,7 @@ ticket_asked : (draws : Draws) (d : Drawn) → asked_of (with_ticket draws d) �
 ticket_asked Nothing d = refl
 ticket_asked (Budget limit) d = refl
 ticket_asked (Quota terms) d = refl
+ticket_asked (Limited limit) d = refl
 
 -- a ticket more, where retries draw on anything
 ticket_given : (draws : Draws) (d : Drawn) (n : ℕ) → given_of d ≡ tickets_of draws n →
@@ -70,11 +73,12 @@ ticket_given : (draws : Draws) (d : Drawn) (n : ℕ) → given_of d ≡ tickets_
 ticket_given Nothing d n h = h
 ticket_given (Budget limit) d n h = omega arith
 ticket_given (Quota terms) d n h = omega arith
+ticket_given (Limited limit) d n h = omega arith
 
-pub drawn_asked : (draws : Draws) (t : ℕ) (d : Drawn) → asked_of (draw_at draws t d).1 ≡ asked_of d
-drawn_asked draws t d =
+pub drawn_asked : (draws : Draws) (may : Bool) (t : ℕ) (d : Drawn) → asked_of (draw_at draws may t d).1 ≡ asked_of d
+drawn_asked draws may t d =
     let e = at_moment draws t d in
-    elim (may_draw draws e) as (λ b. asked_of (cond b (with_ticket draws e) e) ≡ asked_of d) [
+    elim (may_draw draws may e) as (λ b. asked_of (cond b (with_ticket draws e) e) ≡ asked_of d) [
       | true ↦ ticket_asked draws e ∙ moment_asked draws t d
       | false ↦ moment_asked draws t d
     ]
@@ -83,26 +87,28 @@ one_given : (draws : Draws) (d : Drawn) → given_of (with_ticket draws d) ≤ g
 one_given Nothing d = omega arith
 one_given (Budget limit) d = omega arith
 one_given (Quota terms) d = omega arith
+one_given (Limited limit) d = omega arith
 
-pub drawn_given : (draws : Draws) (t : ℕ) (d : Drawn) → given_of (draw_at draws t d).1 ≤ given_of d + 1
-drawn_given draws t d =
+pub drawn_given : (draws : Draws) (may : Bool) (t : ℕ) (d : Drawn) →
+    given_of (draw_at draws may t d).1 ≤ given_of d + 1
+drawn_given draws may t d =
     let e = at_moment draws t d in
     let same = moment_given draws t d in
     let one = one_given draws e in
-    elim (may_draw draws e) as (λ b. given_of (cond b (with_ticket draws e) e) ≤ given_of d + 1) [
+    elim (may_draw draws may e) as (λ b. given_of (cond b (with_ticket draws e) e) ≤ given_of d + 1) [
       | true ↦ omega arith
       | false ↦ omega arith
     ]
 
-pub granted_given : (draws : Draws) (t : ℕ) (d : Drawn) (n : ℕ) → (draw_at draws t d).0 ≡ true →
-    given_of d ≡ tickets_of draws n → given_of (draw_at draws t d).1 ≡ tickets_of draws (n + 1)
-granted_given draws t d n may h =
+pub granted_given : (draws : Draws) (may : Bool) (t : ℕ) (d : Drawn) (n : ℕ) → (draw_at draws may t d).0 ≡ true →
+    given_of d ≡ tickets_of draws n → given_of (draw_at draws may t d).1 ≡ tickets_of draws (n + 1)
+granted_given draws may t d n is h =
     let e = at_moment draws t d in
-    rw may (ticket_given draws e n (moment_given draws t d ∙ h))
+    rw is (ticket_given draws e n (moment_given draws t d ∙ h))
 
-pub refused_given : (draws : Draws) (t : ℕ) (d : Drawn) → (draw_at draws t d).0 ≡ false →
-    given_of (draw_at draws t d).1 ≡ given_of d
-refused_given draws t d may = rw may (moment_given draws t d)
+pub refused_given : (draws : Draws) (may : Bool) (t : ℕ) (d : Drawn) → (draw_at draws may t d).0 ≡ false →
+    given_of (draw_at draws may t d).1 ≡ given_of d
+refused_given draws may t d is = rw is (moment_given draws t d)
 
 -- ---- bounds
 
@@ -138,6 +144,7 @@ lawful_at Nothing until t d ok by law = law
 lawful_at (Budget limit) until t d ok by law = law
 lawful_at (Quota terms) until t d ok by law = lawful_turned terms until t d ok by law
     (nat_lt d.window (t / terms.period)) refl
+lawful_at (Limited limit) until t d ok by law = law
 
 lawful_request : (draws : Draws) (until : ℕ) (d : Drawn) → IsLawful draws until d →
     IsLawful draws until (with_request d)
@@ -147,35 +154,37 @@ lawful_request (Quota terms) until d law =
     let more = allowed_rises terms d.asked in
     let here = law.here in
     record { here = omega arith; before = law.before; latest = law.latest }
+lawful_request (Limited limit) until d law = record { here = tt; before = law.before; latest = law.latest }
 
 pub lawful_counted : (draws : Draws) (until t : ℕ) (d : Drawn) → AreDraws draws → t ≤ until → IsLawful draws until d →
     IsLawful draws until (counted draws t d)
 lawful_counted draws until t d ok by law = lawful_request draws until (at_moment draws t d)
     (lawful_at draws until t d ok by law)
 
-lawful_ticket : (draws : Draws) (until : ℕ) (d : Drawn) → may_draw draws d ≡ true → IsLawful draws until d →
-    IsLawful draws until (with_ticket draws d)
-lawful_ticket Nothing until d may law = law
-lawful_ticket (Budget limit) until d may law =
-    let room = ltb-true d.given limit may in record { here = omega arith; before = law.before; latest = law.latest }
-lawful_ticket (Quota terms) until d may law =
-    let room = ltb-true d.given (allowed terms d.asked) may in
+lawful_ticket : (draws : Draws) (may : Bool) (until : ℕ) (d : Drawn) → may_draw draws may d ≡ true →
+    IsLawful draws until d → IsLawful draws until (with_ticket draws d)
+lawful_ticket Nothing may until d is law = law
+lawful_ticket (Budget limit) may until d is law =
+    let room = ltb-true d.given limit is in record { here = omega arith; before = law.before; latest = law.latest }
+lawful_ticket (Quota terms) may until d is law =
+    let room = ltb-true d.given (allowed terms d.asked) is in
     record { here = omega arith; before = law.before; latest = law.latest }
+lawful_ticket (Limited limit) may until d is law = record { here = tt; before = law.before; latest = law.latest }
 
-lawful_drawn_if : (draws : Draws) (until : ℕ) (d : Drawn) → IsLawful draws until d → (b : Bool) → may_draw draws d ≡ b →
-    IsLawful draws until (cond b (with_ticket draws d) d)
-lawful_drawn_if draws until d law true may = lawful_ticket draws until d may law
-lawful_drawn_if draws until d law false may = law
+lawful_drawn_if : (draws : Draws) (may : Bool) (until : ℕ) (d : Drawn) → IsLawful draws until d → (b : Bool) →
+    may_draw draws may d ≡ b → IsLawful draws until (cond b (with_ticket draws d) d)
+lawful_drawn_if draws may until d law true is = lawful_ticket draws may until d is law
+lawful_drawn_if draws may until d law false is = law
 
-pub lawful_drawn : (draws : Draws) (until t : ℕ) (d : Drawn) → AreDraws draws → t ≤ until → IsLawful draws until d →
-    IsLawful draws until (draw_at draws t d).1
-lawful_drawn draws until t d ok by law =
+pub lawful_drawn : (draws : Draws) (may : Bool) (until t : ℕ) (d : Drawn) → AreDraws draws → t ≤ until →
+    IsLawful draws until d → IsLawful draws until (draw_at draws may t d).1
+lawful_drawn draws may until t d ok by law =
     let e = at_moment draws t d in
-    lawful_drawn_if draws until e (lawful_at draws until t d ok by law) (may_draw draws e) refl
+    lawful_drawn_if draws may until e (lawful_at draws until t d ok by law) (may_draw draws may e) refl
 
 -- all tickets together
 pub tickets-le : (draws : Draws) (until : ℕ) (d : Drawn) → IsLawful draws until d →
-    1000 * given_of d ≤ most_tickets draws until (asked_of d)
+    AreFew draws until (asked_of d) (given_of d)
 tickets-le Nothing until d law = let here = law.here in let before = law.before in omega arith
 tickets-le (Budget limit) until d law = let here = law.here in let before = law.before in omega arith
 tickets-le (Quota k) until d law =
@@ -188,9 +197,11 @@ tickets-le (Quota k) until d law =
     let one = mul-add k.reserve d.window 1 in
     let reserve = mul-le k.reserve (d.window + 1) k.reserve (until / k.period + 1) (omega arith) (omega arith) in
     omega arith
+tickets-le (Limited limit) until d law = tt
 
 -- no more tickets than retries were granted
 pub tickets_of_le : (draws : Draws) (n : ℕ) → tickets_of draws n ≤ n
 tickets_of_le Nothing n = omega arith
 tickets_of_le (Budget limit) n = omega arith
 tickets_of_le (Quota terms) n = omega arith
+tickets_of_le (Limited limit) n = omega arith

@@ -13,18 +13,20 @@ use Rattle.sched_storm_report.specs.Moments.{is_request, is_granted}
 use Rattle.sched_storm_report.specs.declared.moments.Failure.{Failure}
 use Rattle.sched_storm_report.specs.declared.moments.Happening.{Happening}
 use Rattle.sched_storm_report.specs.declared.moments.Moment.{Moment}
-use Rattle.sched_storm.specs.Parameters.{AreDraws}
-use Rattle.sched_storm.specs.Tickets.{none_drawn, asked_of, given_of, counted, draw_at, tickets_of, HasUses, IsLawful}
+use Rattle.sched_storm_limit.specs.Limits as limits
+use Rattle.sched_storm_limit.specs.Ranges.{AreDraws}
+use Rattle.sched_storm.specs.Tickets.{none_drawn, asked_of, given_of, counted, draw_at, tickets_of, HasUses, AreGiven}
+use Rattle.sched_storm.specs.Tickets.{IsLawful}
 use Rattle.sched_storm.specs.Drivers.{input_of, with_failure}
-use Rattle.sched_storm.specs.Plays.{Stage, begins, retries, succeeds, fails, Shared, start_at, drawing, going_on}
-use Rattle.sched_storm.specs.Plays.{playing, played}
+use Rattle.sched_storm.specs.Plays.{Stage, begins, retries, succeeds, fails, Shared, start_at, is_late, drawing}
+use Rattle.sched_storm.specs.Plays.{going_on, with_request, arriving, playing, played}
 use Rattle.sched_storm.proofs.Bounds.{lawful_counted, lawful_drawn, counted_asked, counted_given, drawn_asked}
 use Rattle.sched_storm.proofs.Bounds.{granted_given, refused_given}
 use Rattle.sched_storm.proofs.Uses.{no_uses, past_counted, past_drawn}
 use Rattle.sched_storm.proofs.Balances.{AreUntil}
 use Rattle.sched_storm.specs.declared.parameters.Parameters.{Parameters}
-use Rattle.sched_storm.specs.declared.parameters.Draws.{Draws}
-use Rattle.sched_storm.specs.declared.parameters.Draws.TheVariants.{Nothing, Budget, Quota}
+use Rattle.sched_storm_limit.specs.declared.draws.Draws.{Draws}
+use Rattle.sched_storm_limit.specs.declared.draws.Draws.TheVariants.{Nothing, Budget, Quota, Limited}
 use Rattle.sched_storm.specs.declared.tickets.Drawn.{Drawn}
 
 -- What holds of the tickets where so many requests came, and so many retries were granted.
@@ -42,13 +44,20 @@ recounted p d n g n' g' same equal k = record {
   given = k.given ∙ ap (tickets_of p.draws) equal;
 }
 
+none_here : (draws : Draws) → AreGiven draws 0 0
+none_here Nothing = omega arith
+none_here (Budget limit) = omega arith
+none_here (Quota terms) = omega arith
+none_here (Limited limit) = tt
+
 none_lawful : (draws : Draws) (until : ℕ) → IsLawful draws until none_drawn
-none_lawful draws until = record { here = omega arith; before = omega arith; latest = omega arith }
+none_lawful draws until = record { here = none_here draws; before = omega arith; latest = omega arith }
 
 none_given : (draws : Draws) → 0 ≡ tickets_of draws 0
 none_given Nothing = refl
 none_given (Budget limit) = refl
 none_given (Quota terms) = refl
+none_given (Limited limit) = refl
 
 pub none_are : (p : Parameters) → TicketsAre p none_drawn 0 0
 none_are p = record {
@@ -69,24 +78,24 @@ request_is p t n g d ok by k = record {
 }
 
 -- a ticket is drawn, or none is left
-granted_is : (p : Parameters) (t n g : ℕ) (d : Drawn) → AreDraws p.draws → t ≤ p.until →
-    (draw_at p.draws t d).0 ≡ true →
-    TicketsAre p d n g → TicketsAre p (draw_at p.draws t d).1 n (g + 1)
-granted_is p t n g d ok by may k = record {
-  lawful = lawful_drawn p.draws p.until t d ok by k.lawful;
-  past = past_drawn p.draws p.until t d k.lawful k.past;
-  asked = drawn_asked p.draws t d ∙ k.asked;
-  given = granted_given p.draws t d g may k.given;
+granted_is : (p : Parameters) (may : Bool) (t n g : ℕ) (d : Drawn) → AreDraws p.draws → t ≤ p.until →
+    (draw_at p.draws may t d).0 ≡ true →
+    TicketsAre p d n g → TicketsAre p (draw_at p.draws may t d).1 n (g + 1)
+granted_is p may t n g d ok by is k = record {
+  lawful = lawful_drawn p.draws may p.until t d ok by k.lawful;
+  past = past_drawn p.draws may p.until t d k.lawful k.past;
+  asked = drawn_asked p.draws may t d ∙ k.asked;
+  given = granted_given p.draws may t d g is k.given;
 }
 
-refused_is : (p : Parameters) (t n g : ℕ) (d : Drawn) → AreDraws p.draws → t ≤ p.until →
-    (draw_at p.draws t d).0 ≡ false →
-    TicketsAre p d n g → TicketsAre p (draw_at p.draws t d).1 n g
-refused_is p t n g d ok by may k = record {
-  lawful = lawful_drawn p.draws p.until t d ok by k.lawful;
-  past = past_drawn p.draws p.until t d k.lawful k.past;
-  asked = drawn_asked p.draws t d ∙ k.asked;
-  given = refused_given p.draws t d may ∙ k.given;
+refused_is : (p : Parameters) (may : Bool) (t n g : ℕ) (d : Drawn) → AreDraws p.draws → t ≤ p.until →
+    (draw_at p.draws may t d).0 ≡ false →
+    TicketsAre p d n g → TicketsAre p (draw_at p.draws may t d).1 n g
+refused_is p may t n g d ok by is k = record {
+  lawful = lawful_drawn p.draws may p.until t d ok by k.lawful;
+  past = past_drawn p.draws may p.until t d k.lawful k.past;
+  asked = drawn_asked p.draws may t d ∙ k.asked;
+  given = refused_given p.draws may t d is ∙ k.given;
 }
 
 -- what an event adds to them
@@ -97,28 +106,39 @@ module _ (p : Parameters) (n g : ℕ) (ok : AreDraws p.draws) (t : ℕ) (by : t 
   plain : (d : Drawn) → TicketsAre p d n g → TicketsAre p d (n + 0) (g + 0)
   plain d k = recounted p d n g (n + 0) (g + 0) (sym (add-zero n)) (sym (add-zero g)) k
 
-  on_start : (s : Shared) (f : Failure) (h : List Failed_event) (start : Option ℕ) → TicketsAre p s.drawn n g →
-      Adds p n g (going_on p s t f h start).shared.drawn (going_on p s t f h start).told
-  on_start s f h None k = plain s.drawn k
-  on_start s f h (Some start) k = let drawn = draw_at p.draws t s.drawn in
-      let drawing_is : Bool → Answer Stage Shared Moment = drawing p (record s { drawn = drawn.1 }) t f h start in
+  on_start : (s : Shared) (r : ℕ) (f : Failure) (h : List Failed_event) (start : Option ℕ) →
+      TicketsAre p s.drawn n g →
+      Adds p n g (going_on p s r t f h start).shared.drawn (going_on p s r t f h start).told
+  on_start s r f h None k = plain s.drawn k
+  on_start s r f h (Some start) k =
+      let asked = limits.drawing p.draws (is_late f) t r s.limit in
+      let drawn = draw_at p.draws asked.0 t s.drawn in
+      let drawing_is : Bool → Answer Stage Shared Moment =
+      drawing p (record s { drawn = drawn.1; limit = asked.1 }) r t f h start in
       elim drawn.0 as (λ b. drawn.0 ≡ b → Adds p n g (drawing_is b).shared.drawn (drawing_is b).told) [
         | true ↦ λ e. recounted p drawn.1 n (g + 1) (n + 0) (g + 1) (sym (add-zero n)) refl
-            (granted_is p t n g s.drawn ok by e k)
-        | false ↦ λ e. plain drawn.1 (refused_is p t n g s.drawn ok by e k)
+            (granted_is p asked.0 t n g s.drawn ok by e k)
+        | false ↦ λ e. plain drawn.1 (refused_is p asked.0 t n g s.drawn ok by e k)
       ] refl
+
+  -- a request is counted, whether it is admitted or not
+  on_arrival : (s : Shared) (b : Bool) → TicketsAre p s.drawn (n + 1) g →
+      Adds p n g (arriving p s t b).shared.drawn (arriving p s t b).told
+  on_arrival s true k = recounted p s.drawn (n + 1) g (n + 1) (g + 0) refl (sym (add-zero g)) k
+  on_arrival s false k = recounted p s.drawn (n + 1) g (n + 1) (g + 0) refl (sym (add-zero g)) k
 
   step : (plan : Schedule) (s : Shared) (r : ℕ) (what : Stage) → TicketsAre p s.drawn n g →
       Adds p n g (playing p plan s r t what).shared.drawn (playing p plan s r t what).told
   step plan s r begins k =
-      recounted p (counted p.draws t s.drawn) (n + 1) g (n + 1) (g + 0) refl (sym (add-zero g))
-      (request_is p t n g s.drawn ok by k)
+      let asked = limits.admitting p.draws t r s.limit in
+      on_arrival (with_request p t (record s { limit = asked.1 })) asked.0 (request_is p t n g s.drawn ok by k)
   step plan s r (retries h) k = plain s.drawn k
   step plan s r succeeds k = plain s.drawn k
   step plan s r (fails f before) k =
       let words = next_four s.words in
       let h = with_failure before t words.0 (input_of f) in
-      on_start (record s { words = words.1 }) f h (start_of (answer plan h).decision) k
+      on_start (record s { words = words.1; limit = limits.failing p.draws t r s.limit }) r f h
+      (start_of (answer plan h).decision) k
 
 pub along : (p : Parameters) (plan : Schedule) → AreDraws p.draws →
     (es : List (Event Stage)) (s last : Shared) (n g : ℕ) →

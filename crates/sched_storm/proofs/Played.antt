@@ -1,6 +1,6 @@
 -- What becomes of a request where something is due of it: what is due next, and the tickets.
 use Rattle.std.proofs.Common.{◌≡◌, ℕ, ◌+◌, ◌<◌, ◌≤◌, Bool, true, false, cond, List, [], Option, Some, None, refl, sym}
-use Rattle.std.proofs.Common.{ap, subst, arith, leb-true}
+use Rattle.std.proofs.Common.{◌∙◌, ap, subst, arith, leb-true}
 use Rattle.std.specs.Prelude.{nat_le}
 use Rattle.sched_time.specs.Decision.{start_of}
 use Rattle.sched_plan.specs.Schedule.{Schedule}
@@ -8,13 +8,15 @@ use Rattle.sched_plan.specs.Answer.{answer}
 use Rattle.sched_plan.specs.declared.history.Event.{Event}
 use Rattle.sched_task.specs.Words.{next_four}
 use Rattle.sched_storm_trace.specs.Trace.{Due}
+use Rattle.sched_storm_report.specs.Moments.{is_call}
+use Rattle.sched_storm_limit.specs.Limits as limits
 use Rattle.sched_storm_report.specs.declared.moments.Failure.{Failure}
 use Rattle.sched_storm.specs.Calls.{called}
 use Rattle.sched_storm.specs.Tickets.{asked_of, given_of, draw_at}
 use Rattle.sched_storm.specs.Drivers.{input_of, with_failure}
-use Rattle.sched_storm.specs.Plays.{Stage, begins, retries, succeeds, fails, is_call, Shared, if_by, ending, drawing}
-use Rattle.sched_storm.specs.Plays.{going_on, playing}
-use Rattle.sched_storm.specs.Turns.{kind_of, is_call_kind}
+use Rattle.sched_storm.specs.Plays.{Stage, begins, retries, succeeds, fails, Shared, if_by, ending, is_late, drawing}
+use Rattle.sched_storm.specs.Plays.{going_on, with_request, arriving, playing}
+use Rattle.sched_storm.specs.Turns.{kind_of, begins_call}
 use Rattle.sched_storm.specs.Course.{IsPlacedAt, came}
 use Rattle.sched_storm.specs.declared.parameters.Parameters.{Parameters}
 use Rattle.sched_storm.specs.declared.calls.CallEnd.{CallEnd}
@@ -22,11 +24,36 @@ use Rattle.sched_storm.specs.declared.calls.CallEnd.TheVariants.{Succeeded, Fail
 use Rattle.sched_storm.specs.declared.tickets.Drawn.{Drawn}
 use Rattle.sched_storm.proofs.Bounds.{counted_asked, counted_given, drawn_asked, drawn_given}
 
-pub call_kind : (what : Stage) → is_call_kind (kind_of what) ≡ is_call what
-call_kind begins = refl
-call_kind (retries h) = refl
-call_kind succeeds = refl
-call_kind (fails failure h) = refl
+-- whether a call begins is what is told
+arrival_told : (p : Parameters) (s : Shared) (t : ℕ) (b : Bool) → is_call (arriving p s t b).told.what ≡ b
+arrival_told p s t true = refl
+arrival_told p s t false = refl
+
+call_drawn : (p : Parameters) (s : Shared) (r t : ℕ) (failure : Failure) (h : List Event) (start : ℕ) (b : Bool) →
+    is_call (drawing p s r t failure h start b).told.what ≡ false
+call_drawn p s r t failure h start true = refl
+call_drawn p s r t failure h start false = refl
+
+call_on : (p : Parameters) (s : Shared) (r t : ℕ) (failure : Failure) (h : List Event) (o : Option ℕ) →
+    is_call (going_on p s r t failure h o).told.what ≡ false
+call_on p s r t failure h None = refl
+call_on p s r t failure h (Some start) =
+    let asked = limits.drawing p.draws (is_late failure) t r s.limit in
+    let drawn = draw_at p.draws asked.0 t s.drawn in
+    call_drawn p (record s { drawn = drawn.1; limit = asked.1 }) r t failure h start drawn.0
+
+pub call_told : (p : Parameters) (plan : Schedule) (s : Shared) (r t : ℕ) (what : Stage) →
+    is_call (playing p plan s r t what).told.what ≡ begins_call p s r t (kind_of what)
+call_told p plan s r t begins =
+    let asked = limits.admitting p.draws t r s.limit in
+    arrival_told p (with_request p t (record s { limit = asked.1 })) t asked.0
+call_told p plan s r t (retries h) = refl
+call_told p plan s r t succeeds = refl
+call_told p plan s r t (fails failure before) =
+    let words = next_four s.words in
+    let h = with_failure before t words.0 (input_of failure) in
+    call_on p (record s { words = words.1; limit = limits.failing p.draws t r s.limit }) r t failure h
+    (start_of (answer plan h).decision)
 
 -- ---- what is due next
 
@@ -72,75 +99,99 @@ none_due until d h = absurd (none_some h)
     none_some : {X : Type 0} {a : X} → None ≡ Some a → ⊥
     none_some h = cc
 
-due_drawn : (p : Parameters) (s : Shared) (t : ℕ) (failure : Failure) (h : List Event) (start : ℕ) (d : Due Stage)
+due_drawn : (p : Parameters) (s : Shared) (r t : ℕ) (failure : Failure) (h : List Event) (start : ℕ) (d : Due Stage)
     (b : Bool) →
-    (drawing p s t failure h start b).next ≡ Some d → IsDueNext p.until d
-due_drawn p s t failure h start d true e = due_if p.until start (retries h) d (λ r requests k. k) e
-due_drawn p s t failure h start d false e = none_due p.until d e
+    (drawing p s r t failure h start b).next ≡ Some d → IsDueNext p.until d
+due_drawn p s r t failure h start d true e = due_if p.until start (retries h) d (λ r requests k. k) e
+due_drawn p s r t failure h start d false e = none_due p.until d e
 
-due_on : (p : Parameters) (s : Shared) (t : ℕ) (failure : Failure) (h : List Event) (o : Option ℕ) (d : Due Stage) →
-    (going_on p s t failure h o).next ≡ Some d → IsDueNext p.until d
-due_on p s t failure h None d e = none_due p.until d e
-due_on p s t failure h (Some start) d e =
-    let drawn = draw_at p.draws t s.drawn in
-    due_drawn p (record s { drawn = drawn.1 }) t failure h start d drawn.0 e
+due_on : (p : Parameters) (s : Shared) (r t : ℕ) (failure : Failure) (h : List Event) (o : Option ℕ) (d : Due Stage) →
+    (going_on p s r t failure h o).next ≡ Some d → IsDueNext p.until d
+due_on p s r t failure h None d e = none_due p.until d e
+due_on p s r t failure h (Some start) d e =
+    let asked = limits.drawing p.draws (is_late failure) t r s.limit in
+    let drawn = draw_at p.draws asked.0 t s.drawn in
+    due_drawn p (record s { drawn = drawn.1; limit = asked.1 }) r t failure h start d drawn.0 e
+
+due_arriving : (p : Parameters) (s : Shared) (t : ℕ) (d : Due Stage) (b : Bool) →
+    (arriving p s t b).next ≡ Some d → IsDueNext p.until d
+due_arriving p s t d true e =
+    let c = called p s.busy t in due_if p.until c.ends (ending c.how []) d (ends_later c.how []) e
+due_arriving p s t d false e = none_due p.until d e
 
 pub due_next : (p : Parameters) (plan : Schedule) (s : Shared) (r t : ℕ) (what : Stage) (d : Due Stage) →
     (playing p plan s r t what).next ≡ Some d → IsDueNext p.until d
 due_next p plan s r t begins d e =
-    let c = called p s.busy t in due_if p.until c.ends (ending c.how []) d (ends_later c.how []) e
+    let asked = limits.admitting p.draws t r s.limit in
+    due_arriving p (with_request p t (record s { limit = asked.1 })) t d asked.0 e
 due_next p plan s r t (retries h) d e =
     let c = called p s.busy t in due_if p.until c.ends (ending c.how h) d (ends_later c.how h) e
 due_next p plan s r t succeeds d e = none_due p.until d e
 due_next p plan s r t (fails failure before) d e =
     let words = next_four s.words in
     let h = with_failure before t words.0 (input_of failure) in
-    due_on p (record s { words = words.1 }) t failure h (start_of (answer plan h).decision) d e
+    due_on p (record s { words = words.1; limit = limits.failing p.draws t r s.limit }) r t failure h
+    (start_of (answer plan h).decision) d e
 
 -- ---- the tickets
 
-asked_drawing : (p : Parameters) (s : Shared) (t : ℕ) (failure : Failure) (h : List Event) (start : ℕ) (b : Bool) →
-    (drawing p s t failure h start b).shared ≡ s
-asked_drawing p s t failure h start true = refl
-asked_drawing p s t failure h start false = refl
+drawn_drawing : (p : Parameters) (s : Shared) (r t : ℕ) (failure : Failure) (h : List Event) (start : ℕ) (b : Bool) →
+    (drawing p s r t failure h start b).shared.drawn ≡ s.drawn
+drawn_drawing p s r t failure h start true = refl
+drawn_drawing p s r t failure h start false = refl
 
-on_asked : (p : Parameters) (s : Shared) (t : ℕ) (failure : Failure) (h : List Event) (o : Option ℕ) →
-    asked_of (going_on p s t failure h o).shared.drawn ≡ asked_of s.drawn
-on_asked p s t failure h None = refl
-on_asked p s t failure h (Some start) =
-    let drawn = draw_at p.draws t s.drawn in
-    let same = ap (λ (x : Shared). asked_of x.drawn)
-    (asked_drawing p (record s { drawn = drawn.1 }) t failure h start drawn.0) in
-    let asked = drawn_asked p.draws t s.drawn in
+on_asked : (p : Parameters) (s : Shared) (r t : ℕ) (failure : Failure) (h : List Event) (o : Option ℕ) →
+    asked_of (going_on p s r t failure h o).shared.drawn ≡ asked_of s.drawn
+on_asked p s r t failure h None = refl
+on_asked p s r t failure h (Some start) =
+    let may = limits.drawing p.draws (is_late failure) t r s.limit in
+    let drawn = draw_at p.draws may.0 t s.drawn in
+    let same = ap asked_of
+    (drawn_drawing p (record s { drawn = drawn.1; limit = may.1 }) r t failure h start drawn.0) in
+    let asked = drawn_asked p.draws may.0 t s.drawn in
     omega arith
 
-on_given : (p : Parameters) (s : Shared) (t : ℕ) (failure : Failure) (h : List Event) (o : Option ℕ) →
-    given_of (going_on p s t failure h o).shared.drawn ≤ given_of s.drawn + 1
-on_given p s t failure h None = omega arith
-on_given p s t failure h (Some start) =
-    let drawn = draw_at p.draws t s.drawn in
-    let same = ap (λ (x : Shared). given_of x.drawn)
-    (asked_drawing p (record s { drawn = drawn.1 }) t failure h start drawn.0) in
-    let given = drawn_given p.draws t s.drawn in
+on_given : (p : Parameters) (s : Shared) (r t : ℕ) (failure : Failure) (h : List Event) (o : Option ℕ) →
+    given_of (going_on p s r t failure h o).shared.drawn ≤ given_of s.drawn + 1
+on_given p s r t failure h None = omega arith
+on_given p s r t failure h (Some start) =
+    let may = limits.drawing p.draws (is_late failure) t r s.limit in
+    let drawn = draw_at p.draws may.0 t s.drawn in
+    let same = ap given_of
+    (drawn_drawing p (record s { drawn = drawn.1; limit = may.1 }) r t failure h start drawn.0) in
+    let given = drawn_given p.draws may.0 t s.drawn in
     omega arith
+
+drawn_arriving : (p : Parameters) (s : Shared) (t : ℕ) (b : Bool) → (arriving p s t b).shared.drawn ≡ s.drawn
+drawn_arriving p s t true = refl
+drawn_arriving p s t false = refl
 
 pub played_asked : (p : Parameters) (plan : Schedule) (s : Shared) (r t : ℕ) (what : Stage) →
     asked_of (playing p plan s r t what).shared.drawn ≡ asked_of s.drawn + came (kind_of what)
-played_asked p plan s r t begins = counted_asked p.draws t s.drawn
+played_asked p plan s r t begins =
+    let may = limits.admitting p.draws t r s.limit in
+    ap asked_of (drawn_arriving p (with_request p t (record s { limit = may.1 })) t may.0)
+    ∙ counted_asked p.draws t s.drawn
 played_asked p plan s r t (retries h) = omega arith
 played_asked p plan s r t succeeds = omega arith
 played_asked p plan s r t (fails failure before) =
     let words = next_four s.words in
     let h = with_failure before t words.0 (input_of failure) in
-    let same = on_asked p (record s { words = words.1 }) t failure h (start_of (answer plan h).decision) in
+    let same = on_asked p (record s { words = words.1; limit = limits.failing p.draws t r s.limit }) r t failure h
+    (start_of (answer plan h).decision) in
     omega arith
 
 pub played_given : (p : Parameters) (plan : Schedule) (s : Shared) (r t : ℕ) (what : Stage) →
     given_of (playing p plan s r t what).shared.drawn ≤ given_of s.drawn + 1
-played_given p plan s r t begins = let same = counted_given p.draws t s.drawn in omega arith
+played_given p plan s r t begins =
+    let may = limits.admitting p.draws t r s.limit in
+    let arrived = ap given_of (drawn_arriving p (with_request p t (record s { limit = may.1 })) t may.0) in
+    let same = counted_given p.draws t s.drawn in
+    omega arith
 played_given p plan s r t (retries h) = omega arith
 played_given p plan s r t succeeds = omega arith
 played_given p plan s r t (fails failure before) =
     let words = next_four s.words in
     let h = with_failure before t words.0 (input_of failure) in
-    on_given p (record s { words = words.1 }) t failure h (start_of (answer plan h).decision)
+    on_given p (record s { words = words.1; limit = limits.failing p.draws t r s.limit }) r t failure h
+    (start_of (answer plan h).decision)

@@ -5,8 +5,9 @@ use Rattle.std.proofs.lemmas.Bool.{cases_lt}
 use Rattle.sched_plan.specs.Schedule.{Schedule}
 use Rattle.sched_storm_trace.specs.Trace.{Due, Event, NotAfter}
 use Rattle.sched_storm.specs.Parameters.{all_requests, comes_at}
-use Rattle.sched_storm.specs.Plays.{Stage, begins, retries, succeeds, fails, is_call, Shared, playing, played}
-use Rattle.sched_storm.specs.Turns.{kind_of, is_call_kind, turn_for}
+use Rattle.sched_storm.specs.Plays.{Stage, begins, retries, succeeds, fails, Shared, playing, played}
+use Rattle.sched_storm_report.specs.Moments.{is_call}
+use Rattle.sched_storm.specs.Turns.{kind_of, begins_call, turn_for}
 use Rattle.sched_storm.specs.Storms.{calls_of, CallIsNext}
 use Rattle.sched_storm.specs.Course.{shared_of, slot_of, Drives, IsReady, HasAnswered, Rests, IsPlacedAt, IsDrivenAt}
 use Rattle.sched_storm.specs.Course.{IsDriven, IsCounted, Stands, StandsFirst, StandsAfter, IsOver}
@@ -14,11 +15,12 @@ use Rattle.sched_storm.specs.declared.turns.Kind.{Kind}
 use Rattle.sched_storm.specs.declared.turns.Turn.{Turn}
 use Rattle.sched_storm.specs.declared.course.Course.{Course}
 use Rattle.sched_storm.proofs.Length.{few_events}
-use Rattle.sched_storm.proofs.Played.{call_kind}
+use Rattle.sched_storm.proofs.Played.{call_told}
 use Rattle.sched_storm.proofs.Steps.{stands_later}
 
--- how many events there were, at most two for each call
-pub few_said : (c : Course) (hand : Option Turn) → Stands c hand → c.tally.said ≤ 2 * c.storm.calls
+-- how many events there were, at most two for each call, and one for each request
+pub few_said : (c : Course) (hand : Option Turn) → Stands c hand →
+    c.tally.said ≤ 2 * c.storm.calls + all_requests c.storm
 few_said c hand h =
     let few = few_events c.storm c.plan h.events h.due (shared_of c) h.begun in
     let said = h.said in
@@ -94,7 +96,7 @@ module _ (c : Course) (turn : Turn) (h : StandsFirst c (Some turn)) where
       ((what : Stage) → kind_of what ≡ turn.kind → Drives c.plan (slot_of c turn.request) turn.at what →
       HasAnswered (playing c.storm c.plan (shared_of c) turn.request turn.at what) turn.at turn.request c new next) →
       Rests turn.at turn.request c new → IsCounted turn.kind c new →
-      (IsTrue (is_call_kind turn.kind) → c.calls < c.storm.calls) →
+      (IsTrue (begins_call c.storm (shared_of c) turn.request turn.at turn.kind) → c.calls < c.storm.calls) →
       StandsAfter turn.at turn.request new next
   step_after new next answered rests counted room =
       let r = turn.request in
@@ -103,8 +105,9 @@ module _ (c : Course) (turn : Turn) (h : StandsFirst c (Some turn)) where
       in
       let rest = subst (λ t. Rests t r c new) at_is rests in
       let count = subst (λ k. IsCounted k c new) kind_is counted in
-      let may : IsTrue (is_call_kind (kind_of d.what)) → c.calls < c.storm.calls =
-      subst (λ k. IsTrue (is_call_kind k) → c.calls < c.storm.calls) kind_is room in
+      let may : IsTrue (begins_call c.storm (shared_of c) r d.at (kind_of d.what)) → c.calls < c.storm.calls =
+      subst (λ t. IsTrue (begins_call c.storm (shared_of c) r t (kind_of d.what)) → c.calls < c.storm.calls) at_is
+      (subst (λ k. IsTrue (begins_call c.storm (shared_of c) r turn.at k) → c.calls < c.storm.calls) kind_is room) in
       let placed = subst (λ k. IsPlacedAt k r c.requests) kind_is h.stands.out.placed in
       let least = λ (q : ℕ) (e : Due Stage) (is : h.stands.due q ≡ Some e). subst (λ t. NotAfter t r e.at q) at_is
       (h.first_is q e is) in
@@ -112,13 +115,18 @@ module _ (c : Course) (turn : Turn) (h : StandsFirst c (Some turn)) where
       (stands_later c new turn d next h.stands h.stands.out.is_due h.stands.out.not_held placed least answer rest count
       may)
 
-  pub is_cut : IsTrue (is_call_kind turn.kind) → c.calls ≡ c.storm.calls → IsOver c true
+  pub is_cut : IsTrue (begins_call c.storm (shared_of c) turn.request turn.at turn.kind) → c.calls ≡ c.storm.calls →
+      IsOver c true
   is_cut call full =
       let r = turn.request in
       let few = few_said c (Some turn) h.stands in
       let most = h.stands.in_range.report.calls in
-      let calls : IsTrue (is_call d.what) = subst (λ b. IsTrue b) (ap is_call_kind kind_is ∙ call_kind d.what) call in
-      let next : CallIsNext h.stands.due = record {
+      let calls : IsTrue (is_call (played c.storm c.plan (shared_of c) r d).told.what) =
+      subst (λ b. IsTrue b) (sym (call_told c.storm c.plan (shared_of c) r d.at d.what))
+      (subst (λ t. IsTrue (begins_call c.storm (shared_of c) r t (kind_of d.what))) at_is
+      (subst (λ k. IsTrue (begins_call c.storm (shared_of c) r turn.at k)) kind_is call)) in
+      let all = h.stands.in_range.requests.all in
+      let next : CallIsNext c.storm c.plan h.stands.due (shared_of c) = record {
         request = r;
         call = d;
         is_due = h.stands.out.is_due;
@@ -143,6 +151,7 @@ pub is_done : (c : Course) → StandsFirst c None → IsOver c false
 is_done c h =
     let few = few_said c None h.stands in
     let most = h.stands.in_range.report.calls in
+    let all = h.stands.in_range.requests.all in
     let calls = h.stands.few_calls in
     let of = h.stands.calls in
     record {

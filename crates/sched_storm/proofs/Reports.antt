@@ -7,7 +7,8 @@ use Rattle.sched_storm_report.specs.declared.peer.Peer.{Peer}
 use Rattle.sched_storm_report.specs.declared.report.Ends.{Ends}
 use Rattle.sched_storm_report.specs.declared.report.Report.{Report}
 use Rattle.sched_storm_report.specs.declared.report.Totals.{Totals}
-use Rattle.sched_storm.specs.Parameters.{peer_of, end_of_trouble, has_draws}
+use Rattle.sched_storm_limit.specs.Ranges.{has_draws}
+use Rattle.sched_storm.specs.Parameters.{peer_of, end_of_trouble}
 use Rattle.sched_storm.specs.Plays.{Stage, start_at, played}
 use Rattle.sched_storm.specs.Storms.{IsStorm, ends_of, IsReportOf, Reports}
 use Rattle.sched_storm.specs.Course.{IsOver}

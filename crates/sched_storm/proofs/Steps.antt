@@ -13,12 +13,14 @@ use Rattle.sched_storm_report.specs.declared.peer.Peer.{Peer}
 use Rattle.sched_storm_report.specs.declared.moments.Moment.{Moment}
 use Rattle.sched_storm.specs.Parameters.{all_requests, comes_at, peer_of}
 use Rattle.sched_storm.specs.Tickets.{asked_of, given_of}
-use Rattle.sched_storm.specs.Plays.{Stage, begins, retries, succeeds, fails, is_call, Shared, start_at, first, if_by}
+use Rattle.sched_storm.specs.Plays.{Stage, begins, retries, succeeds, fails, Shared, start_at, first, if_by}
 use Rattle.sched_storm.specs.Plays.{playing, played}
-use Rattle.sched_storm.specs.Turns.{kind_of, is_call_kind, turn_for, turn_if}
+use Rattle.sched_storm.specs.Turns.{kind_of, begins_call, turn_for, turn_if}
 use Rattle.sched_storm.specs.Keys.{Holds}
 use Rattle.sched_storm.specs.Storms.{calls_of}
-use Rattle.sched_storm.specs.Course.{shared_of, slot_of, Drives, HasAnswered, Rests, IsPlacedAt, IsPlacedBy, came}
+use Rattle.sched_storm_report.specs.Moments.{is_call}
+use Rattle.sched_storm.specs.Course.{shared_of, slot_of, Drives, calls_told, HasAnswered, Rests, IsPlacedAt}
+use Rattle.sched_storm.specs.Course.{IsPlacedBy, came}
 use Rattle.sched_storm.specs.Course.{AreCounted, IsCounted, keys_of, IsOther, IsTakenOut, IsOut, IsNear, Stands}
 use Rattle.sched_storm.specs.Course.{IsLeast, IsTurnOf, StandsAfter}
 use Rattle.sched_storm.specs.declared.parameters.Parameters.{Parameters}
@@ -26,29 +28,10 @@ use Rattle.sched_storm.specs.declared.turns.Kind.{Kind}
 use Rattle.sched_storm.specs.declared.turns.Kind.TheVariants.{Begins, Retries, Succeeds, Fails}
 use Rattle.sched_storm.specs.declared.turns.Turn.{Turn}
 use Rattle.sched_storm.specs.declared.course.Course.{Course}
-use Rattle.sched_storm.proofs.Played.{IsDueNext, due_next, played_asked, played_given, call_kind}
+use Rattle.sched_storm.proofs.Played.{IsDueNext, due_next, played_asked, played_given, call_told}
 
 up : (a b c : ℕ) → a ≤ b → b ≤ c → a ≤ c
 up a b c h k = omega arith
-
-counted_calls : (k : Kind) (old new : Course) → IsCounted k old new → new.calls ≡ old.calls + cond (is_call_kind k) 1 0
-counted_calls Begins old new h = h.calls_are
-counted_calls Retries old new h = h.calls_are
-counted_calls Succeeds old new h = h.calls_are
-counted_calls (Fails failure) old new h = h.calls_are
-
-counted_comes : (k : Kind) (old new : Course) → IsCounted k old new → old.comes ≡ comes_at old.storm old.requests →
-    new.comes ≡ comes_at old.storm new.requests
-counted_comes Begins old new h = h.comes
-counted_comes Retries old new h = h.comes
-counted_comes Succeeds old new h = h.comes
-counted_comes (Fails failure) old new h = h.comes
-
-counted_requests : (k : Kind) (old new : Course) → IsCounted k old new → new.requests ≡ old.requests + came k
-counted_requests Begins old new h = h.requests_are
-counted_requests Retries old new h = h.requests_are
-counted_requests Succeeds old new h = h.requests_are
-counted_requests (Fails failure) old new h = h.requests_are
 
 -- the request of a turn came by then, and another came only where it had
 came_by : (k : Kind) (r requests : ℕ) → IsPlacedAt k r requests → r < requests + came k
@@ -111,7 +94,8 @@ module _ (old new : Course) (turn : Turn) (d : Due Stage) (next : Option Turn) (
     (least : IsLeast was.due d.at turn.request)
     (answered : HasAnswered (played old.storm old.plan (shared_of old) turn.request d) d.at turn.request old new next)
     (rests : Rests d.at turn.request old new)
-    (counted : IsCounted (kind_of d.what) old new) (room : IsTrue (is_call_kind (kind_of d.what)) →
+    (counted : IsCounted (kind_of d.what) old new)
+    (room : IsTrue (begins_call old.storm (shared_of old) turn.request d.at (kind_of d.what)) →
     old.calls < old.storm.calls) where
   abbrev r : ℕ
   r = turn.request
@@ -158,7 +142,7 @@ module _ (old new : Course) (turn : Turn) (d : Due Stage) (next : Option Turn) (
       (subst (λ ms. AreTold peer ms new.tally) (sym pushed) told))
 
   requests_new : new.requests ≡ old.requests + came (kind_of d.what)
-  requests_new = counted_requests (kind_of d.what) old new counted
+  requests_new = counted.requests_are
 
   came_here : r < new.requests
   came_here = let came = came_by (kind_of d.what) r old.requests placed in let more = requests_new in omega arith
@@ -220,15 +204,24 @@ module _ (old new : Course) (turn : Turn) (d : Due Stage) (next : Option Turn) (
             (subst (λ o. Drives old.plan o e.at e.what) (sym (rests.others q apart)) near.drives);
       }
 
-  calls_more : calls_of events ≡ calls_of was.events + cond (is_call d.what) 1 0
+  calls_more : calls_of old.storm old.plan events ≡ calls_of old.storm old.plan was.events + calls_told after.told
   calls_more =
-      let all = sum_by-append (λ (e : Event Stage). cond (is_call e.due.what) 1 0) was.events (event ∷ []) in
-      let one = sum_by-cons (λ (e : Event Stage). cond (is_call e.due.what) 1 0) event [] in
+      let ms : List Moment = told_by (played old.storm old.plan) (start_at old.storm) was.events in
+      let pushed = ap (λ ms. count_by (λ (m : Moment). is_call m.what) ms)
+      (told_push (played old.storm old.plan) (start_at old.storm) was.events (shared_of old) event was.begun.answers) in
+      let all = sum_by-append (λ (m : Moment). cond (is_call m.what) 1 0) ms (after.told ∷ []) in
+      let one = sum_by-cons (λ (m : Moment). cond (is_call m.what) 1 0) after.told [] in
       omega arith
 
-  calls_new : new.calls ≡ old.calls + cond (is_call d.what) 1 0
-  calls_new = counted_calls (kind_of d.what) old new counted ∙ ap {B = ℕ} (λ b. old.calls + cond b 1 0)
-      (call_kind d.what)
+  calls_same : calls_of new.storm new.plan events ≡ calls_of old.storm old.plan events
+  calls_same = ap (λ p. calls_of p new.plan events) rests.storm ∙ ap (λ plan. calls_of old.storm plan events) rests.plan
+
+  few_calls_new : new.calls ≤ old.storm.calls
+  few_calls_new =
+      let calls = answered.calls in
+      let few = few_calls_if (is_call after.told.what) old.calls old.storm.calls was.few_calls
+      (λ is. room (subst (λ b. IsTrue b) (call_told old.storm old.plan (shared_of old) r d.at d.what) is)) in
+      omega arith
 
   length_more : length events ≡ length was.events + 1
   length_more = length-append was.events (event ∷ [])
@@ -246,13 +239,13 @@ module _ (old new : Course) (turn : Turn) (d : Due Stage) (next : Option Turn) (
     unheld = λ q h. was.unheld q (let more = requests_new in omega arith);
     near = λ q e at. near_if q e (eqb r q) refl at;
     in_range = rw rests.storm was.in_range;
-    comes = rw rests.storm (counted_comes (kind_of d.what) old new counted was.comes);
+    comes = rw rests.storm (counted.comes was.comes);
     requests = rw (rests.storm, requests_new) (few_came (kind_of d.what) r old.requests
         (all_requests old.storm) placed near_here.number was.requests);
     slots = rests.slots;
-    calls = calls_new ∙ (ap {B = ℕ} (λ n. n + cond (is_call d.what) 1 0) was.calls ∙ sym calls_more);
-    few_calls = rw (rests.storm, counted_calls (kind_of d.what) old new counted)
-        (few_calls_if (is_call_kind (kind_of d.what)) old.calls old.storm.calls was.few_calls room);
+    calls = answered.calls
+        ∙ (ap {B = ℕ} (λ n. n + calls_told after.told) was.calls ∙ (sym calls_more ∙ sym calls_same));
+    few_calls = rw rests.storm few_calls_new;
     busy = rests.busy;
     asked =
         let shared = ap (λ (s : Shared). asked_of s.drawn) answered.shared_is in

@@ -6,8 +6,8 @@ use Rattle.sched_ticket_quota.specs.declared.view.Terms.{Terms}
 use Rattle.sched_storm.specs.Tickets.{asked_of, given_of, turned, at_moment, with_request, counted, may_draw}
 use Rattle.sched_storm.specs.Tickets.{with_ticket, draw_at}
 use Rattle.sched_storm.specs.Tickets.{Use, AreWithin, AreUses, HasUses, IsLawful}
-use Rattle.sched_storm.specs.declared.parameters.Draws.{Draws}
-use Rattle.sched_storm.specs.declared.parameters.Draws.TheVariants.{Nothing, Budget, Quota}
+use Rattle.sched_storm_limit.specs.declared.draws.Draws.{Draws}
+use Rattle.sched_storm_limit.specs.declared.draws.Draws.TheVariants.{Nothing, Budget, Quota, Limited}
 use Rattle.sched_storm.specs.declared.tickets.Drawn.{Drawn}
 
 -- the windows before the latest one
@@ -18,6 +18,7 @@ pub no_uses : (draws : Draws) → HasUses draws 0 0 0
 no_uses Nothing = tt
 no_uses (Budget limit) = tt
 no_uses (Quota terms) = ([], tt, record { asked_is = refl; given_is = refl })
+no_uses (Limited limit) = tt
 
 -- the latest one beside those before it
 with_latest : (k : Terms) (d : Drawn) (w until : ℕ) → d.window < w → IsLawful (Quota k) until d → Past (Quota k) d →
@@ -46,6 +47,7 @@ past_at Nothing until t d law past = tt
 past_at (Budget limit) until t d law past = tt
 past_at (Quota k) until t d law past = past_turned k until (t / k.period) d law past
     (nat_lt d.window (t / k.period)) refl
+past_at (Limited limit) until t d law past = tt
 
 pub past_counted : (draws : Draws) (until t : ℕ) (d : Drawn) → IsLawful draws until d → Past draws d →
     Past draws (counted draws t d)
@@ -55,15 +57,16 @@ past_ticket : (draws : Draws) (d : Drawn) → Past draws d → Past draws (with_
 past_ticket Nothing d past = tt
 past_ticket (Budget limit) d past = tt
 past_ticket (Quota k) d past = past
+past_ticket (Limited limit) d past = tt
 
 past_drawn_if : (draws : Draws) (d : Drawn) (b : Bool) → Past draws d → Past draws (cond b (with_ticket draws d) d)
 past_drawn_if draws d true past = past_ticket draws d past
 past_drawn_if draws d false past = past
 
-pub past_drawn : (draws : Draws) (until t : ℕ) (d : Drawn) → IsLawful draws until d → Past draws d →
-    Past draws (draw_at draws t d).1
-past_drawn draws until t d law past =
-    let e = at_moment draws t d in past_drawn_if draws e (may_draw draws e) (past_at draws until t d law past)
+pub past_drawn : (draws : Draws) (may : Bool) (until t : ℕ) (d : Drawn) → IsLawful draws until d → Past draws d →
+    Past draws (draw_at draws may t d).1
+past_drawn draws may until t d law past =
+    let e = at_moment draws t d in past_drawn_if draws e (may_draw draws may e) (past_at draws until t d law past)
 
 -- all windows
 pub all_uses : (draws : Draws) (until : ℕ) (d : Drawn) → IsLawful draws until d → Past draws d →
@@ -71,3 +74,4 @@ pub all_uses : (draws : Draws) (until : ℕ) (d : Drawn) → IsLawful draws unti
 all_uses Nothing until d law past = (0, tt)
 all_uses (Budget limit) until d law past = (0, tt)
 all_uses (Quota k) until d law past = (d.window + 1, with_latest k d (d.window + 1) until (omega arith) law past)
+all_uses (Limited limit) until d law past = (0, tt)

@@ -7,13 +7,15 @@ use Rattle.sched_plan.specs.Schedule.{Schedule}
 use Rattle.sched_plan.specs.History.{last_moment}
 use Rattle.sched_driver_stepper.specs.Standing.{Standing}
 use Rattle.sched_storm_trace.specs.Trace.{Due, Event, Answer, updated, NotAfter, IsBeginning, told_by}
+use Rattle.sched_storm_report.specs.Moments.{is_call}
 use Rattle.sched_storm_report.specs.Told.{AreTold}
 use Rattle.sched_storm_report.specs.declared.moments.Moment.{Moment}
 use Rattle.sched_storm_report.specs.declared.peer.Peer.{Peer}
+use Rattle.sched_storm_limit.specs.States.{state_of}
 use Rattle.sched_storm.specs.Parameters.{AreInRange, all_requests, comes_at, peer_of}
 use Rattle.sched_storm.specs.Tickets.{asked_of, given_of}
 use Rattle.sched_storm.specs.Drivers.{DriverStands, MayFail}
-use Rattle.sched_storm.specs.Plays.{Stage, begins, retries, succeeds, fails, is_call, Shared, words_of, start_at, first}
+use Rattle.sched_storm.specs.Plays.{Stage, begins, retries, succeeds, fails, Shared, words_of, start_at, first}
 use Rattle.sched_storm.specs.Plays.{playing, played}
 use Rattle.sched_storm.specs.Turns.{kind_of, turn_for, turn_if}
 use Rattle.sched_storm.specs.Keys.{key_of, Holds}
@@ -25,7 +27,7 @@ use Rattle.sched_storm.specs.declared.turns.Turn.{Turn}
 use Rattle.sched_storm.specs.declared.course.Course.{Course}
 
 abbrev pub shared_of : Course → Shared
-shared_of c = record { busy = c.busy; words = words_of c.words; drawn = c.drawn }
+shared_of c = record { busy = c.busy; words = words_of c.words; drawn = c.drawn; limit = state_of c.limit }
 
 -- the driver of a request, where it has one
 abbrev pub slot_of : Course → ℕ → Option (Box Standing Global)
@@ -53,6 +55,10 @@ pub record IsReady (c : Course) (t r : ℕ) : Type 0 where
   pub told : c.tally.from ≤ t
   pub said : c.tally.said < 1099511627776
 
+-- a call that is told of
+abbrev pub calls_told : Moment → ℕ
+calls_told m = if is_call m.what then 1 else 0
+
 -- A course has answered what was due of a request at a moment so.
 pub record HasAnswered (a : Answer Stage Shared Moment) (t r : ℕ) (old new : Course) (next : Option Turn) : Type 0 where
   pub next_is : next ≡ turn_if r a.next
@@ -61,6 +67,7 @@ pub record HasAnswered (a : Answer Stage Shared Moment) (t r : ℕ) (old new : C
       AreTold peer (ms ++ a.told ∷ []) new.tally
   pub drives : (d : Due Stage) → a.next ≡ Some d → Drives old.plan (slot_of new r) d.at d.what
   pub later : (d : Due Stage) → a.next ≡ Some d → t ≤ d.at
+  pub calls : new.calls ≡ old.calls + calls_told a.told
 
 -- What an event of a request leaves as it was.
 pub record Rests (t r : ℕ) (old new : Course) : Type 0 where
@@ -104,17 +111,13 @@ abbrev pub came : Kind → ℕ
 came Begins = 1
 came _ = 0
 
--- a request that comes and a call that begins are counted
-pub record AreCounted (requests calls : ℕ) (old new : Course) : Type 0 where
+-- a request that comes is counted
+pub record AreCounted (requests : ℕ) (old new : Course) : Type 0 where
   pub requests_are : new.requests ≡ old.requests + requests
   pub comes : old.comes ≡ comes_at old.storm old.requests → new.comes ≡ comes_at old.storm new.requests
-  pub calls_are : new.calls ≡ old.calls + calls
 
 abbrev pub IsCounted : Kind → Course → Course → Type 0
-IsCounted Begins old new = AreCounted 1 1 old new
-IsCounted Retries old new = AreCounted 0 1 old new
-IsCounted Succeeds old new = AreCounted 0 0 old new
-IsCounted (Fails failure) old new = AreCounted 0 0 old new
+IsCounted kind old new = AreCounted (came kind) old new
 
 -- the keys of what is due of requests
 abbrev pub key_if : ℕ → Option (Due Stage) → Option ℕ
@@ -168,7 +171,7 @@ pub record Stands (c : Course) (hand : Option Turn) : Type 0 where
   pub comes : c.comes ≡ comes_at c.storm c.requests
   pub requests : c.requests ≤ all_requests c.storm
   pub slots : vec_len c.drivers.slots ≡ c.requests
-  pub calls : c.calls ≡ calls_of events
+  pub calls : c.calls ≡ calls_of c.storm c.plan events
   pub few_calls : c.calls ≤ c.storm.calls
   pub busy : c.busy ≤ 900000000000000
   pub asked : asked_of c.drawn ≡ c.requests

@@ -1,17 +1,10 @@
 -- The parameters of a storm: which are in range, and when each request comes.
-use Rattle.std.specs.Prelude.{ℕ, ◌*◌, ◌/◌, ◌≤◌, max, Bool, true, false, Option, Some, None}
-use Rattle.sched_ticket_quota.specs.Held.{AreTerms}
+use Rattle.std.specs.Prelude.{ℕ, ◌*◌, ◌/◌, ◌≤◌, max, Option, Some, None}
 use Rattle.sched_storm_report.specs.Peer.{IsSpan, IsSlow}
 use Rattle.sched_storm_report.specs.declared.peer.BrownOut.{BrownOut}
 use Rattle.sched_storm_report.specs.declared.peer.Peer.{Peer}
-use Rattle.sched_storm.specs.declared.parameters.Draws.{Draws}
-use Rattle.sched_storm.specs.declared.parameters.Draws.TheVariants.{Nothing, Budget, Quota}
+use Rattle.sched_storm_limit.specs.Ranges.{AreDraws}
 use Rattle.sched_storm.specs.declared.parameters.Parameters.{Parameters}
-
-abbrev pub AreDraws : Draws → Type 0
-AreDraws Nothing = Unit {0}
-AreDraws (Budget limit) = limit ≤ 4294967296
-AreDraws (Quota terms) = AreTerms terms
 
 -- the peer that the calls come to
 abbrev pub peer_of : Parameters → Peer
@@ -24,11 +17,6 @@ end_of_slow (Some b) = b.span.to
 -- when the outage and the brown-out are over
 abbrev pub end_of_trouble : Parameters → ℕ
 end_of_trouble p = max p.outage.to (end_of_slow p.slow)
-
--- whether retries draw on anything
-abbrev pub has_draws : Draws → Bool
-has_draws Nothing = false
-has_draws _ = true
 
 -- how many requests come in all, where `until` allows
 abbrev pub all_requests : Parameters → ℕ

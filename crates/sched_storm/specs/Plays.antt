@@ -12,11 +12,14 @@ use Rattle.sched_plan.specs.declared.history.Event.{Event}
 use Rattle.sched_task.specs.Words.{next_four}
 use Rattle.sched_storm_trace.specs.Trace.{Due, Answer}
 use Rattle.sched_storm_report.specs.declared.moments.Failure.{Failure}
+use Rattle.sched_storm_report.specs.declared.moments.Failure.TheVariants.{Late}
 use Rattle.sched_storm_report.specs.declared.moments.Then.{Then}
 use Rattle.sched_storm_report.specs.declared.moments.Then.TheVariants.{Lost, Denied, Waits}
 use Rattle.sched_storm_report.specs.declared.moments.Happening.{Happening}
 use Rattle.sched_storm_report.specs.declared.moments.Happening.TheVariants as happening
 use Rattle.sched_storm_report.specs.declared.moments.Moment.{Moment}
+use Rattle.sched_storm_limit.specs.Limits as limits
+use Rattle.sched_storm_limit.specs.Limits.{LimitState, state_at_first}
 use Rattle.sched_storm.specs.Parameters.{all_requests, comes_at}
 use Rattle.sched_storm.specs.Calls.{called}
 use Rattle.sched_storm.specs.Tickets.{none_drawn, counted, draw_at}
@@ -35,19 +38,13 @@ pub data Stage : Type 0 where
   succeeds : Stage
   fails : Failure → List Event → Stage
 
--- a call begins
-abbrev pub is_call : Stage → Bool
-is_call begins = true
-is_call (retries h) = true
-is_call succeeds = false
-is_call (fails failure h) = false
-
 -- what the requests share: the unit at which the peer is done with all work that it has taken, the random words to
--- come, and the tickets
+-- come, the tickets, and the limit with what each request holds of it
 pub record Shared : Type 0 where
   pub busy : ℕ
   pub words : Stream
   pub drawn : Drawn
+  pub limit : LimitState
 
 -- the random words of a state of the generator
 abbrev pub words_of : List ℕ → Stream
@@ -59,6 +56,7 @@ start_at p = record {
   busy = 0;
   words = words_of (of_seed (splitmix_seed 16 p.words));
   drawn = none_drawn;
+  limit = state_at_first p.draws p.words;
 }
 
 -- what lies after this moment is not played
@@ -82,39 +80,61 @@ abbrev pub coming : Parameters → Shared → ℕ → List Event → Happening �
 coming p s t h what c = let after = record s { busy = c.busy } in
     record { next = if_by p.until c.ends (ending c.how h); shared = after; told = moment_at t what after }
 
--- a call failed, and nothing is due of its request any more
-abbrev pub ended : Shared → ℕ → Failure → Then → Answer Stage Shared Moment
-ended s t failure next = record { next = None; shared = s; told = moment_at t (happening.Failed failure next) s }
+-- a call failed, and its request is over: nothing is due of it any more
+abbrev pub ended : Parameters → Shared → ℕ → ℕ → Failure → Then → Answer Stage Shared Moment
+ended p s r t failure next = record {
+  next = None;
+  shared = record s { limit = limits.ending p.draws r s.limit };
+  told = moment_at t (happening.Failed failure next) s;
+}
 
--- A ticket was drawn, or was not: a retry is due, or its request is denied.
-abbrev pub drawing : Parameters → Shared → ℕ → Failure → List Event → ℕ → Bool → Answer Stage Shared Moment
-drawing p s t failure h start true =
+-- A retry was granted, or was not: it is due, or its request is denied.
+abbrev pub drawing : Parameters → Shared → ℕ → ℕ → Failure → List Event → ℕ → Bool → Answer Stage Shared Moment
+drawing p s r t failure h start true =
     record { next = if_by p.until start (retries h); shared = s; told = moment_at t (happening.Failed failure Waits) s }
-drawing p s t failure h start false = ended s t failure Denied
+drawing p s r t failure h start false = ended p s r t failure Denied
 
--- The policy goes on at a start, for which a ticket is drawn, or is done.
-abbrev pub going_on : Parameters → Shared → ℕ → Failure → List Event → Option ℕ → Answer Stage Shared Moment
-going_on p s t failure h None = ended s t failure Lost
-going_on p s t failure h (Some start) = let drawn = draw_at p.draws t s.drawn in
-    drawing p (record s { drawn = drawn.1 }) t failure h start drawn.0
+-- a call came late, after which a bucket's draw may cost more
+abbrev pub is_late : Failure → Bool
+is_late Late = true
+is_late _ = false
 
--- The driver is given the failure and the next four words, and plans what the policy's definition plans.
-abbrev pub failing : Parameters → Schedule → Shared → ℕ → Failure → List Event → Answer Stage Shared Moment
-failing p plan s t failure before = let words = next_four s.words in
+-- The policy goes on at a start, for which the limit is asked or a ticket drawn, or is done.
+abbrev pub going_on : Parameters → Shared → ℕ → ℕ → Failure → List Event → Option ℕ → Answer Stage Shared Moment
+going_on p s r t failure h None = ended p s r t failure Lost
+going_on p s r t failure h (Some start) =
+    let asked = limits.drawing p.draws (is_late failure) t r s.limit in
+    let drawn = draw_at p.draws asked.0 t s.drawn in
+    drawing p (record s { drawn = drawn.1; limit = asked.1 }) r t failure h start drawn.0
+
+-- The limit is told of the failure. The driver is given it and the next four words, and plans what the policy's
+-- definition plans.
+abbrev pub failing : Parameters → Schedule → Shared → ℕ → ℕ → Failure → List Event → Answer Stage Shared Moment
+failing p plan s r t failure before = let words = next_four s.words in
     let h = with_failure before t words.0 (input_of failure) in
-    going_on p (record s { words = words.1 }) t failure h (start_of (answer plan h).decision)
+    going_on p (record s { words = words.1; limit = limits.failing p.draws t r s.limit }) r t failure h
+    (start_of (answer plan h).decision)
 
--- A request that comes is counted, before anything else of it.
+-- A request that comes is counted, before anything else of it. Where the limit admits it its first call comes to the
+-- peer, and else it is denied and makes no call.
 abbrev pub with_request : Parameters → ℕ → Shared → Shared
 with_request p t s = record s { drawn = counted p.draws t s.drawn }
 
+abbrev pub arriving : Parameters → Shared → ℕ → Bool → Answer Stage Shared Moment
+arriving p s t true = coming p s t [] happening.Request (called p s.busy t)
+arriving p s t false = record { next = None; shared = s; told = moment_at t happening.Refused s }
+
 -- What becomes of a request where something is due of it at a moment.
 abbrev pub playing : Parameters → Schedule → Shared → ℕ → ℕ → Stage → Answer Stage Shared Moment
-playing p plan s r t begins = coming p (with_request p t s) t [] happening.Request (called p s.busy t)
+playing p plan s r t begins = let asked = limits.admitting p.draws t r s.limit in
+    arriving p (with_request p t (record s { limit = asked.1 })) t asked.0
 playing p plan s r t (retries h) = coming p s t h happening.Retry (called p s.busy t)
-playing p plan s r t succeeds =
-    record { next = None; shared = s; told = moment_at t (happening.Won (comes_at p r)) s }
-playing p plan s r t (fails failure h) = failing p plan s t failure h
+playing p plan s r t succeeds = record {
+  next = None;
+  shared = record s { limit = limits.succeeding p.draws t r s.limit };
+  told = moment_at t (happening.Won (comes_at p r)) s;
+}
+playing p plan s r t (fails failure h) = failing p plan s r t failure h
 
 abbrev pub played : Parameters → Schedule → Shared → ℕ → Due Stage → Answer Stage Shared Moment
 played p plan s r due = playing p plan s r due.at due.what

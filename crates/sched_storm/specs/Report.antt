@@ -1,25 +1,30 @@
 -- What holds of the report of every storm.
-use Rattle.std.specs.Prelude.{◌≡◌, ℕ, ◌+◌, ◌*◌, ◌/◌, ◌≤◌, IsTrue, vec_len}
+use Rattle.std.specs.Prelude.{◌≡◌, ℕ, ◌+◌, ◌-◌, ◌/◌, ◌≤◌, false, IsTrue, vec_len}
 use Rattle.sched_storm_report.specs.Counts.{no_counts, calls_in, failed_in, ended_in, AddUpTo}
 use Rattle.sched_storm_report.specs.Report.{hundredths_of, recovered_in}
 use Rattle.sched_storm_report.specs.Laws.{AreTimes}
 use Rattle.sched_storm_report.specs.declared.report.Report.{Report}
 use Rattle.sched_storm_report.specs.declared.report.Totals.{Totals}
+use Rattle.sched_storm_limit.specs.Ranges.{is_limited}
 use Rattle.sched_storm.specs.Parameters.{all_requests, end_of_trouble}
-use Rattle.sched_storm.specs.Tickets.{tickets_of, HasUses, most_tickets}
+use Rattle.sched_storm.specs.Tickets.{tickets_of, HasUses, AreFew}
 use Rattle.sched_storm.specs.declared.parameters.Parameters.{Parameters}
+
+-- the requests that a limit denied before their first call: they make none
+abbrev pub turned_away_in : Totals → ℕ
+turned_away_in t = calls_in t.counts - t.calls
 
 -- Each call that failed has ended its request, or a retry was granted for it. No retry began that was not granted, and
 -- each that was granted has its ticket, where retries draw on anything.
 pub record AreGranted (p : Parameters) (t : Totals) : Type 0 where
   pub granted : ℕ
-  pub failures : failed_in t.counts ≡ t.lost + t.denied + granted
+  pub failures : failed_in t.counts + turned_away_in t ≡ t.lost + t.denied + granted
   pub retries : t.counts.retries ≤ granted
   pub tickets : t.tickets ≡ tickets_of p.draws granted
   -- in each window of a quota the tickets never pass its reserve and the share of the requests counted in it
   pub uses : ∥ ((w : ℕ) × HasUses p.draws w t.counts.requests t.tickets) ∥₁
   -- in all they never pass what the budget or the quota allows
-  pub limit : 1000 * t.tickets ≤ most_tickets p.draws p.until t.counts.requests
+  pub limit : AreFew p.draws p.until t.counts.requests t.tickets
 
 pub record AddsUp (p : Parameters) (r : Report) : Type 0 where
   -- what the windows count makes up the totals, and they are no more than there are until the end
@@ -29,7 +34,10 @@ pub record AddsUp (p : Parameters) (r : Report) : Type 0 where
   pub endings : r.totals.counts.won + r.totals.lost + r.totals.denied + r.totals.open ≡ r.totals.counts.requests
   -- each success ends a request of its own
   pub successes : r.totals.counts.succeeded ≡ r.totals.counts.won
-  pub calls : r.totals.calls ≡ calls_in r.totals.counts
+  -- each request and each retry begins a call, but for a request that is denied before it
+  pub calls : r.totals.calls ≤ calls_in r.totals.counts
+  pub turned_away : turned_away_in r.totals ≤ r.totals.denied
+  pub none_away : is_limited p.draws ≡ false → r.totals.calls ≡ calls_in r.totals.counts
   pub hundredths : r.totals.hundredths ≡ hundredths_of r.totals.calls r.totals.counts.requests
   pub times : AreTimes r.totals
   pub recovered : r.totals.recovered ≡ recovered_in (end_of_trouble p) r.windows.items

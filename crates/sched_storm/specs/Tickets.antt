@@ -2,8 +2,8 @@
 use Rattle.std.specs.Prelude.{◌≡◌, ℕ, ◌+◌, ◌*◌, ◌/◌, ◌<◌, ◌≤◌, Bool, true, nat_lt, if◌then◌else◌, List, [], ◌∷◌, sum_by}
 use Rattle.sched_ticket_quota.specs.declared.view.Terms.{Terms}
 use Rattle.sched_ticket_quota.specs.Windows.{allowed}
-use Rattle.sched_storm.specs.declared.parameters.Draws.{Draws}
-use Rattle.sched_storm.specs.declared.parameters.Draws.TheVariants.{Nothing, Budget, Quota}
+use Rattle.sched_storm_limit.specs.declared.draws.Draws.{Draws}
+use Rattle.sched_storm_limit.specs.declared.draws.Draws.TheVariants.{Nothing, Budget, Quota, Limited}
 use Rattle.sched_storm.specs.declared.tickets.Drawn.{Drawn}
 
 -- no request, and no ticket
@@ -28,6 +28,7 @@ abbrev pub at_moment : Draws → ℕ → Drawn → Drawn
 at_moment Nothing t d = d
 at_moment (Budget limit) t d = d
 at_moment (Quota terms) t d = turned (t / terms.period) d
+at_moment (Limited limit) t d = d
 
 -- a request is counted
 abbrev pub with_request : Drawn → Drawn
@@ -36,33 +37,38 @@ with_request d = record d { asked = d.asked + 1 }
 abbrev pub counted : Draws → ℕ → Drawn → Drawn
 counted draws t d = with_request (at_moment draws t d)
 
--- the tickets that a window of so many requests has; a budget has one window, which does not end
-abbrev pub tickets_for : Draws → ℕ → ℕ
-tickets_for Nothing asked = 0
-tickets_for (Budget limit) asked = limit
-tickets_for (Quota terms) asked = allowed terms asked
+-- A window of so many requests has given no more tickets than it has; a budget has one window, which does not end.
+-- What a limit grants depends on no window.
+abbrev pub AreGiven : Draws → ℕ → ℕ → Type 0
+AreGiven Nothing asked given = given ≤ 0
+AreGiven (Budget limit) asked given = given ≤ limit
+AreGiven (Quota terms) asked given = given ≤ allowed terms asked
+AreGiven (Limited limit) asked given = Unit {0}
 
--- whether a retry may be made; where nothing is drawn on it may
-abbrev pub may_draw : Draws → Drawn → Bool
-may_draw Nothing d = true
-may_draw (Budget limit) d = nat_lt d.given limit
-may_draw (Quota terms) d = nat_lt d.given (allowed terms d.asked)
+-- whether a retry may be made, where a limit has granted it or not; where nothing is drawn on it may
+abbrev pub may_draw : Draws → Bool → Drawn → Bool
+may_draw Nothing granted d = true
+may_draw (Budget limit) granted d = nat_lt d.given limit
+may_draw (Quota terms) granted d = nat_lt d.given (allowed terms d.asked)
+may_draw (Limited limit) granted d = granted
 
 -- a ticket is given, where any is
 abbrev pub with_ticket : Draws → Drawn → Drawn
 with_ticket Nothing d = d
 with_ticket (Budget limit) d = record d { given = d.given + 1 }
 with_ticket (Quota terms) d = record d { given = d.given + 1 }
+with_ticket (Limited limit) d = record d { given = d.given + 1 }
 
-abbrev pub draw_at : Draws → ℕ → Drawn → Bool × Drawn
-draw_at draws t d = let e = at_moment draws t d in
-    (may_draw draws e, (if may_draw draws e then with_ticket draws e else e))
+abbrev pub draw_at : Draws → Bool → ℕ → Drawn → Bool × Drawn
+draw_at draws granted t d = let e = at_moment draws t d in
+    (may_draw draws granted e, (if may_draw draws granted e then with_ticket draws e else e))
 
 -- so many retries were granted by as many tickets, or by none where nothing is drawn on
 abbrev pub tickets_of : Draws → ℕ → ℕ
 tickets_of Nothing granted = 0
 tickets_of (Budget limit) granted = granted
 tickets_of (Quota terms) granted = granted
+tickets_of (Limited limit) granted = granted
 
 -- what a window of a quota was asked, and has given
 pub record Use : Type 0 where
@@ -86,6 +92,7 @@ abbrev pub HasUses : Draws → ℕ → ℕ → ℕ → Type 0
 HasUses Nothing w asked given = Unit {0}
 HasUses (Budget limit) w asked given = Unit {0}
 HasUses (Quota terms) w asked given = (uses : List Use) × AreWithin terms w uses × AreUses uses asked given
+HasUses (Limited limit) w asked given = Unit {0}
 
 -- The most tickets, in thousandths, of the windows before this one, in which so many requests were counted. In all of
 -- them together a quota gives at most its reserve for each window and its share for each request.
@@ -93,23 +100,27 @@ abbrev pub most_before : Draws → ℕ → ℕ → ℕ
 most_before Nothing w asked = 0
 most_before (Budget limit) w asked = 0
 most_before (Quota terms) w asked = 1000 * (terms.reserve * w) + terms.share * asked
+most_before (Limited limit) w asked = 0
 
 -- the number of the last window until a moment
 abbrev pub last_window : Draws → ℕ → ℕ
 last_window Nothing t = 0
 last_window (Budget limit) t = 0
 last_window (Quota terms) t = t / terms.period
+last_window (Limited limit) t = 0
 
 -- what holds of the tickets at every moment
 pub record IsLawful (draws : Draws) (until : ℕ) (d : Drawn) : Type 0 where
   -- in each window no more are given than its requests allow
-  pub here : d.given ≤ tickets_for draws d.asked
+  pub here : AreGiven draws d.asked d.given
   pub before : 1000 * d.given_before ≤ most_before draws d.window d.asked_before
   pub latest : d.window ≤ last_window draws until
 
--- The most tickets, in thousandths, of a storm of so many requests that ends at a moment: the budget's limit; the
--- quota's reserve for each of its windows, and its share of the requests.
-abbrev pub most_tickets : Draws → ℕ → ℕ → ℕ
-most_tickets Nothing until requests = 0
-most_tickets (Budget limit) until requests = 1000 * limit
-most_tickets (Quota terms) until requests = 1000 * (terms.reserve * (until / terms.period + 1)) + terms.share * requests
+-- A storm of so many requests that ends at a moment gives no more tickets than it has: the budget's limit; the quota's
+-- reserve for each of its windows, and its share of the requests, in thousandths. Of a limit nothing is said here.
+abbrev pub AreFew : Draws → ℕ → ℕ → ℕ → Type 0
+AreFew Nothing until requests tickets = tickets ≤ 0
+AreFew (Budget limit) until requests tickets = tickets ≤ limit
+AreFew (Quota terms) until requests tickets =
+    1000 * tickets ≤ 1000 * (terms.reserve * (until / terms.period + 1)) + terms.share * requests
+AreFew (Limited limit) until requests tickets = Unit {0}

@@ -4,7 +4,7 @@ ghost use Rattle.std.specs.Prelude.{IsTrue, IfOk, IfSome, OnOk};
 ghost use Rattle.sched_plan.specs.declared.history.Event.{Event};
 ghost use Rattle.sched_storm.specs.Drivers.{MayFail};
 ghost use Rattle.sched_storm.specs.Plays.{Stage, begins, retries, succeeds, fails, playing};
-ghost use Rattle.sched_storm.specs.Turns.{kind_of, is_call_kind};
+ghost use Rattle.sched_storm.specs.Turns.{kind_of, begins_call};
 ghost use Rattle.sched_storm.specs.Parameters.{comes_at};
 ghost use Rattle.sched_storm.specs.Plays.{first};
 ghost use Rattle.sched_storm.specs.Turns.{turn_if};
@@ -21,6 +21,7 @@ use crate::turns::{Kind, Turn};
 use rand_core::SeedableRng;
 use rand_xoshiro::Xoshiro128PlusPlus;
 use sched_plan::SharedPlan;
+use sched_storm_limit::Stand;
 use sched_storm_report::{Ends, Failure, Happening, Moment, Report, Tally};
 use sched_task::four_words;
 use sched_time::NoMemory;
@@ -41,6 +42,7 @@ pub(crate) struct Course {
     /// The unit at which the peer is done with all work that it has taken.
     busy: u64,
     drawn: Drawn,
+    limit: Stand,
     drivers: Drivers,
     /// What is due of the requests that came.
     agenda: Agenda,
@@ -64,6 +66,7 @@ impl Course {
             calls: 0,
             busy: 0,
             drawn: Drawn::NONE,
+            limit: Stand::new(alloc, storm.draws(), parameters.words),
             drivers: Drivers::new(alloc),
             agenda: Agenda::new(alloc),
             tally: Tally::new(alloc, parameters.window),
@@ -79,7 +82,8 @@ impl Course {
     {
         let mut next = self.take_next();
         while let Some(turn) = next {
-            if self.is_full(turn) {
+            let is_full = self.is_full(turn)?;
+            if is_full {
                 return Ok(true);
             }
             let after = self.step(alloc, turn)?;
@@ -89,11 +93,32 @@ impl Course {
     }
 
     // Whether one call more would begin than may.
-    fn is_full(&self, turn: Turn) -> bool
-        ensures yes { result ≡ true → IsTrue (is_call_kind turn.kind) × (self.now.calls ≡ self.now.storm.calls) }
-        ensures no { result ≡ false → IsTrue (is_call_kind turn.kind) → self.now.calls ≢ self.now.storm.calls }
+    fn is_full(&self, turn: Turn) -> Result<bool, NoMemory>
+        requires near { turn.at ≤ 7200000 }
+        ensures yes { IfOk result (λ full. full ≡ true →
+            IsTrue (begins_call self.now.storm (shared_of self.now) turn.request turn.at turn.kind)
+            × (self.now.calls ≡ self.now.storm.calls)) }
+        ensures no { IfOk result (λ full. full ≡ false →
+            IsTrue (begins_call self.now.storm (shared_of self.now) turn.request turn.at turn.kind) →
+            self.now.calls ≢ self.now.storm.calls) }
     {
-        turn.kind.is_call() && self.calls == self.storm.parameters().calls
+        if self.calls != self.storm.parameters().calls {
+            return Ok(false);
+        }
+        self.begins_call(turn)
+    }
+
+    // Whether a call begins where this is due.
+    fn begins_call(&self, turn: Turn) -> Result<bool, NoMemory>
+        requires near { turn.at ≤ 7200000 }
+        ensures { IfOk result (λ yes.
+            yes ≡ begins_call self.now.storm (shared_of self.now) turn.request turn.at turn.kind) }
+    {
+        match turn.kind {
+            Kind::Begins => self.storm.admits(&self.limit, turn),
+            Kind::Retries => Ok(true),
+            Kind::Succeeds | Kind::Fails(_) => Ok(false),
+        }
     }
 
     /// The report of the events so far.
@@ -167,7 +192,8 @@ impl Course {
     // Plays what is due, and answers what is due of its request from then on.
     fn step(&mut self, alloc: Global, turn: Turn) -> Result<Option<Turn>, NoMemory>
         requires first { StandsFirst self.old (Some turn) }
-        requires room { IsTrue (is_call_kind turn.kind) → self.old.calls < self.old.storm.calls }
+        requires room { IsTrue (begins_call self.old.storm (shared_of self.old) turn.request turn.at turn.kind) →
+            self.old.calls < self.old.storm.calls }
         ensures after { IfOk result (StandsAfter turn.at turn.request self.new) }
         ensures storm { self.new.storm ≡ self.old.storm }
         ensures plan { self.new.plan ≡ self.old.plan }
@@ -181,7 +207,6 @@ impl Course {
     fn play(&mut self, alloc: Global, turn: Turn) -> Result<Option<Turn>, NoMemory>
         requires ready { IsReady self.old turn.at turn.request }
         requires placed { IsPlaced self.old turn }
-        requires room { IsTrue (is_call_kind turn.kind) → self.old.calls < 4294967296 }
         requires may { IsDriven self.old turn }
         ensures answered { (what : Stage) → kind_of what ≡ turn.kind →
             Drives self.old.plan (slot_of self.old turn.request) turn.at what →
@@ -205,7 +230,6 @@ impl Course {
     fn begin(&mut self, turn: Turn) -> Result<Option<Turn>, NoMemory>
         requires ready { IsReady self.old turn.at turn.request }
         requires placed { turn.request ≡ self.old.requests }
-        requires room { self.old.calls < 4294967296 }
         ensures answered { IfOk result (HasAnswered
             (playing self.old.storm self.old.plan (shared_of self.old) turn.request turn.at begins)
             turn.at turn.request self.old self.new) }
@@ -218,6 +242,14 @@ impl Course {
         self.drawn = self.storm.count(self.drawn, turn.at);
         self.requests += 1;
         self.comes = self.storm.comes_at(self.requests);
+        let is_admitted = self.storm.admit(&mut self.limit, turn)?;
+        if !is_admitted {
+            self.tally.tell(
+                &self.storm.peer(),
+                moment_of(turn.at, Happening::Refused, self.busy),
+            )?;
+            return Ok(None);
+        }
         self.calls += 1;
         let called = self.storm.call(self.busy, turn.at);
         self.busy = called.busy;
@@ -235,7 +267,6 @@ impl Course {
     fn retry(&mut self, turn: Turn) -> Result<Option<Turn>, NoMemory>
         requires ready { IsReady self.old turn.at turn.request }
         requires placed { turn.request < self.old.requests }
-        requires room { self.old.calls < 4294967296 }
         ensures answered { (h : List Event) → Drives self.old.plan (slot_of self.old turn.request) turn.at (retries h) →
             IfOk result (HasAnswered
             (playing self.old.storm self.old.plan (shared_of self.old) turn.request turn.at (retries h))
@@ -270,6 +301,7 @@ impl Course {
         ensures storm { self.new.storm ≡ self.old.storm }
         ensures plan { self.new.plan ≡ self.old.plan }
     {
+        self.storm.tell_succeeded(&mut self.limit, turn)?;
         self.drivers.end(turn.request);
         let began = self.storm.comes_at(turn.request);
         self.tally.tell(
@@ -299,11 +331,14 @@ impl Course {
         ensures storm { self.new.storm ≡ self.old.storm }
         ensures plan { self.new.plan ≡ self.old.plan }
     {
+        self.storm.tell_failed(&mut self.limit, turn);
         let words = four_words(&mut self.words);
         let start = self
             .drivers
             .fail(alloc, &self.plan, turn.request, turn.at, words, failure)?;
-        let after = self.storm.next(self.drawn, turn, start);
+        let is_granted = self.storm.ask(&mut self.limit, turn, failure, &start)?;
+        let after = self.storm.next(is_granted, self.drawn, turn, start);
+        self.storm.tell_ended(&mut self.limit, turn, after.then)?;
         self.drivers.keep_if(turn.request, after.next.is_some());
         self.drawn = after.drawn;
         let what = Happening::Failed {

@@ -1,6 +1,7 @@
 //! Storms: what a policy does to a peer that fails for a while, when many requests have it. A `Storm` is made of
 //! `Parameters`, each in its range, and its report tells of the events that these and the plan determine, and of
-//! nothing else. It stands on `sched_driver_stepper`, `sched_storm_trace` and `sched_storm_report`.
+//! nothing else. It stands on `sched_driver_stepper`, `sched_storm_trace`, `sched_storm_report` and
+//! `sched_storm_limit`.
 //!
 //! It plays the calls of all requests on a virtual clock, event by event, and counts them window by window. It takes no
 //! time of a clock, and random words by a seed alone.
@@ -10,13 +11,15 @@ mod agenda;
 mod calls;
 mod course;
 mod drivers;
+mod limits;
 mod parameters;
 mod plays;
 mod storm;
 mod tickets;
 mod turns;
 
-pub use parameters::{Draws, Parameters};
+pub use parameters::Parameters;
+pub use sched_storm_limit::{Draws, Limit};
 pub use sched_storm_report::{BrownOut, Counts, Failure, Report, Span, Totals, Window};
 pub use storm::{
     MAX_CALLS, MAX_EACH, MAX_MILLIS, MAX_REQUESTS, MAX_SECONDS, MAX_UNTIL, MAX_WINDOWS, Storm,

@@ -1,17 +1,6 @@
 //! What a storm is made of.
+use sched_storm_limit::Draws;
 use sched_storm_report::{BrownOut, Span};
-use sched_ticket_quota::Terms;
-
-/// What retries draw on.
-#[derive(Clone, Copy, Debug, PartialEq, Eq)]
-pub enum Draws {
-    /// Nothing: each retry that the plan goes on to is made.
-    Nothing,
-    /// A budget of so many tickets, at most 4294967296.
-    Budget(u64),
-    /// A quota of these terms, as a quota is made of.
-    Quota(Terms),
-}
 
 /// The parameters of a storm. Moments and durations are in milliseconds, from 0 on.
 #[derive(Clone, Copy, Debug, PartialEq, Eq)]
@@ -38,7 +27,7 @@ pub struct Parameters {
     pub until: u64,
     /// The storm is cut before the call after so many, from 1 to 4294967296.
     pub calls: u64,
-    /// The seed of the random words.
+    /// The seed of the random words; those of a throttle are of the next seed.
     pub words: u64,
     /// What retries draw on.
     pub draws: Draws,

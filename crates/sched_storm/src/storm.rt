@@ -1,13 +1,13 @@
 ghost use Rattle.std.specs.Prelude.{◌≡◌, ◌<◌, ◌≤◌, ◌↔◌, IsTrue, IsSome, IfSome};
-ghost use Rattle.sched_ticket_quota.specs.Held.{AreTerms};
 ghost use Rattle.sched_storm_report.specs.Peer.{IsSpan, IsSlow, IsPeer};
-ghost use Rattle.sched_storm.specs.Parameters.{AreInRange, AreDraws};
+ghost use Rattle.sched_storm_limit.specs.Ranges.{AreDraws, has_draws};
+ghost use Rattle.sched_storm.specs.Parameters.{AreInRange};
 ghost use Rattle.sched_storm.specs.Parameters.{RequestsAreInRange, PeerIsInRange, ReportIsInRange};
-ghost use Rattle.sched_storm.specs.Parameters.{all_requests, comes_at, peer_of, end_of_trouble, has_draws};
+ghost use Rattle.sched_storm.specs.Parameters.{all_requests, comes_at, peer_of, end_of_trouble};
 
-use crate::parameters::{Draws, Parameters};
+use crate::parameters::Parameters;
+use sched_storm_limit::Draws;
 use sched_storm_report::{BrownOut, Peer, Span};
-use sched_ticket_quota::{MAX_RESERVE, MAX_SHARE, MIN_PERIOD, Terms};
 use std::marker::Model;
 
 /// The greatest rate, herd and capacity.
@@ -72,11 +72,11 @@ impl Storm {
     }
 
     /// What retries draw on.
-    pub(crate) fn draws(&self) -> Draws
-        ensures value { result ≡ self.now.draws }
-        ensures in_range { AreDraws result }
+    pub(crate) fn draws(&self) -> &Draws
+        ensures value { result.now ≡ self.now.draws }
+        ensures in_range { AreDraws result.now }
     {
-        self.parameters.draws
+        &self.parameters.draws
     }
 
     /// The moment at which a request begins its first call, of requests that are numbered from 0.
@@ -113,7 +113,7 @@ impl Storm {
     pub(crate) fn has_draws(&self) -> bool
         ensures { result ≡ has_draws self.now.draws }
     {
-        !matches!(self.parameters.draws, Draws::Nothing)
+        self.parameters.draws.are_some()
     }
 
     /// How many requests come in all, where `until` allows.
@@ -131,7 +131,7 @@ fn are_in_range(parameters: &Parameters) -> bool
     are_requests(parameters)
         && is_peer(parameters)
         && is_report(parameters)
-        && are_draws(parameters.draws)
+        && parameters.draws.are_in_range()
 }
 
 fn are_requests(p: &Parameters) -> bool
@@ -182,20 +182,4 @@ fn is_slow(slow: Option<BrownOut>) -> bool
         Some(BrownOut { span, percent }) => is_span(span) && 1 <= percent && percent <= 100,
         None => true,
     }
-}
-
-fn are_draws(draws: Draws) -> bool
-    ensures { IsTrue result ↔ AreDraws draws }
-{
-    match draws {
-        Draws::Nothing => true,
-        Draws::Budget(limit) => limit <= MAX_RESERVE,
-        Draws::Quota(terms) => are_terms(terms),
-    }
-}
-
-fn are_terms(terms: Terms) -> bool
-    ensures { IsTrue result ↔ AreTerms terms }
-{
-    terms.reserve <= MAX_RESERVE && terms.share <= MAX_SHARE && MIN_PERIOD <= terms.period.get()
 }

@@ -2,11 +2,11 @@
 ghost use Rattle.std.specs.Prelude.{◌≡◌, ◌≤◌, ◌<◌, ◌+◌, ◌^◌, nat_lt, if◌then◌else◌};
 ghost use Rattle.sched_ticket_quota.specs.Held.{AreTerms};
 ghost use Rattle.sched_ticket_quota.specs.Windows.{allowed};
-ghost use Rattle.sched_storm.specs.Parameters.{AreDraws};
+ghost use Rattle.sched_storm_limit.specs.Ranges.{AreDraws};
 ghost use Rattle.sched_storm.specs.Tickets.{asked_of, given_of, turned, at_moment, counted, draw_at};
 
-use crate::parameters::Draws;
 use crate::storm::Storm;
+use sched_storm_limit::Draws;
 use sched_ticket_quota::{MAX_RESERVE, Terms};
 
 /// The requests that were counted, and the tickets that were given: in the window of a quota that is the latest, and in
@@ -73,18 +73,26 @@ impl Storm {
         }
     }
 
-    /// Draws a ticket at this moment, where retries draw on anything, and tells whether a retry may be made.
-    pub(crate) fn draw(&self, drawn: Drawn, at: u64) -> (bool, Drawn)
+    /// Draws a ticket at this moment, where retries draw on anything, and tells whether a retry may be made. A limit
+    /// has granted it, or not.
+    pub(crate) fn draw(&self, is_granted: bool, drawn: Drawn, at: u64) -> (bool, Drawn)
         requires asked { asked_of drawn ≤ 1048576 }
         requires given { given_of drawn < 2 ^ 63 }
-        ensures value { result ≡ draw_at self.now.draws at drawn }
+        ensures value { result ≡ draw_at self.now.draws is_granted at drawn }
         ensures draws { AreDraws self.now.draws }
     {
         let here = self.at_moment(drawn, at);
         match self.draws() {
             Draws::Nothing => (true, here),
-            Draws::Budget(limit) => with_one_of(here, limit),
-            Draws::Quota(terms) => with_one_of(here, allowed(terms, here.asked)),
+            Draws::Budget(limit) => with_one_of(here, *limit),
+            Draws::Quota(terms) => with_one_of(here, allowed(*terms, here.asked)),
+            Draws::Limited(_) => {
+                if is_granted {
+                    (true, with_one(here))
+                } else {
+                    (false, here)
+                }
+            }
         }
     }
 
@@ -99,7 +107,7 @@ impl Storm {
     {
         match self.draws() {
             Draws::Quota(terms) => drawn.turned(at / terms.period.get()),
-            Draws::Nothing | Draws::Budget(_) => drawn,
+            Draws::Nothing | Draws::Budget(_) | Draws::Limited(_) => drawn,
         }
     }
 }
@@ -113,13 +121,20 @@ fn with_one_of(here: Drawn, tickets: u64) -> (bool, Drawn)
     ) }
 {
     if here.given < tickets {
-        let given = Drawn {
-            given: here.given + 1,
-            ..here
-        };
-        (true, given)
+        (true, with_one(here))
     } else {
         (false, here)
+    }
+}
+
+// Gives a ticket.
+fn with_one(here: Drawn) -> Drawn
+    requires { here.given < 2 ^ 63 }
+    ensures { result ≡ record here { given = here.given + 1 } }
+{
+    Drawn {
+        given: here.given + 1,
+        ..here
     }
 }
 

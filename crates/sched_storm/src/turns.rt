@@ -1,7 +1,8 @@
 //! What is due of a request, and when.
 ghost use Rattle.std.specs.Prelude.{◌≡◌, true, false, IfSome, ◌+◌, ◌*◌, ◌/◌, ◌%◌, ◌<◌, ◌≤◌, ◌^◌};
 ghost use Rattle.sched_storm.specs.Keys.{code_of, kind_from, key_of, turn_of, IsBeforeAny, IsAfter};
-ghost use Rattle.sched_storm.specs.Turns.{is_call_kind, kind_after, turn_by, next_at};
+ghost use Rattle.sched_storm.specs.Turns.{kind_after, turn_by, next_at, is_over};
+ghost use Rattle.sched_storm.specs.Plays.{is_late};
 ghost use Rattle.sched_storm.specs.Tickets.{asked_of, given_of};
 
 use crate::calls::CallEnd;
@@ -31,16 +32,6 @@ impl Kind {
         match how {
             CallEnd::Succeeded => Kind::Succeeds,
             CallEnd::Failed(failure) => Kind::Fails(failure),
-        }
-    }
-
-    /// Whether a call begins.
-    pub(crate) fn is_call(self) -> bool
-        ensures { result ≡ is_call_kind self }
-    {
-        match self {
-            Kind::Begins | Kind::Retries => true,
-            Kind::Succeeds | Kind::Fails(_) => false,
         }
     }
 
@@ -116,6 +107,23 @@ pub(crate) struct Next {
     pub(crate) drawn: Drawn,
 }
 
+/// Whether the call came late.
+pub(crate) fn is_late(failure: Failure) -> bool
+    ensures { result ≡ is_late failure }
+{
+    matches!(failure, Failure::Late)
+}
+
+/// Whether a request of which this follows is over.
+pub(crate) fn is_over(then: Then) -> bool
+    ensures { result ≡ is_over then }
+{
+    match then {
+        Then::Lost | Then::Denied => true,
+        Then::Waits => false,
+    }
+}
+
 impl Storm {
     /// What is due of a request at a moment, where that is played.
     pub(crate) fn turn_by(&self, at: u64, request: u64, kind: Kind) -> Option<Turn>
@@ -128,11 +136,18 @@ impl Storm {
         }
     }
 
-    /// What follows a call that failed, where its policy plans a start, or is done: a ticket is drawn for a retry.
-    pub(crate) fn next(&self, drawn: Drawn, turn: Turn, start: Option<Moment>) -> Next
+    /// What follows a call that failed, where its policy plans a start, or is done: a ticket is drawn for a retry, or a
+    /// limit has granted it, or not.
+    pub(crate) fn next(
+        &self,
+        is_granted: bool,
+        drawn: Drawn,
+        turn: Turn,
+        start: Option<Moment>,
+    ) -> Next
         requires asked { asked_of drawn ≤ 1048576 }
         requires given { given_of drawn < 2 ^ 63 }
-        ensures { result ≡ next_at self.now drawn turn.at turn.request start }
+        ensures { result ≡ next_at self.now is_granted drawn turn.at turn.request start }
     {
         let Some(start) = start else {
             return Next {
@@ -141,7 +156,7 @@ impl Storm {
                 drawn,
             };
         };
-        let (is_granted, drawn) = self.draw(drawn, turn.at);
+        let (is_granted, drawn) = self.draw(is_granted, drawn, turn.at);
         if is_granted {
             Next {
                 next: self.turn_by(start.get(), turn.request, Kind::Retries),

@@ -12,7 +12,7 @@ use Rattle.sched_handle.specs.declared.held.Kind.TheVariants as kind
 use Rattle.sched_handle.specs.Status.{code_of}
 use Rattle.sched_handle.specs.declared.status.Status.{Status}
 use Rattle.sched_handle.specs.declared.status.Status.TheVariants.{Empty, WrongKind, NoMemory, NoRoom, OutOfRange}
-use Rattle.sched_storm_call.specs.Told.{IsGiven, parameters_of, room_of, window_told, totals_told}
+use Rattle.sched_storm_call.specs.Told.{IsGiven, IsOf, room_given, window_told, totals_told}
 use Rattle.sched_storm_call.specs.declared.records.StormGiven.{StormGiven}
 use Rattle.sched_storm_call.specs.declared.records.WindowTold.{WindowTold}
 use Rattle.sched_storm_call.specs.declared.records.TotalsTold.{TotalsTold}
@@ -26,7 +26,7 @@ pub record Told : Type 0 where
 -- the storm is given, with room for all its windows
 pub record HasRoom (g : StormGiven) (t : Told) : Type 0 where
   pub given : IsGiven g
-  pub room : room_of (parameters_of g) ≤ length t.windows
+  pub room : room_given g ≤ length t.windows
 
 -- the report is that of the storm of requests that all have the policy that is held
 pub record IsReported (held : Held) (p : Parameters) (r : Report) : Type 0 where
@@ -34,13 +34,21 @@ pub record IsReported (held : Held) (p : Parameters) (r : Report) : Type 0 where
   pub holds : held ≡ Policy plan
   pub reports : Reports p plan r
 
+-- the storm of these parameters is given, and its report
+pub record IsStormOf (g : StormGiven) (held : Option Held) (r : Report) : Type 0 where
+  pub parameters : Parameters
+  pub are : IsOf g parameters
+  pub policy : Held
+  pub holds : held ≡ Some policy
+  pub reported : IsReported policy parameters r
+  pub adds_up : AddsUp parameters r
+
 -- What is played where a handle holds this: the storm of the policy that it holds, with a report that adds up, or none
 -- for this reason. Of several reasons it is the first.
 abbrev pub Plays : StormGiven → Told → Option Held → Result Report Status → Type 0
-Plays g t held (Ok report) =
-    HasRoom g t × ((u : Held) × (held ≡ Some u) × IsReported u (parameters_of g) report) × AddsUp (parameters_of g) report
+Plays g t held (Ok report) = HasRoom g t × IsStormOf g held report
 Plays g t held (Err OutOfRange) = ¬ IsGiven g
-Plays g t held (Err NoRoom) = IsGiven g × (length t.windows < room_of (parameters_of g))
+Plays g t held (Err NoRoom) = IsGiven g × (length t.windows < room_given g)
 Plays g t held (Err Empty) = HasRoom g t × (held ≡ None)
 Plays g t held (Err WrongKind) = HasRoom g t × ((u : Held) × (held ≡ Some u) × (kind_of u ≢ kind.Policy))
 Plays g t held (Err NoMemory) = HasRoom g t × ((u : Held) × (held ≡ Some u) × (kind_of u ≡ kind.Policy))
@@ -53,7 +61,7 @@ Tells g old (Ok report) code new = (code ≡ 0) × (new ≡ record {
   count = length report.windows.items;
   totals = totals_told report.totals;
 })
-Tells g old (Err NoRoom) code new = (code ≡ code_of NoRoom) × (new ≡ record old { count = room_of (parameters_of g) })
+Tells g old (Err NoRoom) code new = (code ≡ code_of NoRoom) × (new ≡ record old { count = room_given g })
 Tells g old (Err s) code new = (code ≡ code_of s) × (new ≡ old)
 
 -- a storm is played and told

@@ -1,10 +1,14 @@
 -- What C gives of a storm, and what it is told.
-use Rattle.std.specs.Prelude.{◌≡◌, ℕ, ◌+◌, ◌/◌, ◌≤◌, ◌==◌, if◌then◌else◌, Option, Some, None, is_some, unwrap_or}
+use Rattle.std.specs.Prelude.{◌≡◌, ℕ, ◌+◌, ◌-◌, ◌/◌, ◌≤◌, ◌==◌, if◌then◌else◌, Option, Some, None, is_some, unwrap_or}
 use Rattle.sched_time.specs.declared.numbers.TheConstants.{FAR}
 use Rattle.sched_storm.specs.Parameters.{AreInRange}
 use Rattle.sched_storm_report.specs.declared.peer.BrownOut.{BrownOut}
-use Rattle.sched_storm.specs.declared.parameters.Draws.{Draws}
-use Rattle.sched_storm.specs.declared.parameters.Draws.TheVariants.{Nothing, Budget, Quota}
+use Rattle.sched_storm_limit.specs.declared.draws.Draws.{Draws}
+use Rattle.sched_storm_limit.specs.declared.draws.Draws.TheVariants.{Nothing, Budget, Quota, Limited}
+use Rattle.sched_storm_limit.specs.declared.draws.Limit.TheVariants as limit
+use Rattle.sched_storm_limit.specs.Ranges.{IsLimit}
+use Rattle.sched_ticket_quota.specs.Held.{AreTerms}
+use Rattle.sched_limit.specs.declared.bucket.Bucket.{Bucket}
 use Rattle.sched_storm.specs.declared.parameters.Parameters.{Parameters}
 use Rattle.sched_storm_report.specs.declared.tally.Window.{Window}
 use Rattle.sched_storm_report.specs.declared.report.Totals.{Totals}
@@ -17,12 +21,32 @@ abbrev pub slow_of : StormGiven → Option BrownOut
 slow_of g = if g.slow_percent == 0 then None
     else Some (record { span = record { from = g.slow_from; to = g.slow_to }; percent = g.slow_percent })
 
-abbrev pub draws_of : StormGiven → Draws
-draws_of g = if g.draws_on == 0 then Nothing else if g.draws_on == 1 then Budget g.limit
-    else Quota (record { reserve = g.reserve; share = g.share; period = g.period })
+abbrev pub bucket_of : StormGiven → Bucket
+bucket_of g = record {
+  capacity = g.bucket_capacity;
+  floor = g.bucket_floor;
+  debit = g.bucket_debit;
+  credit = g.bucket_credit;
+  refund = g.bucket_refund == 1;
+}
 
-abbrev pub parameters_of : StormGiven → Parameters
-parameters_of g = record {
+-- what retries draw on is what is given of it
+abbrev pub AreDrawsOf : StormGiven → Draws → Type 0
+AreDrawsOf g Nothing = g.draws_on ≡ 0
+AreDrawsOf g (Budget most) = (g.draws_on ≡ 1) × (most ≡ g.limit)
+AreDrawsOf g (Quota terms) =
+    (g.draws_on ≡ 2) × (terms ≡ record { reserve = g.reserve; share = g.share; period = g.period })
+AreDrawsOf g (Limited (limit.Bucket b cost late)) =
+    (g.draws_on ≡ 3) × (b ≡ bucket_of g) × (cost ≡ g.cost) × (late ≡ g.late_cost)
+AreDrawsOf g (Limited (limit.InFlight k)) = (g.draws_on ≡ 4) × (k ≡ record { least = g.least; share = g.share })
+AreDrawsOf g (Limited (limit.Breaker b)) =
+    (g.draws_on ≡ 5) × (b.failures ≡ g.failures) × (b.probes ≡ g.probes) × (b.deadline ≡ g.deadline)
+    × (b.start ≡ 0) × (b.times ≡ g.open_times) × (b.last ≡ g.open_count - 1)
+AreDrawsOf g (Limited (limit.Throttle t)) =
+    (g.draws_on ≡ 6) × (t.ratio ≡ g.ratio) × (t.period ≡ g.period) × (t.start ≡ 0)
+
+abbrev pub parameters_of : StormGiven → Draws → Parameters
+parameters_of g draws = record {
   rate = g.rate;
   together = g.together;
   seconds = g.seconds;
@@ -35,27 +59,61 @@ parameters_of g = record {
   until = g.until;
   calls = g.calls;
   words = g.words;
-  draws = draws_of g;
+  draws = draws;
 }
+
+-- the parameters are those that are given
+pub record IsOf (g : StormGiven) (p : Parameters) : Type 0 where
+  pub draws : AreDrawsOf g p.draws
+  pub are : p ≡ parameters_of g p.draws
 
 -- where there is no brown-out its moments are 0
 abbrev pub HasItsBrownOut : StormGiven → Type 0
 HasItsBrownOut g = g.slow_percent ≡ 0 → (g.slow_from ≡ 0) × (g.slow_to ≡ 0)
 
--- nothing, a budget or a quota is given, and of a quota a period
+pub record IsBreakerGiven (g : StormGiven) : Type 0 where
+  pub failures : 1 ≤ g.failures
+  pub few_failures : g.failures ≤ 4294967295
+  pub probes : 1 ≤ g.probes
+  pub few_probes : g.probes ≤ 15
+  pub deadline : g.deadline ≤ FAR
+  pub times : 1 ≤ g.open_count
+  pub few_times : g.open_count ≤ 64
+
+pub record IsThrottleGiven (g : StormGiven) : Type 0 where
+  pub ratio : 1000 ≤ g.ratio
+  pub few : g.ratio ≤ 4294967295
+  pub period : 1 ≤ g.period
+  pub near : g.period ≤ FAR
+
+-- nothing is given, or a budget, a quota or a limit whose numbers can be those of one
 pub record AreDrawsGiven (g : StormGiven) : Type 0 where
-  pub kinds : g.draws_on ≤ 2
+  pub kinds : g.draws_on ≤ 6
   pub period : g.draws_on ≡ 2 → g.period ≤ FAR
+  pub bucket : g.draws_on ≡ 3 → g.bucket_refund ≤ 1
+  pub in_flight : g.draws_on ≡ 4 → (g.least ≤ 4294967295) × (g.share ≤ 4294967295)
+  pub breaker : g.draws_on ≡ 5 → IsBreakerGiven g
+  pub throttle : g.draws_on ≡ 6 → IsThrottleGiven g
+
+-- a budget, a quota or a bucket that is given is in its range
+pub record AreDrawsInRange (g : StormGiven) : Type 0 where
+  pub budget : g.draws_on ≡ 1 → g.limit ≤ 4294967296
+  pub quota : g.draws_on ≡ 2 → AreTerms (record { reserve = g.reserve; share = g.share; period = g.period })
+  pub bucket : g.draws_on ≡ 3 → IsLimit (limit.Bucket (bucket_of g) g.cost g.late_cost)
 
 -- a storm is given
 pub record IsGiven (g : StormGiven) : Type 0 where
   pub slow : HasItsBrownOut g
   pub draws : AreDrawsGiven g
-  pub in_range : AreInRange (parameters_of g)
+  pub draws_in_range : AreDrawsInRange g
+  pub in_range : AreInRange (parameters_of g Nothing)
 
 -- the most windows that a storm has
 abbrev pub room_of : Parameters → ℕ
 room_of p = p.until / p.window + 1
+
+abbrev pub room_given : StormGiven → ℕ
+room_given g = g.until / g.window + 1
 
 abbrev pub window_told : Window → WindowTold
 window_told w = record {

@@ -1,11 +1,13 @@
 //! What C gives of a storm, and what it is told.
-ghost use Rattle.std.specs.Prelude.{◌≡◌, ◌↔◌, IsTrue, IsSome, IfSome};
-ghost use Rattle.sched_storm_call.specs.Told.{IsGiven, HasItsBrownOut, AreDrawsGiven};
-ghost use Rattle.sched_storm_call.specs.Told.{slow_of, draws_of, parameters_of, room_of, window_told, totals_told};
+ghost use Rattle.std.specs.Prelude.{◌≡◌, ◌≤◌, ◌↔◌, IsTrue, IsSome, IfSome};
+ghost use Rattle.sched_storm_call.specs.Told.{IsGiven, HasItsBrownOut, IsBreakerGiven, IsThrottleGiven, AreDrawsGiven};
+ghost use Rattle.sched_storm_call.specs.Told.{AreDrawsOf, IsOf, slow_of, parameters_of, room_of, window_told};
+ghost use Rattle.sched_storm_call.specs.Told.{totals_told};
 
-use sched_storm::{BrownOut, Draws, Parameters, Span, Storm, Totals, Window};
+use sched_limit::{Breaker, Bucket, InFlight, Throttle};
+use sched_storm::{BrownOut, Draws, Limit, Parameters, Span, Storm, Totals, Window};
 use sched_ticket_quota::Terms;
-use sched_time::Millis;
+use sched_time::{Millis, Moment};
 
 /// The parameters of a storm.
 #[repr(C)]
@@ -31,6 +33,20 @@ pub struct StormGiven {
     pub reserve: u64,
     pub share: u64,
     pub period: u64,
+    pub bucket_capacity: u64,
+    pub bucket_floor: u64,
+    pub bucket_debit: u64,
+    pub bucket_credit: u64,
+    pub bucket_refund: u64,
+    pub cost: u64,
+    pub late_cost: u64,
+    pub least: u64,
+    pub failures: u64,
+    pub probes: u64,
+    pub deadline: u64,
+    pub ratio: u64,
+    pub open_count: u64,
+    pub open_times: [u64; 64],
 }
 
 /// The parameters of a storm, after the size in bytes that C gives of this struct.
@@ -42,7 +58,7 @@ pub struct SizedStorm {
 }
 
 /// The size of it.
-pub(crate) const STORM_SIZE: usize = 168;
+pub(crate) const STORM_SIZE: usize = 784;
 
 /// A window of a storm.
 #[repr(C)]
@@ -96,7 +112,7 @@ impl StormGiven {
     /// The storm, or `None` where a parameter is outside its range.
     pub(crate) fn storm(&self) -> Option<Storm>
         ensures in_range { IsSome result ↔ IsGiven self.now }
-        ensures value { IfSome result (λ storm. storm ≡ parameters_of self.now) }
+        ensures value { IfSome result (IsOf self.now) }
     {
         let draws = self.draws()?;
         if !self.has_its_brown_out() {
@@ -106,8 +122,7 @@ impl StormGiven {
     }
 
     fn parameters(&self, draws: Draws) -> Parameters
-        requires { draws ≡ draws_of self.now }
-        ensures { result ≡ parameters_of self.now }
+        ensures { result ≡ parameters_of self.now draws }
     {
         Parameters {
             rate: self.rate,
@@ -153,7 +168,7 @@ impl StormGiven {
 
     fn draws(&self) -> Option<Draws>
         ensures given { IsSome result ↔ AreDrawsGiven self.now }
-        ensures value { IfSome result (λ draws. draws ≡ draws_of self.now) }
+        ensures value { IfSome result (AreDrawsOf self.now) }
     {
         match self.draws_on {
             0 => Some(Draws::Nothing),
@@ -163,8 +178,86 @@ impl StormGiven {
                 share: self.share,
                 period: Millis::new(self.period)?,
             })),
+            3 => self.bucket(),
+            4 => self.in_flight(),
+            5 => self.breaker(),
+            6 => self.throttle(),
             _ => None,
         }
+    }
+
+    fn bucket(&self) -> Option<Draws>
+        requires { self.now.draws_on ≡ 3 }
+        ensures given { IsSome result ↔ (self.now.bucket_refund ≤ 1) }
+        ensures value { IfSome result (AreDrawsOf self.now) }
+    {
+        if self.bucket_refund > 1 {
+            return None;
+        }
+        let bucket = Bucket {
+            capacity: self.bucket_capacity,
+            floor: self.bucket_floor,
+            debit: self.bucket_debit,
+            credit: self.bucket_credit,
+            refund: self.bucket_refund == 1,
+        };
+        let limit = Limit::Bucket {
+            bucket,
+            cost: self.cost,
+            late: self.late_cost,
+        };
+        Some(Draws::Limited(limit))
+    }
+
+    fn in_flight(&self) -> Option<Draws>
+        requires { self.now.draws_on ≡ 4 }
+        ensures given { IsSome result ↔ ((self.now.least ≤ 4294967295) × (self.now.share ≤ 4294967295)) }
+        ensures value { IfSome result (AreDrawsOf self.now) }
+    {
+        let least = word_of(self.least)?;
+        let share = word_of(self.share)?;
+        let in_flight = InFlight { least, share };
+        Some(Draws::Limited(Limit::InFlight(in_flight)))
+    }
+
+    fn breaker(&self) -> Option<Draws>
+        requires { self.now.draws_on ≡ 5 }
+        ensures given { IsSome result ↔ IsBreakerGiven self.now }
+        ensures value { IfSome result (AreDrawsOf self.now) }
+    {
+        if self.open_count == 0 {
+            return None;
+        }
+        let failures = word_of(self.failures)?;
+        let deadline = Millis::new(self.deadline)?;
+        let now = Moment::new(0)?;
+        let last = self.open_count - 1;
+        let breaker = Breaker::new(now, failures, self.probes, deadline, self.open_times, last)?;
+        Some(Draws::Limited(Limit::Breaker(breaker)))
+    }
+
+    fn throttle(&self) -> Option<Draws>
+        requires { self.now.draws_on ≡ 6 }
+        ensures given { IsSome result ↔ IsThrottleGiven self.now }
+        ensures value { IfSome result (AreDrawsOf self.now) }
+    {
+        let ratio = word_of(self.ratio)?;
+        let period = Millis::new(self.period)?;
+        let now = Moment::new(0)?;
+        let throttle = Throttle::new(now, ratio, period)?;
+        Some(Draws::Limited(Limit::Throttle(throttle)))
+    }
+}
+
+// The number as one of 32 bits.
+fn word_of(number: u64) -> Option<u32>
+    ensures some { IsSome result ↔ (number ≤ 4294967295) }
+    ensures value { IfSome result (λ word. word ≡ number) }
+{
+    if number <= 4294967295 {
+        Some(number as u32)
+    } else {
+        None
     }
 }
 

@@ -10,11 +10,12 @@ from ._engine.calls import MAX_TICKETS
 from ._engine.handles import Totals, play_storm
 from ._time import Duration, seconds as in_milliseconds
 from .budget import Budget
-from .budgets.terms import Terms
 from .errors import PolicyError, StormError
+from .limits.limit import Limit
 from .policy import Policy
 from .quota import Quota
-from .storms.parameters import MAX_SEED, Parameters, Slow, Span
+from .storms.limits import limit_of
+from .storms.parameters import MAX_SEED, Limited, Parameters, Slow, Span
 
 __all__ = ["Storm", "StormRow", "StormTotals", "storm"]
 
@@ -51,11 +52,12 @@ class StormTotals:
     won: int
     #: Requests whose last call failed because the policy was done.
     lost: int
-    #: Requests whose policy went on, but for which there was no ticket.
+    #: Requests whose policy went on, but for which there was no ticket; and those that a limit refused before their
+    #: first call.
     denied: int
     #: Requests that were still under way when the storm ended.
     open: int
-    #: Calls: requests and retries that began.
+    #: Calls: requests and retries that began. A request that a limit refused makes none.
     calls: int
     #: Calls per request, in hundredths.
     hundredths: int
@@ -149,7 +151,7 @@ def storm(
     until: Optional[Duration] = None,
     calls: int = 16_777_216,
     seed: int = 0,
-    budget: Union[None, int, Budget, Quota] = None,
+    budget: Union[None, int, str, Budget, Quota, Limit] = None,
 ) -> Storm:
     """Simulates many requests under one policy, on a peer that fails for a while. It makes no call and does not wait.
 
@@ -176,6 +178,9 @@ def storm(
     `budget`
         What limits the retries: None, a number of tickets, or the terms of a `Budget` or a `Quota`, from which no
         ticket is drawn. Requests count when they come, and no ticket comes back, whatever the quota's options are.
+        Or the terms of a `Bucket`, an `InFlight`, a `Breaker` or a `Throttle`, which requests also ask before their
+        first call; a call that its client gave up costs what a `TimeoutError` does. The limit itself stays as it is.
+        A text such as `"grpc:100/100"` spells one as the command line does.
 
     Times are seconds, or a `timedelta`. A value out of range raises a `StormError`.
 
@@ -267,8 +272,12 @@ def _slow(slow: Any) -> Slow:
     return Slow(_time("slow", begins), _time("slow", ends), round(share * 100))
 
 
-def _tickets(budget: Any) -> Union[None, int, Terms]:
+def _tickets(budget: Any) -> Limited:
     """The terms by which tickets are given."""
+    if isinstance(budget, Limit):
+        return budget.on_storm()
+    if isinstance(budget, str):
+        return limit_of(budget)
     if isinstance(budget, Quota):
         return budget.terms
     if isinstance(budget, Budget):

@@ -25,9 +25,8 @@ pub(crate) use sys::{BreakerTerms, BucketTerms};
 pub(crate) use sys::{Course, Event, Line, Next, Place, Run, Storm, Totals, Used, Window};
 pub(crate) use sys::{BREAKER_OPEN, LEVEL_LOW, PROBING, REQUESTS_FULL, RETRIES_FULL, THROTTLED};
 pub(crate) use sys::{ENDED_CANCELLED, ENDED_DEADLINE, ENDED_DONE, ENDED_NO_MEMORY, ENDED_REFUSED, ENDED_WON};
-pub(crate) use sys::{
-    LOST, MAX_NUMBER, MAX_STEPS, MAX_TICKETS, NO_DEADLINE, NO_REPORT, ON_BUDGET, ON_NOTHING, ON_QUOTA, OVER, WAIT, WON,
-};
+pub(crate) use sys::{LOST, MAX_NUMBER, MAX_STEPS, MAX_TICKETS, NO_DEADLINE, NO_REPORT, OVER, WAIT, WON};
+pub(crate) use sys::{ON_BREAKER, ON_BUCKET, ON_BUDGET, ON_IN_FLIGHT, ON_NOTHING, ON_QUOTA, ON_THROTTLE};
 
 // SAFETY of the calls in this folder: a pointer is to a handle of the kind that the call wants, or to an empty one that
 // it fills; a text or a room is valid for the length that is told; each result has a place of its own; and a handle

@@ -175,6 +175,20 @@ pub(crate) struct Storm {
     pub(crate) reserve: u64,
     pub(crate) share: u64,
     pub(crate) period: u64,
+    pub(crate) bucket_capacity: u64,
+    pub(crate) bucket_floor: u64,
+    pub(crate) bucket_debit: u64,
+    pub(crate) bucket_credit: u64,
+    pub(crate) bucket_refund: u64,
+    pub(crate) cost: u64,
+    pub(crate) late_cost: u64,
+    pub(crate) least: u64,
+    pub(crate) failures: u64,
+    pub(crate) probes: u64,
+    pub(crate) deadline: u64,
+    pub(crate) ratio: u64,
+    pub(crate) open_count: u64,
+    pub(crate) open_times: [u64; 64],
 }
 
 #[repr(C)]
@@ -267,6 +281,10 @@ pub(super) const READS_INPUT: u64 = 16;
 pub(crate) const ON_NOTHING: u64 = 0;
 pub(crate) const ON_BUDGET: u64 = 1;
 pub(crate) const ON_QUOTA: u64 = 2;
+pub(crate) const ON_BUCKET: u64 = 3;
+pub(crate) const ON_IN_FLIGHT: u64 = 4;
+pub(crate) const ON_BREAKER: u64 = 5;
+pub(crate) const ON_THROTTLE: u64 = 6;
 
 /// The greatest moment, length of a window, and code.
 pub(crate) const MAX_NUMBER: u64 = (1 << 62) - 1;

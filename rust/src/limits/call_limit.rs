@@ -2,6 +2,7 @@
 
 use crate::clock::{whole_millis, Moment};
 use crate::engine::{self, BreakerTerms, BucketTerms, Course, Event, Handle, LimitKind, Refusal, Status};
+use crate::engine::{ON_BREAKER, ON_BUCKET, ON_IN_FLIGHT, ON_THROTTLE};
 use crate::limits::budget::BudgetError;
 use crate::limits::grants::Tickets;
 use crate::limits::ticket::{NoTicket, Ticket};
@@ -217,8 +218,44 @@ impl Throttle {
     }
 }
 
+impl Terms {
+    /// Puts them into the parameters of a storm.
+    pub(crate) fn on_storm(&self, storm: &mut engine::Storm) -> Result<(), BudgetError> {
+        match self {
+            Self::Bucket(bucket) => {
+                let cost = thousandths(bucket.cost)?;
+                if cost > thousandths(bucket.capacity)? {
+                    return Err(BudgetError::OutOfRange);
+                }
+                (storm.draws_on, storm.cost, storm.late_cost) = (ON_BUCKET, cost, cost);
+                storm.bucket_capacity = thousandths(bucket.capacity)?;
+                storm.bucket_floor = thousandths(bucket.floor)?;
+                storm.bucket_debit = thousandths(bucket.debit)?;
+                storm.bucket_credit = thousandths(bucket.credit)?;
+                storm.bucket_refund = bucket.refund.into();
+            }
+            Self::InFlight(in_flight) => {
+                (storm.draws_on, storm.least) = (ON_IN_FLIGHT, in_flight.least.into());
+                storm.share = thousandths(in_flight.share)?;
+            }
+            Self::Breaker(breaker) => {
+                let times = breaker.times()?;
+                (storm.draws_on, storm.open_count) = (ON_BREAKER, times.len() as u64);
+                storm.open_times[..times.len()].copy_from_slice(&times);
+                (storm.failures, storm.probes) = (breaker.failures.into(), breaker.probes.into());
+                storm.deadline = whole_millis(breaker.probe_deadline);
+            }
+            Self::Throttle(throttle) => {
+                (storm.draws_on, storm.ratio) = (ON_THROTTLE, thousandths(throttle.ratio)?);
+                storm.period = whole_millis(throttle.period);
+            }
+        }
+        Ok(())
+    }
+}
+
 /// A number in thousandths.
-fn thousandths(number: f64) -> Result<u64, BudgetError> {
+pub(crate) fn thousandths(number: f64) -> Result<u64, BudgetError> {
     if (0.0..=1.1e9).contains(&number) {
         Ok((number * 1000.0).round() as u64)
     } else {

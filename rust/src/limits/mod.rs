@@ -1,7 +1,7 @@
 //! Limits: what retries draw their tickets on.
 
 pub(crate) mod budget;
-mod call_limit;
+pub(crate) mod call_limit;
 mod counters;
 pub(crate) mod grants;
 pub(crate) mod part;

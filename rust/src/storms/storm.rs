@@ -3,6 +3,7 @@
 use crate::clock::whole_millis;
 use crate::engine::{self, Handle, PassKind, Status, ON_BUDGET, ON_NOTHING, ON_QUOTA};
 use crate::limits::budget::BudgetError;
+use crate::limits::call_limit::{thousandths, CallLimit, Terms as LimitTerms};
 use crate::limits::quota::Terms;
 use crate::policy::Policy;
 use crate::storms::report::{StormReport, StormTotals, StormWindow};
@@ -116,6 +117,20 @@ impl Storm {
             reserve: 0,
             share: 0,
             period: 1,
+            bucket_capacity: 0,
+            bucket_floor: 0,
+            bucket_debit: 0,
+            bucket_credit: 0,
+            bucket_refund: 0,
+            cost: 0,
+            late_cost: 0,
+            least: 0,
+            failures: 0,
+            probes: 0,
+            deadline: 0,
+            ratio: 0,
+            open_count: 0,
+            open_times: [0; 64],
         };
         Self { policy: policy.clone(), parameters, until: None, is_slow: false, fault: None }
     }
@@ -227,6 +242,24 @@ impl Storm {
             }
             Err(fault) => Some(fault),
         };
+        self
+    }
+
+    /// Requests ask a limit of another system, with these terms, before their first call and for each retry. A retry
+    /// takes the cost of a [`Bucket`](crate::Bucket) after a late call too: see [`late_cost`](Self::late_cost).
+    pub fn limit(mut self, terms: impl Into<LimitTerms>) -> Self {
+        let terms = terms.into();
+        self.fault = CallLimit::new(terms.clone()).and_then(|_| terms.on_storm(&mut self.parameters)).err();
+        self
+    }
+
+    /// The tokens that a retry takes of a bucket after a call that its client gave up: the AWS SDKs take 10. Call it
+    /// after [`limit`](Self::limit).
+    pub fn late_cost(mut self, tokens: f64) -> Self {
+        match thousandths(tokens) {
+            Ok(cost) if cost <= self.parameters.bucket_capacity => self.parameters.late_cost = cost,
+            _ => self.fault = Some(BudgetError::OutOfRange),
+        }
         self
     }
 

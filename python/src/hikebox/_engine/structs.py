@@ -90,8 +90,10 @@ class Storm(_Sized):
         _SIZE,
         *_numbers(
             "rate together seconds capacity patience queue outage_from outage_to slow_from slow_to slow_percent window "
-            "until calls words draws_on limit reserve share period"
+            "until calls words draws_on limit reserve share period bucket_capacity bucket_floor bucket_debit "
+            "bucket_credit bucket_refund cost late_cost least failures probes deadline ratio open_count"
         ),
+        ("open_times", c_uint64 * 64),
     ]
 
 

@@ -3,13 +3,14 @@
 from __future__ import annotations
 
 import json
-from typing import Any, List, NamedTuple, Optional, Tuple, Union
+from typing import Any, List, NamedTuple, Optional, Tuple
 
 from .._engine.calls import MAX_TICKETS
-from ..budgets.terms import Terms, terms_of
+from ..budgets.terms import terms_of
 from ..errors import BudgetError, PolicyError, StormError
 from ..policy import Policy
-from ..storms.parameters import RANGES, SCENARIOS, Parameters, Slow, Span
+from ..storms.limits import limit_of
+from ..storms.parameters import RANGES, SCENARIOS, Limited, Parameters, Slow, Span
 from .values import terms
 
 __all__ = ["Line", "Scenario", "scenario_of"]
@@ -25,7 +26,7 @@ class Line(NamedTuple):
 
     name: Optional[str]
     policy: Policy
-    tickets: Union[None, int, Terms]
+    tickets: Limited
 
 
 class Scenario(NamedTuple):
@@ -102,9 +103,9 @@ def _text(place: str, value: Any) -> Optional[str]:
     return value
 
 
-def _limit(place: str, limit: Any) -> Union[None, int, Terms]:
+def _limit(place: str, limit: Any) -> Limited:
     if isinstance(limit, str):
-        return terms_of(*terms(limit))
+        return limit_of(limit) if limit[:1].isalpha() else terms_of(*terms(limit))
     if limit is None:
         return None
     if not 0 <= _whole(f"{place}.limit", limit) <= MAX_TICKETS:

@@ -4,14 +4,16 @@ from __future__ import annotations
 
 import sys
 import time
-from typing import Any, Callable, List, NamedTuple, Sequence, Tuple
+from typing import Any, Callable, List, NamedTuple, Optional, Sequence, Tuple
 
 from ..errors import StormError
+from ..limits.kinds import times_of
 from ..policy import Policy
 from ..storm import Storm
 from ..storms.axes import values_of
 from ..storms.bars import bars, has_colour
 from ..storms.cores import Told, play_all
+from ..storms.limits import LimitTerms
 from ..storms.parameters import Parameters, limit_text
 from ..storms.picture import storm_picture
 from ..storms.texts import beside, sentences
@@ -48,7 +50,7 @@ def wanted_of(given: Any, policy_of: PolicyOf) -> Wanted:
     scenario = scenario_of(given.scenario)
     parameters = parameters_of(given, scenario.parameters)
     words = _words(given, scenario)
-    limits = limits_of(given)
+    limits = limits_of(given, _open_times(given, policy_of))
     has_limits = bool(given.limits or given.without)
     _look_at(given, len(words) * len(limits) if words else len(scenario.lines) * (len(limits) if has_limits else 1))
     title = given.title or scenario.title or ""
@@ -63,6 +65,15 @@ def wanted_of(given: Any, policy_of: PolicyOf) -> Wanted:
     ]
     names = [line.name or "" for line in scenario.lines]
     return Wanted(storms, given.name or (names if all(names) and not has_limits else ()), title)
+
+
+def _open_times(given: Any, policy_of: PolicyOf) -> Optional[Tuple[int, ...]]:
+    """The open times of breakers, where a file has their policy."""
+    if given.open is None:
+        return None
+    if not any(isinstance(limit, LimitTerms) and limit.times for limit in given.limits):
+        raise StormError("open", "it is of --limit breaker:..")
+    return tuple(times_of(policy_of(given.open)))
 
 
 def _words(given: Any, scenario: Scenario) -> List[str]:

@@ -4,14 +4,15 @@ from __future__ import annotations
 
 import argparse
 import re
-from typing import Any, List, Optional, Tuple, Union
+from typing import Any, List, Optional, Tuple
 
 from .._engine.calls import MAX_TICKETS
 from .._svg import fitted
 from ..budgets.terms import Terms, terms_of
-from ..errors import BudgetError
+from ..errors import BudgetError, TermsError
 from ..storms.axes import MEASURES
-from ..storms.parameters import RANGES, Parameters, Slow, Span
+from ..storms.limits import LimitTerms, limit_of
+from ..storms.parameters import RANGES, Limited, Parameters, Slow, Span
 from . import values
 from .arguments import Once
 
@@ -53,6 +54,10 @@ def add_storm_options(storm: argparse.ArgumentParser) -> None:
     quota = "limit the retries in each PERIOD to RESERVE and a SHARE of its requests, such as 10/10%/1s"
     shown = quota.replace("%", "%%")
     storm.add_argument("--quota", type=_quota, metavar="RESERVE/SHARE%/PERIOD", help=shown, **limits)
+    limit = "a limit that requests also ask before their first call, such as grpc:100/100, aws or breaker:5/1/1000"
+    storm.add_argument("--limit", type=_limit, metavar="LIMIT", help=limit, **limits)
+    times = "the policy whose waits are the open times of a breaker (30 s each)"
+    storm.add_argument("--open", action=_Once, metavar="FILE", help=times)
     storm.add_argument("--without", action="store_true", help="also play each policy without a limit")
     along = "play the storms for each value of a parameter, such as rate=200..1600/8 (see below)"
     storm.add_argument("--sweep", action=Once, metavar="NAME=VALUES", help=along)
@@ -62,9 +67,13 @@ def add_storm_options(storm: argparse.ArgumentParser) -> None:
     storm.add_argument("--find", choices=["quota", "retries", "patience"], help=border)
 
 
-def limits_of(given: Any) -> List[Union[None, int, Terms]]:
-    """What retries draw on, in a storm each."""
-    limits: List[Union[None, int, Terms]] = list(given.limits)
+def limits_of(given: Any, times: Optional[Tuple[int, ...]] = None) -> List[Limited]:
+    """What retries draw on, in a storm each; `times` are the open times of breakers, if they are given."""
+    limits: List[Limited] = list(given.limits)
+    if times is not None:
+        limits = [
+            limit._replace(times=times) if isinstance(limit, LimitTerms) and limit.times else limit for limit in limits
+        ]
     return [None, *limits] if given.without or not limits else limits
 
 
@@ -75,8 +84,8 @@ def parameters_of(given: Any, base: Parameters) -> Parameters:
     return base._replace(**changed).checked()
 
 
-def tickets_of(text: str) -> Union[None, int, Terms]:
-    """A budget as `N`, a quota as `RESERVE/SHARE%/PERIOD`, or none where the text is empty.
+def tickets_of(text: str) -> Limited:
+    """A budget as `N`, a quota as `RESERVE/SHARE%/PERIOD`, a limit as `--limit` has it, or none if the text is empty.
 
     >>> tickets_of("100"), tickets_of("10/10%/1s"), tickets_of(" ")
     (100, Terms(reserve=10, share=100, period=1000), None)
@@ -84,6 +93,8 @@ def tickets_of(text: str) -> Union[None, int, Terms]:
     spelt = text.strip()
     if not spelt:
         return None
+    if spelt[0].isalpha() and len(spelt) <= _MAX_TEXT:
+        return limit_of(spelt)
     if spelt.isascii() and spelt.isdigit() and len(spelt) <= _MAX_TEXT:
         if int(spelt) > MAX_TICKETS:
             raise BudgetError(f"expected a budget from 0 to {MAX_TICKETS}, got {spelt}")
@@ -111,6 +122,13 @@ def _slow(text: str) -> Slow:
     if ends is None or not (percent.isascii() and percent.isdigit()):
         raise argparse.ArgumentTypeError(f"expected FROM..TO@PERCENT, as 10000..20000@50, got {text!r}")
     return Slow(*ends, int(percent))
+
+
+def _limit(text: str) -> LimitTerms:
+    try:
+        return limit_of(text)
+    except TermsError as error:
+        raise argparse.ArgumentTypeError(str(error)) from None
 
 
 def _quota(text: str) -> Terms:

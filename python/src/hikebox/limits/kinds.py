@@ -11,6 +11,7 @@ from .._time import Duration, moment, seconds
 from ..budgets.terms import thousandths_of
 from ..errors import TermsError
 from ..policy import Policy
+from ..storms.limits import LimitTerms, breaker, bucket, in_flight, throttle
 from .limit import Limit
 
 __all__ = ["Breaker", "Bucket", "InFlight", "Throttle"]
@@ -97,6 +98,10 @@ class Bucket(Limit):
     def make(self) -> LimitHandle:
         return LimitHandle.of_bucket(*self._terms)
 
+    def on_storm(self) -> LimitTerms:
+        capacity, floor, debit, credit, refund = self._terms
+        return bucket(capacity, floor, self._cost, self._timeout_cost, debit, credit, refund)
+
     def cost_of(self, error: Optional[BaseException]) -> int:
         return self._timeout_cost if isinstance(error, TimeoutError) else self._cost
 
@@ -139,6 +144,9 @@ class InFlight(Limit):
 
     def make(self) -> LimitHandle:
         return LimitHandle.of_flight(*self._terms)
+
+    def on_storm(self) -> LimitTerms:
+        return in_flight(*self._terms)
 
     def expression(self) -> str:
         least, share = self._terms
@@ -192,7 +200,7 @@ class Breaker(Limit):
         self._policy = Policy.of(open_for)
         self._probes = _count("probes", probes, 1, 15)
         self._deadline = seconds(probe_deadline, "probe_deadline")
-        self._times = _times_of(self._policy)
+        self._times = times_of(self._policy)
         super().__init__(clock)
 
     @property
@@ -202,6 +210,9 @@ class Breaker(Limit):
 
     def make(self) -> LimitHandle:
         return LimitHandle.of_breaker(moment(self.clock()), *self.terms)
+
+    def on_storm(self) -> LimitTerms:
+        return breaker(self._failures, self._probes, self._deadline, tuple(self._times))
 
     def expression(self) -> str:
         return f"Breaker({self._failures}, {self._policy!r})"
@@ -251,6 +262,9 @@ class Throttle(Limit):
     def make(self) -> LimitHandle:
         return LimitHandle.of_throttle(moment(self.clock()), self._ratio, self._period)
 
+    def on_storm(self) -> LimitTerms:
+        return throttle(self._ratio, self._period)
+
     def expression(self) -> str:
         return f"Throttle({self._ratio / 1000:g}, {self._period / 1000:g})"
 
@@ -263,7 +277,7 @@ def _count(name: str, value: int, least: int, most: int = _MAX_COUNT) -> int:
     return value
 
 
-def _times_of(policy: Policy) -> List[int]:
+def times_of(policy: Policy) -> List[int]:
     """The open times of a breaker: the first waits of a policy, in milliseconds, on a course whose events have the
     input 0 and the random words 0."""
     lines = policy.plan.course(_MAX_TIMES, 0, 0, [(0, 0, 0, 0, 0)])

@@ -20,6 +20,7 @@ from .._forks import OfOneProcess, begins_anew_in_a_child
 from .._time import moment
 from ..budgets.tickets import Refusal, RefusalReason
 from ..policy.preview import word_of
+from ..storms.limits import LimitTerms
 
 __all__ = ["Limit", "Request"]
 
@@ -81,6 +82,10 @@ class Limit(OfOneProcess):
     def parts(self) -> List[Limit]:
         """Returns the limits that it asks, each a single one of this process."""
         return [self]
+
+    def on_storm(self) -> LimitTerms:
+        """Returns its terms, as a storm takes them."""
+        raise TypeError(f"expected one limit on a storm, got {self!r}")
 
     def expression(self) -> str:
         """Returns the expression that makes one like it."""

@@ -8,8 +8,9 @@ from .._engine.calls import ON_BUDGET, ON_QUOTA
 from .._engine.structs import Storm
 from ..budgets.terms import Terms
 from ..errors import StormError
+from .limits import LimitTerms
 
-__all__ = ["MAX_SEED", "RANGES", "SCENARIOS", "Parameters", "Slow", "Span", "limit_text", "tickets_text"]
+__all__ = ["MAX_SEED", "RANGES", "SCENARIOS", "Limited", "Parameters", "Slow", "Span", "limit_text", "tickets_text"]
 
 #: The most requests of a storm, and the most windows after the first.
 MAX_REQUESTS, MAX_WINDOWS = 1_048_576, 65_536
@@ -31,6 +32,10 @@ RANGES: Dict[str, Tuple[int, int]] = {
 }
 #: Those that are milliseconds.
 _TIMES = ("patience", "window", "until", "outage", "slow")
+
+
+#: What retries draw on: None, the limit of a budget, the terms of a quota, or a limit of another system.
+Limited = Union[None, int, Terms, LimitTerms]
 
 
 class Span(NamedTuple):
@@ -63,8 +68,8 @@ class Parameters(NamedTuple):
     until: Optional[int] = None
     calls: int = 16_777_216
     words: int = 0
-    #: None, the limit of a budget, or the terms of a quota.
-    tickets: Union[None, int, Terms] = None
+    #: What retries draw on.
+    tickets: Limited = None
 
     @property
     def last(self) -> int:
@@ -116,7 +121,9 @@ class Parameters(NamedTuple):
         made.outage_from, made.outage_to = self.outage
         if self.slow is not None:
             made.slow_from, made.slow_to, made.slow_percent = self.slow
-        if isinstance(self.tickets, Terms):
+        if isinstance(self.tickets, LimitTerms):
+            self.tickets.put_in(made)
+        elif isinstance(self.tickets, Terms):
             made.draws_on = ON_QUOTA
             made.reserve, made.share, made.period = self.tickets
         elif self.tickets is not None:
@@ -132,7 +139,7 @@ SCENARIOS: Dict[str, Parameters] = {
 }
 
 
-def tickets_text(tickets: Union[None, int, Terms]) -> str:
+def tickets_text(tickets: Limited) -> str:
     """What the retries of a storm draw on, in words.
 
     >>> tickets_text(None), tickets_text(100), tickets_text(Terms(10, 100, 1000))
@@ -140,13 +147,15 @@ def tickets_text(tickets: Union[None, int, Terms]) -> str:
     """
     if tickets is None:
         return "no limit"
+    if isinstance(tickets, LimitTerms):
+        return tickets.text
     if isinstance(tickets, Terms):
         period = f"{tickets.period / 1000:.12g} s"
         return f"a quota: {tickets.reserve:,} and {tickets.share / 10:.12g} % of the requests in each {period}"
     return f"a budget of {tickets:,}"
 
 
-def limit_text(tickets: Union[None, int, Terms]) -> str:
+def limit_text(tickets: Limited) -> str:
     """The same as a title has it.
 
     >>> limit_text(None), limit_text(5000), limit_text(Terms(10, 100, 1000))
@@ -154,6 +163,8 @@ def limit_text(tickets: Union[None, int, Terms]) -> str:
     """
     if tickets is None:
         return "no limit"
+    if isinstance(tickets, LimitTerms):
+        return tickets.text
     if isinstance(tickets, Terms):
         return f"quota {tickets.reserve}/{tickets.share / 10:.12g}%/{tickets.period / 1000:.12g}s"
     return f"budget of {tickets:,}"

@@ -2,7 +2,8 @@
 use Rattle.std.proofs.Common.{rules, ◌≡◌, length, vec_len, map, Some, Ok, Err, refl, ap, ◌∙◌}
 use Rattle.std.proofs.lemmas.List.{length-map}
 use Rattle.sched_handle.specs.declared.status.Status.TheVariants.{Empty, NoRoom, OutOfRange}
-use Rattle.sched_storm_call.specs.Told.{parameters_of, window_told, totals_told}
+use Rattle.sched_storm.specs.Report.{AddsUp}
+use Rattle.sched_storm_call.specs.Told.{window_told, totals_told}
 use Rattle.sched_storm_call.specs.Plays.{Told, HasRoom, IsReported}
 use Rattle.sched_storm_call.proofs.Refused.{refused}
 use Rattle.sched_storm_call.proofs.plays.tell_storm.Goals as goal
@@ -27,10 +28,21 @@ returns-in-Ok-clause-played c =
     let len : c.len.result ≡ length ws = c.len.ensures ∙ each ∙ many in
     let count : c.len-in-Ok.result ≡ length ws = c.len-in-Ok.ensures ∙ each ∙ many in
     let copied : c.copy_from_slice.new.self ≡ map window_told ws = search rules in
-    let reported : IsReported c.in-Some-take.held.value (parameters_of c.args.storm.now) c.in-Ok.report = search rules in
+    let reported : IsReported c.in-Some-take.held.value c.in-Some.storm c.in-Ok.report = search rules in
+    let adds_up : AddsUp c.in-Some.storm c.in-Ok.report = search rules in
     let totals : c.of.result ≡ totals_told c.in-Ok.report.totals = c.of.ensures in (
       Ok c.in-Ok.report,
-      (room, (c.in-Some-take.held.value, search rules, reported), search rules),
+      (
+        room,
+        record {
+          parameters = c.in-Some.storm;
+          are = search rules;
+          policy = c.in-Some-take.held.value;
+          holds = search rules;
+          reported = reported;
+          adds_up = adds_up;
+        },
+      ),
       (refl, rw (copied, len, count, totals) refl),
     )
 

@@ -1,7 +1,8 @@
--- A failure is answered by its request's driver, and by a ticket.
+-- A failure is told, and answered by its request's driver, and by the limit or a ticket.
 use Rattle.std.proofs.Common.{◌≡◌, ℕ, ◌<◌, ◌≤◌, List, Some, None, length, get_or, get_or-set_same, refl, subst, sym, ap}
 use Rattle.std.proofs.Common.{◌∙◌, arith, rules}
 use Rattle.std.specs.Prelude.{is_some}
+use Rattle.sched_storm_limit.specs.States.{state_of}
 use Rattle.sched_storm.specs.Drivers.{DriverStands, with_failure, input_of}
 use Rattle.sched_storm.specs.declared.drivers.Drivers.{Drivers}
 use Rattle.sched_storm.specs.Course.{shared_of, slot_of}
@@ -19,11 +20,16 @@ returns-clause-answered c = λ h k.
     (Some answers.driver) None few in
     let given = with_failure h t c.four_words-words.result (input_of c.args.failure) in
     let last = last_given h t c.four_words-words.result (input_of c.args.failure) in
-    failing_answered old _ t r c.args.failure h c.four_words-words.result c.in_ok-start.start c.next-after.result
+    failing_answered old _ t r c.args.failure h c.four_words-words.result c.in_ok-start.start
+    (state_of c.tell_failed.new.limit) (state_of c.ask.new.limit) c.in_ok-is_granted.is_granted c.next-after.result
     c.four_words-words.ensures
-    answers.planned answers.later c.next-after.ensures
+    answers.planned answers.later c.tell_failed.ensures c.in_ok-is_granted.ensures c.next-after.ensures
     (record {
-      shared = refl;
+      busy = refl;
+      words = refl;
+      drawn = refl;
+      limit_is = c.in_ok-tell_ended.ensures;
+      calls = refl;
       told = λ peer ms is was. told_so peer c.peer.result c.moment_of.result _ old.tally c.tell.new.self
           c.in_ok-tell.ensures.told
           (c.peer.ensures.value ∙ sym is) c.moment_of.ensures ms was;

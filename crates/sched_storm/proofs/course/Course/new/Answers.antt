@@ -13,6 +13,7 @@ returns-clause-stands c = stands_at_first _ (record {
   calls = refl;
   busy = refl;
   drawn = refl;
+  limit = search rules;
   slots = search rules;
   slots_len = search rules;
   agenda = search rules;

@@ -1,7 +1,6 @@
 -- Each kind of what is due is answered by its own method.
 use Rattle.std.proofs.Common.{◌≡◌, List, IfOk, OnOk, subst, sym, ap, ◌∙◌}
 use Rattle.sched_storm.specs.Plays.{Stage, begins, retries, succeeds, fails, playing}
-use Rattle.sched_storm.specs.Turns.{is_call_kind}
 use Rattle.sched_storm.specs.Course.{shared_of, slot_of, Drives, HasAnswered, IsPlacedAt, IsDrivenAt, IsCounted}
 use Rattle.sched_storm.proofs.OfKind.{of_begins, of_retries, of_succeeds, of_fails}
 use Rattle.sched_storm.proofs.course.Course.play.Goals as goal
@@ -9,9 +8,6 @@ use Rattle.sched_storm.proofs.course.Course.play.Goals as goal
 pub begin-requires-clause-placed : goal.begin-requires-clause-placed
 begin-requires-clause-placed c =
     subst (λ k. IsPlacedAt k c.args.turn.request c.args.self.now.requests) c.in-Begins.is c.requires.placed
-
-pub begin-requires-clause-room : goal.begin-requires-clause-room
-begin-requires-clause-room c = c.requires.room (ap is_call_kind c.in-Begins.is)
 
 pub returns-in-Begins-clause-answered : goal.returns-in-Begins-clause-answered
 returns-in-Begins-clause-answered c = λ what kind.
@@ -29,9 +25,6 @@ returns-in-Begins-clause-counts c =
 pub retry-requires-clause-placed : goal.retry-requires-clause-placed
 retry-requires-clause-placed c =
     subst (λ k. IsPlacedAt k c.args.turn.request c.args.self.now.requests) c.in-Retries.is c.requires.placed
-
-pub retry-requires-clause-room : goal.retry-requires-clause-room
-retry-requires-clause-room c = c.requires.room (ap is_call_kind c.in-Retries.is)
 
 pub returns-in-Retries-clause-answered : goal.returns-in-Retries-clause-answered
 returns-in-Retries-clause-answered c = λ what kind.

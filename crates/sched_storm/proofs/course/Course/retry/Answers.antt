@@ -10,5 +10,5 @@ returns-clause-answered c = λ h k.
     coming_answered c.args.self.now _ c.args.turn.at c.args.turn.request h happening.Retry
     (shared_of c.args.self.now) c.call-called.result
     c.after.result c.turn_by.result c.peer.result c.moment_of.result _ c.call-called.ensures.value c.after.ensures
-    c.turn_by.ensures refl
+    c.turn_by.ensures refl refl
     c.in_ok-tell.ensures.told c.peer.ensures.value c.moment_of.ensures c.call-called.ensures.order k.0 k.1

@@ -1,10 +1,19 @@
 -- Each turn that is taken out is played, until nothing is due or one call more would be too many.
 use Rattle.std.proofs.Common.{◌≡◌, ◌<◌, Some, None, IsTrue, subst, ap, ◌∙◌, arith}
+use Rattle.sched_storm.specs.Parameters.{all_requests}
 use Rattle.sched_storm.specs.Course.{StandsFirst}
-use Rattle.sched_storm.proofs.Ready.{is_cut, is_done, less_of, few_said}
+use Rattle.sched_storm.proofs.Ready.{ready, is_cut, is_done, less_of, few_said}
 use Rattle.sched_storm.proofs.Taken.{none_if}
 use Rattle.sched_storm.specs.declared.parameters.Parameters.{Parameters}
 use Rattle.sched_storm.proofs.course.Course.run.Goals as goal
+
+pub is_full-requires : goal.is_full-requires
+is_full-requires c =
+    let first = subst (λ o. StandsFirst c.loop-next.self o) c.in-Some.is c.loop-next.invariant.stands in
+    let near = ready c.loop-next.self c.in-Some.turn first in
+    let by = near.at in
+    let until = near.near in
+    omega arith
 
 pub step-requires-clause-first : goal.step-requires-clause-first
 step-requires-clause-first c = subst (λ o. StandsFirst c.loop-next.self o) c.in-Some.is c.loop-next.invariant.stands
@@ -12,12 +21,12 @@ step-requires-clause-first c = subst (λ o. StandsFirst c.loop-next.self o) c.in
 pub step-requires-clause-room : goal.step-requires-clause-room
 step-requires-clause-room c = λ call.
     less_of c.loop-next.self.calls c.loop-next.self.storm.calls c.loop-next.invariant.stands.stands.few_calls
-    (c.is_full.ensures.no c.if-is_full.false call)
+    (c.in_ok-is_full.ensures.no c.if-is_full.false call)
 
 pub returns-then-is_full-clause-over : goal.returns-then-is_full-clause-over
 returns-then-is_full-clause-over c =
     let first = subst (λ o. StandsFirst c.loop-next.self o) c.in-Some.is c.loop-next.invariant.stands in
-    let yes = c.is_full.ensures.yes c.if-is_full.true in
+    let yes = c.in_ok-is_full.ensures.yes c.if-is_full.true in
     is_cut c.loop-next.self c.in-Some.turn first yes.0 yes.1
 
 pub returns-clause-over : goal.returns-clause-over
@@ -31,4 +40,5 @@ loop-next-smaller c =
     let one = c.in_ok-after.ensures.said in
     let same = c.in_ok-next.ensures.said in
     let storm = ap (λ (p : Parameters). p.calls) (c.in_ok-next.ensures.storm ∙ c.in_ok-after.ensures.storm) in
+    let all = ap all_requests (c.in_ok-next.ensures.storm ∙ c.in_ok-after.ensures.storm) in
     omega arith

@@ -1,5 +1,6 @@
 -- Each turn is the first of those that are due, and takes a call or the end of one.
 use Rattle.std.proofs.Common.{◌≡◌, ℕ, ◌+◌, ◌-◌, ◌*◌}
+use Rattle.sched_storm.specs.Parameters.{all_requests}
 use Rattle.sched_storm.specs.Course.{StandsFirst}
 use Rattle.sched_storm.proofs.course.Course.run.Given as goal
 
@@ -11,4 +12,4 @@ invariant-loop-next l = record {
 }
 
 abbrev pub decreases-loop-next : goal.decreases-loop-next
-decreases-loop-next l = 2 * l.self.storm.calls + 1 - l.self.tally.said
+decreases-loop-next l = 2 * l.self.storm.calls + all_requests l.self.storm + 1 - l.self.tally.said

@@ -1,0 +1,1 @@
+-- No lemma: each proof stands beside its function.

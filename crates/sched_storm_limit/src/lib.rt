@@ -1,0 +1,11 @@
+//! What retries of a storm draw on, and how a limit of theirs stands. A storm is sequential, so it steps a limit's
+//! machine itself: each method's contract names what the call makes of the limit, and what its request then holds. It
+//! stands on `sched_limit`, which has the machines.
+#![tactic(auto)]
+
+mod asked;
+mod draws;
+mod stand;
+
+pub use draws::{Draws, Limit};
+pub use stand::{Hold, Stand};
