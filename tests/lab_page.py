@@ -441,7 +441,7 @@ def test_texts_can_be_read(browser: Browser, dark: bool, width: int, height: int
 def test_each_control_has_a_name_of_its_own(browser: Browser) -> None:
     labels = [browser.label(element) for element in browser.elements("input, select, textarea, button, summary")]
     assert len(labels) > 40 and "" not in labels
-    assert [label for label in labels if "Policy, as an expression" in label or "Budget or quota" in label]
+    assert [label for label in labels if "Policy, as an expression" in label or "Budget, quota or limit" in label]
     regions = [browser.label(element) for element in browser.elements("main section")]
     assert regions == [
         "The storm",

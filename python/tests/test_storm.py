@@ -23,6 +23,7 @@ from hikebox import Breaker, Bucket, Budget, InFlight, Policy, Quota, Storm, Sto
 from hikebox import milliseconds, recurs, spaced, storm
 from hikebox.cli.storm_options import limits_of, parameters_of, tickets_of
 from hikebox.limits.kinds import times_of
+from hikebox.storms.code import in_command, in_python, in_rust, in_scenario
 from hikebox.storms.limits import limit_of
 from hikebox.storms.parameters import SCENARIOS, Parameters, Slow, Span
 from hikebox.errors import BudgetError
@@ -128,6 +129,16 @@ def test_a_limit_of_the_package_is_one_on_a_storm() -> None:
         storm(FULL, budget=both(Bucket.aws(), InFlight.envoy()))
     with pytest.raises(BudgetError, match="such as grpc:100/100, got 'grpc:1'"):
         storm(FULL, budget="grpc:1")
+
+
+@pytest.mark.parametrize("word", ["aws", "grpc:100/100", "inflight:3/200", "breaker:5/1/1000", "throttle:2000/60000"])
+def test_a_storm_under_a_limit_is_spelt_as_a_command_in_python_and_in_rust(word: str) -> None:
+    parameters = Parameters(tickets=limit_of(word))
+    assert f"--limit {word} " in in_command(FULL, parameters)
+    assert f'budget="{word}"' in in_python(FULL, parameters)
+    assert ".limit(" in in_rust(FULL, parameters)
+    shown = json.loads(in_scenario([play(FULL, parameters._replace(seconds=1))]))
+    assert shown["lines"][0]["limit"] == word
 
 
 def test_a_policy_is_as_for_the_other_calls() -> None:

@@ -2,10 +2,9 @@
 
 from __future__ import annotations
 
-from typing import Any, Dict, List, Optional, Sequence, Tuple, Union
+from typing import Any, Dict, List, Optional, Sequence, Tuple
 
 from .._svg import MIN_WIDTH, MAX_WIDTH
-from ..budgets.terms import Terms
 from ..cli.storm_options import tickets_of
 from ..errors import BudgetError, StormError
 from ..policy import Policy
@@ -14,7 +13,7 @@ from ..storm import Storm, play
 from ..storms.axes import AXES
 from ..storms.code import in_command, in_python, in_rust, in_scenario
 from ..storms.heads import names_of
-from ..storms.parameters import RANGES, Parameters, Slow, Span
+from ..storms.parameters import RANGES, Limited, Parameters, Slow, Span
 from ..storms.picture import storm_picture
 from ..storms.sweep_picture import sweep_picture
 from ..storms.texts import recovery_mark, sentences, share_text
@@ -33,7 +32,7 @@ _SHARES = (0, 25, 50, 100, 150, 200, 300, 400)
 _ALONG = ("rate", "capacity", "outage", "patience", "queue", "share")
 
 Json = Dict[str, Any]
-Tickets = Union[None, int, Terms]
+Tickets = Limited
 
 
 class BadRequest(Exception):

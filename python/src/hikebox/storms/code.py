@@ -7,11 +7,13 @@ import re
 import shlex
 from typing import TYPE_CHECKING, Any, Dict, List, Sequence, Tuple
 
+from .._engine.calls import ON_BUCKET, ON_IN_FLIGHT, ON_THROTTLE
 from .._time import seconds_text
 from ..budgets.terms import Terms
 from ..policy import Policy
 from ..policy import builders
 from ..policy.spelling import duration, spelt_in_rust
+from .limits import LimitTerms
 from .parameters import Parameters, Span
 
 if TYPE_CHECKING:
@@ -30,6 +32,8 @@ def in_command(policy: Policy, parameters: Parameters) -> str:
     for name, value in _changed(parameters).items():
         if isinstance(value, Terms):
             words += ["--quota", _limit(value)]
+        elif isinstance(value, LimitTerms):
+            words += ["--limit", value.text]
         elif name == "tickets":
             words += ["--budget", str(value)]
         elif isinstance(value, tuple):
@@ -57,7 +61,7 @@ def _limit(tickets: Any) -> Any:
     """A limit as the command line and a scenario spell it."""
     if isinstance(tickets, Terms):
         return f"{tickets.reserve}/{tickets.share / 10:.12g}%/{tickets.period}ms"
-    return tickets
+    return tickets.text if isinstance(tickets, LimitTerms) else tickets
 
 
 def in_python(policy: Policy, parameters: Parameters) -> str:
@@ -86,7 +90,8 @@ def _python_arguments(parameters: Parameters) -> List[Tuple[str, str]]:
         found.append(("seed", str(parameters.words)))
     if parameters.tickets is not None:
         tickets = parameters.tickets
-        found.append(("budget", f"Quota({tickets})" if isinstance(tickets, Terms) else str(tickets)))
+        spelt = f"Quota({tickets})" if isinstance(tickets, Terms) else str(tickets)
+        found.append(("budget", f'"{tickets.text}"' if isinstance(tickets, LimitTerms) else spelt))
     return found
 
 
@@ -96,6 +101,7 @@ def in_rust(policy: Policy, parameters: Parameters) -> str:
     calls = [f".{call}" for call in _rust_calls(parameters)]
     played = "".join(f"\n        {call}" for call in [*calls, ".play()?;"])
     used = [name for name in ("Fold", "Test") if f"{name}::" in schedule]
+    used += [name for name in ("Breaker", "Bucket", "InFlight", "Throttle") if f"limit({name} " in played]
     names = ", ".join(sorted(["Policy", "Schedule", "Storm", *used]))
     timed = "use std::time::Duration;\n" if "Duration::" in schedule + played else ""
     return (
@@ -123,6 +129,30 @@ def _rust_calls(parameters: Parameters) -> List[str]:
     tickets = parameters.tickets
     if isinstance(tickets, Terms):
         found.append(f"quota({tickets.reserve}, {tickets.share / 1000!r}, {duration(tickets.period)})")
+    elif isinstance(tickets, LimitTerms):
+        found += _rust_limit(tickets)
     elif tickets is not None:
         found.append(f"budget({tickets})")
     return found
+
+
+def _rust_limit(limit: LimitTerms) -> List[str]:
+    """The calls that give a storm its limit."""
+    numbers = dict(limit.numbers)
+
+    def members(**names: str) -> str:
+        return ", ".join(f"{name}: {numbers[of] / 1000!r}" for name, of in names.items())
+
+    if limit.draws_on == ON_BUCKET:
+        levels = {name: f"bucket_{name}" for name in ("capacity", "floor", "debit", "credit")}
+        refund = str(bool(numbers["bucket_refund"])).lower()
+        found = [f"limit(Bucket {{ {members(**levels, cost='cost')}, refund: {refund} }})"]
+        return found + [f"late_cost({numbers['late_cost'] / 1000!r})"] * (numbers["cost"] != numbers["late_cost"])
+    if limit.draws_on == ON_IN_FLIGHT:
+        return [f"limit(InFlight {{ least: {numbers['least']}, {members(share='share')} }})"]
+    if limit.draws_on == ON_THROTTLE:
+        return [f"limit(Throttle {{ {members(ratio='ratio')}, period: {duration(numbers['period'])} }})"]
+    open_for = "open_for: Policy::new(&Schedule::spaced(Duration::from_secs(30)))?"
+    deadline = f"probe_deadline: {duration(numbers['deadline'])}"
+    probes = f"probes: {numbers['probes']}"
+    return [f"limit(Breaker {{ failures: {numbers['failures']}, {open_for}, {probes}, {deadline} }})"]
