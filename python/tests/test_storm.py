@@ -24,7 +24,7 @@ from hikebox import milliseconds, recurs, spaced, storm
 from hikebox.cli.storm_options import limits_of, parameters_of, tickets_of
 from hikebox.limits.kinds import times_of
 from hikebox.storms.code import in_command, in_python, in_rust, in_scenario
-from hikebox.storms.limits import limit_of
+from hikebox.storms.limits import LIMIT_WANTED, limit_of
 from hikebox.storms.parameters import SCENARIOS, Parameters, Slow, Span
 from hikebox.errors import BudgetError
 from hikebox.budgets.terms import Terms
@@ -341,6 +341,10 @@ NAMES = "rate, clients, together, seconds, capacity, queue, patience, outage, sh
         (["--window", "1"], "window: 120000 ms by windows of 1 ms are 120001 lines, and a report has at most 65537"),
         (["--budget", "4294967297"], "argument --budget: expected a number from 0 to 4294967296, got '4294967297'"),
         (["--quota", "1/1%/0s"], "argument --quota: expected a window of at least 100 ms, got 0.0"),
+        (["--limit", "aws:1"], f"argument --limit: {LIMIT_WANTED}, got 'aws:1'"),
+        (["--limit", "aws", "--open", "spaced(1)"], "open: it is of --limit breaker:.."),
+        (["--open", "spaced(1)"], "open: it is of --limit breaker:.."),
+        (["--csv", "--limit", "aws", "--budget", "1"], "storm: --csv and --json are of one storm, or of a sweep"),
         (["--csv", "--budget", "1", "--quota", "1/1%/1s"], "storm: --csv and --json are of one storm, or of a sweep"),
         (["--csv", "--json"], "argument --json: not allowed with argument --csv"),
         (["--csv", "recurs(1)", "recurs(2)"], "storm: --csv and --json are of one storm, or of a sweep"),

@@ -56,8 +56,8 @@ def add_storm_options(storm: argparse.ArgumentParser) -> None:
     storm.add_argument("--quota", type=_quota, metavar="RESERVE/SHARE%/PERIOD", help=shown, **limits)
     limit = "a limit that requests also ask before their first call, such as grpc:100/100, aws or breaker:5/1/1000"
     storm.add_argument("--limit", type=_limit, metavar="LIMIT", help=limit, **limits)
-    times = "the policy whose waits are the open times of a breaker (30 s each)"
-    storm.add_argument("--open", action=_Once, metavar="FILE", help=times)
+    open_for = "how long a breaker is open, each time that it opens (30 s); spelt as POLICY"
+    storm.add_argument("--open", action=Once, metavar="POLICY", help=open_for)
     storm.add_argument("--without", action="store_true", help="also play each policy without a limit")
     along = "play the storms for each value of a parameter, such as rate=200..1600/8 (see below)"
     storm.add_argument("--sweep", action=Once, metavar="NAME=VALUES", help=along)
