@@ -83,14 +83,14 @@ def test_aws_gives_the_cost_back_once(tmp_path: Path) -> None:
 
 def test_a_breaker_over_two_processes(tmp_path: Path) -> None:
     one, other = (
-        SharedLimit(FileStore(tmp_path), "a", Breaker(2, exponential(0.2, 2), probe_deadline=60)) for _ in range(2)
+        SharedLimit(FileStore(tmp_path), "a", Breaker(2, exponential(2, 2), probe_deadline=60)) for _ in range(2)
     )
     late = admitted(other)
     for limit in (one, other):
         admitted(limit).failed()
     refusal = one.request().admit()
     assert refusal is not None and refusal.reason is RefusalReason.BREAKER_OPEN and refusal.again_at is not None
-    assert 0 < refusal.again_at - one.clock() <= 0.2
+    assert 0 < refusal.again_at - one.clock() <= 2
     time.sleep(refusal.again_at - one.clock() + 0.002)
     probe = admitted(other)
     assert reason(one.request().admit()) is RefusalReason.PROBING
@@ -204,7 +204,7 @@ def test_a_full_disk_stops_no_limit_and_a_new_one_goes_on_when_there_is_room(sma
 # Processes
 
 
-class Drawing(Workers):
+class Drawers(Workers):
     def count(self) -> int:
         return self.lines().count("drew")
 
@@ -216,7 +216,7 @@ def test_no_token_is_drawn_twice_by_processes_that_are_killed(tmp_path: Path) ->
     notes = tmp_path / "notes"
     notes.mkdir()
     folder = tmp_path / "counts"
-    workers = Drawing("shared_worker.py", notes)
+    workers = Drawers("shared_worker.py", notes)
     try:
         for kill in (None, 1, 7, 20, None, 33):
             workers.start({"file": str(folder), "tokens": TOKENS, "kill": kill})
@@ -306,19 +306,20 @@ def test_an_open_breaker_runs_nothing(tmp_path: Path) -> None:
 
 
 def test_a_probe_that_is_killed_is_over_at_its_deadline(tmp_path: Path, start: Any) -> None:  # noqa: F811
-    limit = ["--limit", f"breaker:1/1/1s@{tmp_path / 'counts'}", "--open", "spaced(0.01)"]
+    limit = ["--limit", f"breaker:1/1/3s@{tmp_path / 'counts'}", "--open", "spaced(0.01)"]
     assert hikebox("run", *limit, "--", "false")[0] == 1
     time.sleep(0.02)
     began = tmp_path / "began"
+    before = time.monotonic()
     probe = start("run", *limit, "--", "sh", "-c", f"echo $$ > {began}; exec sleep 60")
     command = int(wait_for(began))
     since = time.monotonic()
     probe.send_signal(signal.SIGKILL)
     os.kill(command, signal.SIGKILL)  # (which nobody else ends)
     status, _, errors = hikebox("run", *limit, "--", "true")
-    if time.monotonic() - since < 1:
+    if time.monotonic() - before < 3:
         assert status == 75 and errors == "hikebox: not run: the breaker's probes are out\n"
-    time.sleep(max(0.0, since + 1.05 - time.monotonic()))
+    time.sleep(max(0.0, since + 3.05 - time.monotonic()))
     assert hikebox("run", *limit, "--", "true")[0] == 0
 
 
