@@ -58,6 +58,7 @@ CTYPES: Dict[str, Any] = {
     "uint64_t": c_uint64,
     "uint32_t": ctypes.c_uint32,
     "uint32_t[4]": structs.Words,
+    "uint64_t[64]": c_uint64 * 64,
     "bool": ctypes.c_bool,
 }
 
@@ -87,7 +88,7 @@ def test_the_signatures_are_those_of_the_header() -> None:
 
 def fields(body: str) -> List[Tuple[str, str]]:
     """The type and the name of each field of a struct."""
-    found = re.findall(r"(size_t|uint64_t|uint32_t|bool) (\w+)(\[4\])?;", body)
+    found = re.findall(r"(size_t|uint64_t|uint32_t|bool) (\w+)(\[\d+\])?;", body)
     return [(word + count, name) for word, name, count in found]
 
 
