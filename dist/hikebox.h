@@ -734,14 +734,16 @@ HIKEBOX_CHECKED hikebox_status hikebox_throttle_new(uint64_t now, uint32_t ratio
                                                     hikebox_limit *limit);
 
 /*
- * Joins another limit into `limit`, which is asked first; `second` is then empty. From then on both admit a request or
- * grant a retry, or neither is charged: if the second refuses, what the first gave comes back. Put a breaker second,
- * since a probe that it admitted does not come back. HIKEBOX_EMPTY; _WRONG_KIND: one of them is two limits already.
+ * Joins the limits of another handle into `limit`, whose own are asked first; `second` is then empty. From then on all
+ * admit a request or grant a retry, or none is charged: if one refuses, what those before it gave comes back. Put a
+ * breaker last, since a probe that it admitted does not come back. HIKEBOX_EMPTY; _OUT_OF_RANGE: they are more than
+ * four; both handles are then as they were.
  */
 HIKEBOX_CHECKED hikebox_status hikebox_limit_both(hikebox_limit *limit, hikebox_limit *second);
 
-/* Puts another handle of the same limit, which has no request, into `part`. HIKEBOX_FULL; _EMPTY; _NO_MEMORY;
- * _TOO_MANY_PASSES: after more than 2^42 splits of one handle. */
+/* Puts another handle of the same limit, which has no request, into `part`. A handle that was made is split up to 2^42
+ * times, one that was split off it fewer than 2^20 times, and one that was split off that never: so join handles that
+ * were split off makers' handles. HIKEBOX_FULL; _EMPTY; _NO_MEMORY; _TOO_MANY_PASSES. */
 HIKEBOX_CHECKED hikebox_status hikebox_limit_split(hikebox_limit *limit, hikebox_limit *part);
 
 /*
@@ -776,6 +778,80 @@ hikebox_status hikebox_limit_ended(hikebox_limit *limit);
 /* Ends the request, if one is under way, and frees the handle. The limit lives as long as it has a handle.
  * HIKEBOX_EMPTY. */
 hikebox_status hikebox_limit_free(hikebox_limit *limit);
+
+/*
+ * Processes share a bucket or a breaker by a store that keeps one word of it. Each call of a request is one step of the
+ * store: the process reads what the store keeps, passes it to one of the two calls below with what the request asks or
+ * tells, and stores what is kept then, with no other step between. It keeps what the request holds itself, from the
+ * request's first call to its last.
+ *
+ *     hikebox_request request = {0};
+ *     hikebox_told told = {HIKEBOX_TELL_DRAW, now(), 5000};
+ *     lock_and_read(&kept);
+ *     status = hikebox_bucket_step(&bucket, &told, &kept, &request, &number);
+ *     write_and_unlock(&kept);
+ *
+ * However the steps of all processes follow one another, they act as one sequence of calls on one limit, also if a
+ * process is killed between two of them. What its request drew of a bucket is then lost, and a probe of a breaker is
+ * over at its deadline. That holds for a store that keeps its word; it does not hold for one that goes back to an
+ * earlier one. The moments of all processes count from one start, such as that of the machine.
+ *
+ * There is no such call for a bound on the retries in flight, where a killed process would hold its place for ever, nor
+ * for a throttle, which has two words.
+ */
+
+/* What a store keeps. Both are 0 for a limit that it doesn't know yet. */
+typedef struct {
+    bool known;
+    uint64_t word;
+} hikebox_kept;
+
+/* What a request holds. All are 0 before its first call. */
+typedef struct {
+    /* Whether it is admitted, and not over. */
+    bool counted;
+    /* Whether its last draw was granted and not cancelled, and what that cost. */
+    bool drew;
+    uint64_t slots;
+    uint64_t cost;
+    /* Which runs are told of: those that were admitted in the same state of the limit. */
+    uint64_t generation;
+} hikebox_request;
+
+/* The calls of a request, as hikebox_limit_admit, _draw, _failed, _succeeded, _cancelled and _ended are made. */
+enum {
+    HIKEBOX_TELL_ADMIT = 0,
+    HIKEBOX_TELL_DRAW = 1,
+    HIKEBOX_TELL_FAILED = 2,
+    HIKEBOX_TELL_SUCCEEDED = 3,
+    HIKEBOX_TELL_CANCELLED = 4,
+    HIKEBOX_TELL_ENDED = 5,
+};
+
+/* One call of a request, at this moment. `cost` is that of a draw. */
+typedef struct {
+    uint32_t call;
+    uint64_t at;
+    uint64_t cost;
+} hikebox_told;
+
+/*
+ * Makes a call of a request on a bucket. `kept` then has what the store must keep, and `request` what the request holds,
+ * also if the call is refused by the limit, that is by _LEVEL_LOW or _OUT_OF_TURN; `number` is then as for a limit in
+ * memory. HIKEBOX_WRONG_SIZE; _OUT_OF_RANGE, of a number of the bucket or of the call; _TOO_LARGE, of the moment;
+ * _LEVEL_LOW; _OUT_OF_TURN.
+ */
+HIKEBOX_CHECKED hikebox_status hikebox_bucket_step(const hikebox_bucket *bucket, const hikebox_told *told,
+                                                   hikebox_kept *kept, hikebox_request *request, uint64_t *number);
+
+/*
+ * The same on a breaker with these `count` open times. HIKEBOX_WRONG_SIZE; _OUT_OF_RANGE, of a number of the breaker or
+ * of the call, and if there are no times, or more than 64; _TOO_LARGE, of the moment; _BREAKER_OPEN; _PROBING;
+ * _OUT_OF_TURN.
+ */
+HIKEBOX_CHECKED hikebox_status hikebox_breaker_step(const hikebox_breaker *breaker, const uint64_t *times, size_t count,
+                                                    const hikebox_told *told, hikebox_kept *kept,
+                                                    hikebox_request *request, uint64_t *number);
 
 /* ---- Retries ----------------------------------------------------------------------------------------------------- */
 
@@ -918,7 +994,13 @@ enum {
     /* A budget of `limit` tickets. */
     HIKEBOX_ON_BUDGET = 1,
     /* A quota of `reserve`, `share` and `period`. */
-    HIKEBOX_ON_QUOTA = 2
+    HIKEBOX_ON_QUOTA = 2,
+    /* A limit, which a request asks before its first call too: a bucket, a bound on retries in flight, a breaker or a
+     * throttle. */
+    HIKEBOX_ON_BUCKET = 3,
+    HIKEBOX_ON_IN_FLIGHT = 4,
+    HIKEBOX_ON_BREAKER = 5,
+    HIKEBOX_ON_THROTTLE = 6
 };
 
 /* A storm: many requests under one policy, on a peer that fails for a while. Moments and durations are in milliseconds,
@@ -954,7 +1036,7 @@ typedef struct {
     uint64_t calls;
     /* The seed of the random words. */
     uint64_t words;
-    /* HIKEBOX_ON_NOTHING, HIKEBOX_ON_BUDGET or HIKEBOX_ON_QUOTA. */
+    /* What retries draw on: HIKEBOX_ON_NOTHING to HIKEBOX_ON_THROTTLE. */
     uint64_t draws_on;
     /* The limit of a budget: at most HIKEBOX_MAX_TICKETS. */
     uint64_t limit;
@@ -962,13 +1044,33 @@ typedef struct {
     uint64_t reserve;
     uint64_t share;
     uint64_t period;
+    /* The terms of a bucket, as hikebox_bucket has them; `bucket_refund` is 0 or 1. A retry takes `cost` of it, and
+     * `late_cost` after a call that its client gave up; each is at most the capacity. */
+    uint64_t bucket_capacity;
+    uint64_t bucket_floor;
+    uint64_t bucket_debit;
+    uint64_t bucket_credit;
+    uint64_t bucket_refund;
+    uint64_t cost;
+    uint64_t late_cost;
+    /* The least number of retries in flight, as hikebox_in_flight_new takes it with `share`. */
+    uint64_t least;
+    /* The terms of a breaker, as hikebox_breaker has them. */
+    uint64_t failures;
+    uint64_t probes;
+    uint64_t deadline;
+    /* The ratio of a throttle, as hikebox_throttle_new takes it with `period`. */
+    uint64_t ratio;
+    /* A breaker's open times, of which the first `open_count` count, 1 to 64. */
+    uint64_t open_count;
+    uint64_t open_times[64];
 } hikebox_storm;
 
 /* 800 requests a second for a minute, on a peer that does 1,000 and is away from 10 to 20 s. */
 #define HIKEBOX_STORM                                                                                                  \
     {                                                                                                                  \
         sizeof(hikebox_storm), 800, 1, 60, 1000, 500, 5000, 10000, 20000, 0, 0, 0, 1000, 120000, 16777216, 0,          \
-            HIKEBOX_ON_NOTHING, 0, 0, 0, 1                                                                             \
+            HIKEBOX_ON_NOTHING, 0, 0, 0, 1, 0, 0, 0, 0, 0, 0, 0, 0, 0, 0, 0, 0, 0, { 0 }                               \
     }
 
 /* A window of a storm. */
@@ -994,7 +1096,8 @@ typedef struct {
 typedef struct {
     /* The size of this struct. */
     size_t size;
-    /* The requests, and how they ended: won; lost, if the policy was done; denied, if there was no ticket; or open. */
+    /* The requests, and how they ended: won; lost, if the policy was done; denied, if there was no ticket, or if a
+     * limit refused them; or open. */
     uint64_t requests;
     uint64_t won;
     uint64_t lost;
