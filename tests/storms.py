@@ -15,7 +15,7 @@ import runpy
 import sys
 from dataclasses import dataclass, field
 from pathlib import Path
-from typing import Any, Dict, Iterator, List, NamedTuple, Optional, Tuple
+from typing import Any, Dict, Iterator, List, NamedTuple, Optional, Set, Tuple
 
 TOP = Path(__file__).resolve().parent.parent
 sys.path.insert(0, str(TOP / "python" / "tests"))
@@ -193,8 +193,8 @@ class InFlight(Limit):
 
     def __init__(self, numbers: List[int], _refunds: bool) -> None:
         self.least, self.share = numbers
-        self.requests: set = set()
-        self.slots: set = set()
+        self.requests: Set[int] = set()
+        self.slots: Set[int] = set()
 
     def admit(self, moment: int, request: int) -> bool:
         self.requests.add(request)
@@ -329,7 +329,8 @@ def limit_of(storm: Storm) -> Limit:
 
 def open_times(plan: Any) -> List[int]:
     """For how long a breaker is open, for each trip: the waits of a plan's course."""
-    moment, times = 0, []
+    moment = 0
+    times: List[int] = []
     events: List[reference.Event] = []
     while len(times) < 64:
         events.append(reference.Event(moment, (0, 0, 0, 0), 0))

@@ -62,6 +62,8 @@ def test_each_block_does_what_the_page_says(page: str, tmp_path: Path, monkeypat
                 exec(compile("\n" * (line - 1) + text, page, "exec"), names)
             printed = output.getvalue()
             ran += 1
+        elif kind == "rust":
+            pass  # of Rattle, which is no block of a program
         elif text.startswith("pip install "):
             pass  # tests/python.sh installs the wheel into a fresh environment
         else:

@@ -219,7 +219,9 @@ def test_a_plan_is_shown_or_its_fault_marked(lab: Lab) -> None:
         "said": "not a plan",
         "hint": "no builder is called 'spced'; did you mean 'spaced'?",
     }
-    assert told["limit_fault"] == "expected N or RESERVE/SHARE%/PERIOD, such as 10/10%/1s, got 'x'"
+    assert told["limit_fault"] == (
+        "expected N, RESERVE/SHARE%/PERIOD or a limit, such as 10/10%/1s or grpc:100/100, got 'x'"
+    )
 
 
 def test_storms_are_shown_side_by_side(lab: Lab) -> None:

@@ -533,7 +533,7 @@ def test_a_quota_without_units_is_told_what_it_would_be() -> None:
     with pytest.raises(BudgetError, match="has no units"):
         tickets_of("10/100/1000")
     for text in ("ten", "9" * 9000, "9" * 9000 + "/1%/1s"):
-        with pytest.raises(BudgetError, match="expected N or RESERVE/SHARE%/PERIOD"):
+        with pytest.raises(BudgetError, match="expected N, RESERVE/SHARE%/PERIOD or a limit"):
             tickets_of(text)
     with pytest.raises(BudgetError, match="expected a budget from 0 to 4294967296"):
         tickets_of("4294967297")

@@ -9,7 +9,7 @@ from .._engine.calls import MAX_TICKETS
 from ..budgets.terms import terms_of
 from ..errors import BudgetError, PolicyError, StormError
 from ..policy import Policy
-from ..storms.limits import limit_of
+from ..storms.limits import KINDS, limit_of
 from ..storms.parameters import RANGES, SCENARIOS, Limited, Parameters, Slow, Span
 from .values import terms
 
@@ -105,7 +105,7 @@ def _text(place: str, value: Any) -> Optional[str]:
 
 def _limit(place: str, limit: Any) -> Limited:
     if isinstance(limit, str):
-        return limit_of(limit) if limit[:1].isalpha() else terms_of(*terms(limit))
+        return limit_of(limit) if limit.partition(":")[0] in KINDS else terms_of(*terms(limit))
     if limit is None:
         return None
     if not 0 <= _whole(f"{place}.limit", limit) <= MAX_TICKETS:

@@ -11,7 +11,7 @@ from .._svg import fitted
 from ..budgets.terms import Terms, terms_of
 from ..errors import BudgetError, TermsError
 from ..storms.axes import MEASURES
-from ..storms.limits import LimitTerms, limit_of
+from ..storms.limits import KINDS, LimitTerms, limit_of
 from ..storms.parameters import RANGES, Limited, Parameters, Slow, Span
 from . import values
 from .arguments import Once
@@ -93,14 +93,15 @@ def tickets_of(text: str) -> Limited:
     spelt = text.strip()
     if not spelt:
         return None
-    if spelt[0].isalpha() and len(spelt) <= _MAX_TEXT:
+    if spelt.partition(":")[0] in KINDS and len(spelt) <= _MAX_TEXT:
         return limit_of(spelt)
     if spelt.isascii() and spelt.isdigit() and len(spelt) <= _MAX_TEXT:
         if int(spelt) > MAX_TICKETS:
             raise BudgetError(f"expected a budget from 0 to {MAX_TICKETS}, got {spelt}")
         return int(spelt)
     if "/" not in spelt or len(spelt) > _MAX_TEXT:
-        raise BudgetError(f"expected N or RESERVE/SHARE%/PERIOD, such as 10/10%/1s, got {fitted(spelt, 300)!r}")
+        wanted = "expected N, RESERVE/SHARE%/PERIOD or a limit, such as 10/10%/1s or grpc:100/100"
+        raise BudgetError(f"{wanted}, got {fitted(spelt, 300)!r}")
     return terms_of(*values.terms(spelt))
 
 

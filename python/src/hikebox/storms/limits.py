@@ -7,12 +7,15 @@ from typing import Any, Dict, List, NamedTuple, Optional, Tuple
 from .._engine.calls import ON_BREAKER, ON_BUCKET, ON_IN_FLIGHT, ON_THROTTLE
 from ..errors import TermsError
 
-__all__ = ["LIMIT_WANTED", "LimitTerms", "breaker", "bucket", "in_flight", "limit_of", "throttle"]
+__all__ = ["KINDS", "LIMIT_WANTED", "LimitTerms", "breaker", "bucket", "in_flight", "limit_of", "throttle"]
 
 #: The greatest capacity of a bucket, in thousandths, and the greatest number of 32 bits and of the engine.
 _MAX_CAPACITY, _MAX_COUNT, _MAX_NUMBER = 2**40, 2**32 - 1, 2**62 - 1
 #: For how long a breaker is open where nothing is said, in milliseconds.
 _OPEN = (30_000,)
+
+#: How many numbers each kind of limit is spelt with.
+KINDS: Dict[str, int] = {"aws": 0, "bucket": 6, "grpc": 2, "inflight": 2, "breaker": 3, "throttle": 2}
 
 LIMIT_WANTED = (
     "expected bucket:CAPACITY/FLOOR/COST/LATE/DEBIT/CREDIT (in thousandths of a token, with +refund or without), "
@@ -89,21 +92,22 @@ def limit_of(text: str, times: Tuple[int, ...] = _OPEN) -> LimitTerms:
     kind, colon, spelt = text.partition(":")
     spelt, plus, refund = spelt.partition("+")
     numbers = _numbers(spelt) if colon else []
-    count: Dict[str, int] = {"bucket": 6, "grpc": 2, "inflight": 2, "breaker": 3, "throttle": 2}
     if text == "aws":
         return bucket(500_000, 0, 5000, 10_000, 0, 1000, True, "aws")
-    fits = numbers is not None and len(numbers) == count.get(kind, -1)
+    fits = numbers is not None and colon and len(numbers) == KINDS.get(kind)
     if numbers is None or not fits or (plus and (kind, refund) != ("bucket", "refund")) or not _in_range(kind, numbers):
         raise TermsError(f"{LIMIT_WANTED}, got {text[:300]!r}")
     if kind == "bucket":
-        return bucket(*numbers, refund=bool(plus))
+        capacity, floor, cost, late, debit, credit = numbers
+        return bucket(capacity, floor, cost, late, debit, credit, bool(plus))
     if kind == "grpc":
         tokens, ratio = numbers
         return bucket(1000 * tokens, 500 * tokens + 1, 0, 0, 1000, ratio, False, text)
     if kind == "inflight":
         return in_flight(*numbers)
     if kind == "breaker":
-        return breaker(*numbers, times=times)
+        failures, probes, deadline = numbers
+        return breaker(failures, probes, deadline, times)
     return throttle(*numbers)
 
 
