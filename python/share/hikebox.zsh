@@ -69,6 +69,8 @@ case $state in
           '--slow[when the peer works at a part of its capacity]:FROM..TO@PERCENT:' \
           '*--budget[at most so many retries of all requests]:number:' \
           '*--quota[so many retries in each period, and a share of the requests]:RESERVE/SHARE%/PERIOD:' \
+          '*--limit[a limit that requests ask before their first call too]:LIMIT:' \
+          '--open[how long a breaker is open]:policy:_files' \
           '--without[play each policy without a limit, too]' \
           '--sweep[play the storms for each value of a parameter]:NAME=VALUES, as rate=200..1600/8:' \
           '*--measure[what a sweep tells]:measure:(succeeded calls recovery slowest)' \

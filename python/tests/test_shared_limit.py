@@ -276,7 +276,7 @@ def test_a_forked_child_has_no_request_of_its_parents(tmp_path: Path) -> None:
 
 
 def test_runs_share_a_bucket(tmp_path: Path) -> None:
-    words = ["--limit", f"bucket:2/0/1/1/0/0@{tmp_path}", "--policy", "recurs(9)", "-v", "--", "false"]
+    words = ["--limit", f"bucket:2000/0/1000/1000/0/0@{tmp_path}", "--policy", "recurs(9)", "-v", "--", "false"]
     status, _, errors = hikebox("run", *words)
     assert status == 1 and errors.count("next in") == 2
     status, _, errors = hikebox("run", *words)
@@ -284,14 +284,14 @@ def test_runs_share_a_bucket(tmp_path: Path) -> None:
 
 
 def test_a_timeout_costs_more(tmp_path: Path) -> None:
-    limit = f"bucket:10/0/1/10/0/0@{tmp_path}"
+    limit = f"bucket:10000/0/1000/10000/0/0@{tmp_path}"
     words = ["--limit", limit, "--policy", "recurs(1)", "--timeout", "0.1", "--kill-after", "0.1", "--", "sleep", "9"]
     assert hikebox("run", *words)[0] == 124
     assert level_of(tmp_path) == 0
 
 
 def test_an_open_breaker_runs_nothing(tmp_path: Path) -> None:
-    limit = ["--limit", f"breaker:2/1/30s@{tmp_path / 'counts'}", "--open", "spaced(0.5)"]
+    limit = ["--limit", f"breaker:2/1/30000@{tmp_path / 'counts'}", "--open", "spaced(0.5)"]
     ran = tmp_path / "ran"
     fails = ["--policy", "recurs(9)", "--", "sh", "-c", f"echo ran >> {ran}; exit 7"]
     assert hikebox("run", *limit, *fails)[0] == 7
@@ -306,7 +306,7 @@ def test_an_open_breaker_runs_nothing(tmp_path: Path) -> None:
 
 
 def test_a_probe_that_is_killed_is_over_at_its_deadline(tmp_path: Path, start: Any) -> None:  # noqa: F811
-    limit = ["--limit", f"breaker:1/1/3s@{tmp_path / 'counts'}", "--open", "spaced(0.01)"]
+    limit = ["--limit", f"breaker:1/1/3000@{tmp_path / 'counts'}", "--open", "spaced(0.01)"]
     assert hikebox("run", *limit, "--", "false")[0] == 1
     time.sleep(0.02)
     began = tmp_path / "began"
@@ -325,7 +325,7 @@ def test_a_probe_that_is_killed_is_over_at_its_deadline(tmp_path: Path, start: A
 
 def test_a_run_that_ends_while_it_waits_gives_its_token_back(tmp_path: Path, start: Any) -> None:  # noqa: F811
     folder = tmp_path / "counts"
-    words = ["--limit", f"bucket:1/0/1/1/0/0@{folder}", "--policy", "spaced(60)", "-v", "--", "false"]
+    words = ["--limit", f"bucket:1000/0/1000/1000/0/0@{folder}", "--policy", "spaced(60)", "-v", "--", "false"]
     run = start("run", *words)
     assert "next in" in run.stderr.readline()
     assert level_of(folder) == 0
@@ -336,7 +336,7 @@ def test_a_run_that_ends_while_it_waits_gives_its_token_back(tmp_path: Path, sta
 
 def test_eight_runs_at_once_are_retried_as_often_as_there_are_tokens(tmp_path: Path) -> None:
     ran = tmp_path / "ran"
-    words = ["run", "--limit", f"bucket:12/0/1/1/0/0@{tmp_path / 'counts'}", "--policy", "recurs(5)", "--"]
+    words = ["run", "--limit", f"bucket:12000/0/1000/1000/0/0@{tmp_path / 'counts'}", "--policy", "recurs(5)", "--"]
     command = [sys.executable, "-m", "hikebox", *words, "sh", "-c", f"echo ran >> {ran}; exit 1"]
     runs = [subprocess.Popen(command, env=python_environment(), stderr=subprocess.PIPE) for _ in range(8)]
     assert [run.wait(timeout=100) for run in runs] == [1] * 8
@@ -348,23 +348,31 @@ def test_eight_runs_at_once_are_retried_as_often_as_there_are_tokens(tmp_path: P
 @pytest.mark.parametrize(
     "words, told",
     [
-        (["--limit", "aws"], "--limit: expected LIMIT@FOLDER, as aws@/run/lock/jobs, got 'aws'"),
+        (["--limit", "aws"], "--limit: expected LIMIT@FOLDER, such as aws@/run/lock/jobs, got 'aws'"),
         (["--limit", "aws@"], "--limit: expected LIMIT@FOLDER"),
-        (["--limit", "aws:@x"], "--limit: expected aws, got 'aws:'"),
-        (["--limit", "azure@x"], "--limit: expected one of aws, grpc:TOKENS/RATIO"),
-        (["--limit", "grpc:10@x"], "--limit: expected grpc:TOKENS/RATIO, as grpc:10/0.1, got 'grpc:10'"),
-        (["--limit", "grpc:10/100@x"], "got 100 in 'grpc:10/100' (as thousandths, which zsched reads, it is 0.1)"),
-        (["--limit", "grpc:0/0@x"], "--limit: max_tokens: expected 1 token or more, got 0, in 'grpc:0/0'"),
-        (["--limit", "grpc:-1/0@x"], "--limit: expected grpc:TOKENS/RATIO"),
-        (["--limit", "grpc:1.5/0@x"], "--limit: expected grpc:TOKENS/RATIO"),
-        (["--limit", "bucket:1/2/1/1/0/0@x"], "--limit: expected the floor from 0 to 1, got 2.0, in"),
-        (["--limit", "bucket:1/0/1/1/0/0+free@x"], "--limit: expected bucket:CAPACITY/FLOOR/COST/LATE/DEBIT/CREDIT"),
-        (["--limit", "breaker:5/1/30@x"], "--limit: expected breaker:FAILURES/PROBES/DEADLINE, as breaker:5/1/30s"),
-        (["--limit", "breaker:5/16/30s@x"], "--limit: probes: expected 1 to 15, got 16, in 'breaker:5/16/30s'"),
-        (["--limit", "breaker:0/1/30s@x"], "--limit: failures: expected 1 to 4294967295, got 0"),
-        (["--limit", "breaker:5/1/30s@x", "--open", "stop()"], "--limit: open_for: expected a policy that goes on"),
-        (["--limit", "inflight:3/20%@x"], "would keep its place among those in flight for ever"),
-        (["--limit", "throttle:2/60s@x"], "it has two words, and a folder keeps one word of a limit"),
+        *(
+            (
+                ["--limit", f"{spelt}@x"],
+                f"(ratios and a bucket's numbers in thousandths, the deadline in milliseconds), such as grpc:10/100, got '{spelt}'",
+            )
+            for spelt in (
+                "aws:",
+                "azure",
+                "grpc:10",
+                "grpc:0/0",
+                "grpc:-1/0",
+                "grpc:10/0.1",
+                "bucket:1000/2000/1000/1000/0/0",
+                "bucket:1000/0/1000/1000/0/0+free",
+                "breaker:5/1",
+                "breaker:5/1/30s",
+                "breaker:5/16/30000",
+                "breaker:0/1/30000",
+            )
+        ),
+        (["--limit", "breaker:5/1/30000@x", "--open", "stop()"], "--limit: open_for: expected a policy that goes on"),
+        (["--limit", "inflight:3/200@x"], "would keep its place among those in flight for ever"),
+        (["--limit", "throttle:2000/60000@x"], "it has two words, and a folder keeps one word of a limit"),
         (["--limit", "aws@x", "--open", "spaced(1)"], "--open: expected --limit breaker:.., got --limit aws"),
         (["--open", "spaced(1)"], "--open: expected --limit breaker:.. too, got no --limit"),
         (["--limit", "aws@x", "--limit", "aws@y"], "argument --limit: expected it once, got 'aws@y' too"),

@@ -51,8 +51,8 @@ A policy is the name of a JSON file, JSON, or an expression. By default it is
 
 A limit is one of
   {SPELLINGS.replace(", ", chr(10) + "  ")}
-Numbers are tokens, with up to three decimals; LATE is the cost of a retry after a timeout; DEADLINE has a unit (ms, s,
-m, h, d). A run that a breaker does not admit ends with status 75 and does not begin. Bounds on what is in flight and
+as `hikebox storm` reads it too. A bucket's numbers are thousandths of a token, and RATIO is thousandths; LATE is the
+cost of a retry after a timeout; DEADLINE is in milliseconds. A run that a breaker does not admit ends with status 75 and does not begin. Bounds on what is in flight and
 throttles are not shared: a run that is killed would keep its place in flight, and a folder keeps one word of a limit.
 
 examples:
@@ -60,7 +60,7 @@ examples:
   hikebox run --policy 'recurs(9) & spaced(2)' --on 1-3 --timeout 30 -- ./job
   hikebox run --budget 100@/run/lock/nightly -- ./job   # at most 100 retries over all runs that name the folder
   hikebox run --quota 10/20%/1h@/run/lock/jobs -- ./job   # each hour 10 over all runs, and one for every five runs
-  hikebox run --limit breaker:5/1/30s@/run/lock/jobs -- ./job   # no run for 30 s after 5 failures in a row
+  hikebox run --limit breaker:5/1/30000@/run/lock/jobs -- ./job   # no run for 30 s after 5 failures in a row
 """
 
 _STORM = f"""\
