@@ -1067,11 +1067,13 @@ typedef struct {
 } hikebox_storm;
 
 /* 800 requests a second for a minute, on a peer that does 1,000 and is away from 10 to 20 s. */
+/* clang-format off */
 #define HIKEBOX_STORM                                                                                                  \
     {                                                                                                                  \
         sizeof(hikebox_storm), 800, 1, 60, 1000, 500, 5000, 10000, 20000, 0, 0, 0, 1000, 120000, 16777216, 0,          \
             HIKEBOX_ON_NOTHING, 0, 0, 0, 1, 0, 0, 0, 0, 0, 0, 0, 0, 0, 0, 0, 0, 0, { 0 }                               \
     }
+/* clang-format on */
 
 /* A window of a storm. */
 typedef struct {

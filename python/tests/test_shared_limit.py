@@ -353,7 +353,7 @@ def test_eight_runs_at_once_are_retried_as_often_as_there_are_tokens(tmp_path: P
         *(
             (
                 ["--limit", f"{spelt}@x"],
-                f"(ratios and a bucket's numbers in thousandths, the deadline in milliseconds), such as grpc:10/100, got '{spelt}'",
+                f"the deadline in milliseconds), such as grpc:10/100, got '{spelt}'",
             )
             for spelt in (
                 "aws:",

@@ -1,7 +1,7 @@
 //! Storms: that they are those of `zsched storm`, their numbers, and what is refused.
 
-use hikebox::{BudgetError, Policy, Schedule, Storm, StormError, StormReport};
 use hikebox::{Breaker, Bucket, InFlight, Terms, Throttle};
+use hikebox::{BudgetError, Policy, Schedule, Storm, StormError, StormReport};
 use std::io::Write;
 use std::process::{Command, Stdio};
 use std::time::Duration;

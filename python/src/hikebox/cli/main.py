@@ -49,11 +49,12 @@ does not end an attempt that is under way.
 A policy is the name of a JSON file, JSON, or an expression. By default it is
   {DEFAULT}
 
-A limit is one of
+A limit is one of these, which `hikebox storm` reads too:
   {SPELLINGS.replace(", ", chr(10) + "  ")}
-as `hikebox storm` reads it too. A bucket's numbers are thousandths of a token, and RATIO is thousandths; LATE is the
-cost of a retry after a timeout; DEADLINE is in milliseconds. A run that a breaker does not admit ends with status 75 and does not begin. Bounds on what is in flight and
-throttles are not shared: a run that is killed would keep its place in flight, and a folder keeps one word of a limit.
+A bucket's numbers are thousandths of a token, and RATIO is thousandths. LATE is the cost of a retry after a timeout.
+DEADLINE is in milliseconds. A run that a breaker does not admit ends with status 75 and does not begin. Bounds on what
+is in flight and throttles are not shared: a run that is killed would keep its place in flight, and a folder keeps one
+word of a limit.
 
 examples:
   hikebox run -- curl --fail https://example.org
