@@ -469,7 +469,9 @@ def test_a_fork_while_a_thread_leases_leaves_no_lock_behind(tmp_path: Path) -> N
             while leases[0] == before:
                 assert thread.is_alive() and time.monotonic() < until
                 time.sleep(0.001)
-            code = "import sys; from hikebox.leased import *; FileStore(sys.argv[1]).take('a', 1, 10**9, None, float)"
+            # (the thread lets the lock go for a moment only, so another process may have to look for it often)
+            code = "import sys; from hikebox.leased import *; store = FileStore(sys.argv[1], patience=40)"
+            code += "; store.take('a', 1, 10**9, None, float)"
             if len(children) % 20 == 0:
                 subprocess.run(
                     [sys.executable, "-c", code, store.path], env=python_environment(), check=True, timeout=60
