@@ -15,7 +15,20 @@ from typing import Any, List, Tuple
 import pytest
 from conftest import TOP, python_environment
 
-from hikebox import Quota, Storm, StormError, decorrelated, exponential, fixed, recurs, spaced, storm, windowed
+from hikebox import (
+    Breaker,
+    Bucket,
+    Quota,
+    Storm,
+    StormError,
+    Throttle,
+    decorrelated,
+    exponential,
+    fixed,
+    recurs,
+    spaced,
+)
+from hikebox import storm, windowed
 from hikebox.cli.main import _parser, _policy, main
 from hikebox.policy.picture import plan_picture
 from hikebox.cli.storm_command import wanted_of
@@ -297,6 +310,18 @@ def test_a_legend_names_what_is_in_the_picture() -> None:
     words = texts(parsed(storm(recurs(0), outage=None).svg()))
     assert {"succeeded", "first calls"} <= set(words) and not {"failed", "retries"} & set(words)
     assert "100 % succeeded" in words
+
+
+def test_a_request_that_is_denied_its_first_call_is_no_call_of_a_picture() -> None:
+    policy = recurs(2) & spaced(0.1)
+    for limit, strip, key in [
+        (Breaker(5, spaced(30)), "requests and retries", "requests"),
+        (Throttle.google(), "requests and retries", "requests"),
+        (Bucket.aws(), "calls begun", "first calls"),
+    ]:
+        words = texts(parsed(storm(policy, budget=limit).svg()))
+        assert {strip, key, "retries"} <= set(words)
+        assert not {"calls begun", "first calls", "requests and retries", "requests"} - {strip, key} & set(words)
 
 
 @pytest.mark.parametrize("width", [280, 320, 360, 760])

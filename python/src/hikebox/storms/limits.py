@@ -35,6 +35,11 @@ class LimitTerms(NamedTuple):
     #: The open times of a breaker, in milliseconds.
     times: Tuple[int, ...] = ()
 
+    @property
+    def denies_first_calls(self) -> bool:
+        """Whether it may refuse a request its first call."""
+        return self.draws_on in (ON_BREAKER, ON_THROTTLE)
+
     def put_in(self, storm: Any) -> None:
         """Puts it into the engine's parameters of a storm."""
         storm.draws_on = self.draws_on

@@ -86,6 +86,11 @@ class Parameters(NamedTuple):
         slow = self.slow
         return self.capacity * slow.percent / 100 if slow and slow.begins <= moment < slow.ends else self.capacity
 
+    @property
+    def denies_first_calls(self) -> bool:
+        """Whether requests may be denied their first call."""
+        return isinstance(self.tickets, LimitTerms) and self.tickets.denies_first_calls
+
     def weather(self) -> List[Tuple[int, int, str, str]]:
         """The brown-out and the outage, where there are such: from when to when, in words, and their paint."""
         spans = [(self.outage.begins, self.outage.ends, "peer away", "away")]

@@ -123,11 +123,14 @@ def _present(storms: Sequence[Storm], below: int) -> List[Tuple[str, str]]:
     """The parts of the legend that are in a picture with so many strips below the verdicts."""
     totals = [storm.totals for storm in storms]
     absent = set() if below else {"requests", "retries", "bound"}
-    if all(each.calls == each.requests for each in totals):
+    if not any(row.retries for storm in storms for row in storm.rows):
         absent.add("retries")
     if below > 1 or all(each.won == each.requests for each in totals):
         absent.add("failed")
-    return [(kind, name) for kind, name in _LEGEND if kind not in absent] + list(_DETAIL if below > 1 else ())
+    legend = dict(_LEGEND)
+    if any(storm.parameters.denies_first_calls for storm in storms):
+        legend["requests"] = "requests"
+    return [(kind, name) for kind, name in legend.items() if kind not in absent] + list(_DETAIL if below > 1 else ())
 
 
 def _draw_key(picture: Picture, x: float, y: float, kind: str) -> None:

@@ -120,7 +120,9 @@ class Strips:
         self._draw_verdict(bottom)
         if self.axes.below:
             bottom += _SAID + _LOAD
-            self._draw_load(bottom, "calls begun", _BEGUN)
+            # (a request that is denied its first call is one of its window)
+            is_asked = self.storm.parameters.denies_first_calls
+            self._draw_load(bottom, "requests and retries" if is_asked else "calls begun", _BEGUN)
         if self.axes.below > 1:
             self._draw_denied(bottom + _SAID - 5)
             bottom += _SAID + _LOAD
