@@ -456,11 +456,13 @@ def test_a_fork_while_a_thread_leases_leaves_no_lock_behind(tmp_path: Path) -> N
     thread = threading.Thread(target=work)
     thread.start()
     children = []
+    heard, tells = os.pipe()
     try:
         for _ in range(60):
             child = os.fork()
             if child == 0:
                 # lives on, with whatever it inherited
+                os.write(tells, b".")
                 time.sleep(200)
                 os._exit(0)
             children.append(child)
@@ -479,6 +481,10 @@ def test_a_fork_while_a_thread_leases_leaves_no_lock_behind(tmp_path: Path) -> N
     finally:
         stop.set()
         thread.join()
+        # (a child that the machine has not run yet is still in the middle of its fork)
+        told = 0
+        while told < len(children):
+            told += len(os.read(heard, 100))
         open_in_children = [os.listdir(f"/proc/{child}/fd") for child in children]
         links = [
             os.readlink(f"/proc/{child}/fd/{number}")
@@ -488,6 +494,8 @@ def test_a_fork_while_a_thread_leases_leaves_no_lock_behind(tmp_path: Path) -> N
         for child in children:
             os.kill(child, signal.SIGKILL)
             os.waitpid(child, 0)
+        os.close(heard)
+        os.close(tells)
     assert not [link for link in links if link.startswith(store.path)]
 
 
