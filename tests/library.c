@@ -1260,51 +1260,44 @@ static void refuses_at(int line, hikebox_policy *policy, hikebox_storm storm) {
              HIKEBOX_OUT_OF_RANGE);
     holds_at(__FILE__, line, count == 99 && memcmp(&before, &totals, sizeof totals) == 0);
 }
+// The same of `storm` with this field changed, by `policy`.
 #define refuses(field, number)                                                                                         \
     do {                                                                                                               \
-        hikebox_storm storm_ = HIKEBOX_STORM;                                                                          \
-        storm_.field = number;                                                                                         \
-        refuses_at(__LINE__, &policy, storm_);                                                                         \
+        hikebox_storm changed_ = storm;                                                                                \
+        changed_.field = number;                                                                                       \
+        refuses_at(__LINE__, policy, changed_);                                                                        \
     } while (0)
 
-#define refuses_limit(from, field, number)                                                                             \
-    do {                                                                                                               \
-        hikebox_storm limited_ = from;                                                                                 \
-        limited_.field = number;                                                                                       \
-        refuses_at(__LINE__, policy, limited_);                                                                        \
-    } while (0)
-
-/* Storms under limits that are played, each with one of its terms out of range. */
+// Storms under limits that are played, each with one of its terms out of range.
 static void limits_out_of_range(hikebox_policy *policy) {
     hikebox_storm storm = HIKEBOX_STORM;
     storm.draws_on = HIKEBOX_ON_BUCKET;
     storm.bucket_capacity = 10;
-    refuses_limit(storm, bucket_capacity, (UINT64_C(1) << 40) + 1);
-    refuses_limit(storm, bucket_floor, 11);
-    refuses_limit(storm, bucket_debit, 11);
-    refuses_limit(storm, bucket_credit, 11);
-    refuses_limit(storm, bucket_refund, 2);
-    refuses_limit(storm, cost, 11);
-    refuses_limit(storm, late_cost, 11);
+    refuses(bucket_capacity, (UINT64_C(1) << 40) + 1);
+    refuses(bucket_floor, 11);
+    refuses(bucket_debit, 11);
+    refuses(bucket_credit, 11);
+    refuses(bucket_refund, 2);
+    refuses(cost, 11);
+    refuses(late_cost, 11);
     storm.draws_on = HIKEBOX_ON_IN_FLIGHT;
-    refuses_limit(storm, least, UINT64_C(1) << 32);
+    refuses(least, UINT64_C(1) << 32);
     storm.draws_on = HIKEBOX_ON_BREAKER;
     storm.failures = storm.probes = storm.open_count = 1;
-    refuses_limit(storm, failures, 0);
-    refuses_limit(storm, probes, 0);
-    refuses_limit(storm, probes, 16);
-    refuses_limit(storm, open_count, 0);
-    refuses_limit(storm, open_count, 65);
+    refuses(failures, 0);
+    refuses(probes, 0);
+    refuses(probes, 16);
+    refuses(open_count, 0);
+    refuses(open_count, 65);
     storm.draws_on = HIKEBOX_ON_THROTTLE;
     storm.ratio = 2000;
     storm.period = 60000;
-    refuses_limit(storm, ratio, 999);
-    refuses_limit(storm, period, 0);
+    refuses(ratio, 999);
+    refuses(period, 0);
 }
 
-static void storms_out_of_range(void) {
-    hikebox_policy policy = HIKEBOX_INIT;
-    wants(read_policy("{\"recurs\":1}", &policy), HIKEBOX_OK);
+static void parameters_out_of_range(hikebox_policy *policy) {
+    hikebox_storm storm = HIKEBOX_STORM;
     refuses(rate, 0);
     refuses(rate, 17477);
     refuses(together, 1000001);
@@ -1323,15 +1316,17 @@ static void storms_out_of_range(void) {
     refuses(calls, 0);
     refuses(calls, UINT64_C(4294967297));
     refuses(draws_on, 7);
-    hikebox_storm storm = HIKEBOX_STORM;
     storm.draws_on = HIKEBOX_ON_BUDGET;
-    storm.limit = HIKEBOX_MAX_TICKETS + 1;
-    refuses_at(__LINE__, &policy, storm);
+    refuses(limit, HIKEBOX_MAX_TICKETS + 1);
     storm.draws_on = HIKEBOX_ON_QUOTA;
-    storm.period = 0;
-    refuses_at(__LINE__, &policy, storm);
-    storm.period = HIKEBOX_MAX_NUMBER + 1;
-    refuses_at(__LINE__, &policy, storm);
+    refuses(period, 0);
+    refuses(period, HIKEBOX_MAX_NUMBER + 1);
+}
+
+static void storms_out_of_range(void) {
+    hikebox_policy policy = HIKEBOX_INIT;
+    wants(read_policy("{\"recurs\":1}", &policy), HIKEBOX_OK);
+    parameters_out_of_range(&policy);
     limits_out_of_range(&policy);
     wants(hikebox_policy_free(&policy), HIKEBOX_OK);
 }

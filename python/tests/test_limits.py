@@ -6,10 +6,11 @@ import asyncio
 import pickle
 import re
 import threading
-from typing import Any, Callable, List, Optional
+from typing import Any, Callable, List
 
 import pytest
 
+from limited import admitted, draws_as_grpc_says, reason
 from processes import in_a_forked_child
 from hikebox import (
     AsyncRetrying,
@@ -20,7 +21,6 @@ from hikebox import (
     Limit,
     NotAdmitted,
     RefusalReason,
-    Request,
     Retrying,
     TermsError,
     Throttle,
@@ -41,16 +41,6 @@ ANY_CLASS: Any = Bucket
 ANY_LIST: Any = [Bucket.aws(), InFlight.envoy()]
 
 
-def admitted(limit: Limit) -> Request:
-    request = limit.request()
-    assert request.admit() is None
-    return request
-
-
-def reason(refusal: Any) -> Optional[RefusalReason]:
-    return None if refusal is None else refusal.reason
-
-
 def fails() -> Any:
     raise KeyError()
 
@@ -59,17 +49,8 @@ def fails() -> Any:
 
 
 def test_grpc() -> None:
-    # Of four tokens two are left after two failures, which is not more than half; a success gives half a token.
     bucket = Bucket.grpc(4, 0.5)
-    request, other = admitted(bucket), admitted(bucket)
-    request.failed()
-    assert request.draw() is None
-    request.failed()
-    assert reason(request.draw()) is RefusalReason.LEVEL_LOW
-    other.succeeded()
-    assert request.draw() is None
-    request.failed()
-    assert reason(request.draw()) is RefusalReason.LEVEL_LOW
+    draws_as_grpc_says(admitted(bucket), admitted(bucket))
 
 
 def test_aws() -> None:

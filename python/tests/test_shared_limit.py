@@ -10,32 +10,23 @@ import sys
 import threading
 import time
 from pathlib import Path
-from typing import Any, List, Optional
+from typing import Any, List
 
 import pytest
 from conftest import python_environment
+from limited import admitted, draws_as_grpc_says, reason
 from processes import Workers, in_a_forked_child
 from test_cli import hikebox, start  # noqa: F401
 from test_file_store import copy_of, fill, path_of, small_disk  # noqa: F401
 from test_run import wait_for
 
-from hikebox import Breaker, Bucket, InFlight, RefusalReason, Request, exponential, spaced
+from hikebox import Breaker, Bucket, InFlight, RefusalReason, exponential, spaced
 from hikebox.errors import StoreError
 from hikebox.leased import FileStore
 from hikebox.leased.shared import SharedLimit
 from hikebox.limits import both
 
 TOKENS = 400
-
-
-def admitted(limit: SharedLimit) -> Request:
-    request = limit.request()
-    assert request.admit() is None
-    return request
-
-
-def reason(refusal: Any) -> Optional[RefusalReason]:
-    return None if refusal is None else refusal.reason
 
 
 def files_of(folder: Path) -> List[Path]:
@@ -52,17 +43,8 @@ def level_of(folder: Path) -> int:
 
 
 def test_grpc_over_two_processes(tmp_path: Path) -> None:
-    # of four tokens two are left after two failures, which is not more than half; a success gives half a token
     one, other = (SharedLimit(FileStore(tmp_path), "a", Bucket.grpc(4, 0.5)) for _ in range(2))
-    request, beside = admitted(one), admitted(other)
-    request.failed()
-    assert request.draw() is None
-    request.failed()
-    assert reason(request.draw()) is RefusalReason.LEVEL_LOW
-    beside.succeeded()
-    assert request.draw() is None
-    request.failed()
-    assert reason(request.draw()) is RefusalReason.LEVEL_LOW
+    draws_as_grpc_says(admitted(one), admitted(other))
 
 
 def test_aws_gives_the_cost_back_once(tmp_path: Path) -> None:

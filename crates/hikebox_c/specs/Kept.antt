@@ -61,13 +61,17 @@ pub record Steps (m : Rules) (first : ℕ) (told : Told) (code : ℕ) (found lef
   pub request : request_of left.1 ≡ request_after m told (request_of found.1) (word_in first found.0)
   pub told_as : TellsRefusal code found.2 left.2 (answer_of m told (request_of found.1) (word_in first found.0))
 
+-- the same of what a request tells, or the refusal of what was given
+abbrev pub DoesTold : Rules → ℕ → Result Told Status → ℕ → Found → Found → Type 0
+DoesTold m first (Ok told) code found left = Steps m first told code found left
+DoesTold m first (Err why) code found left = IsUnmoved why code found left
+
 -- a step of this machine, where there is such a call and such a moment
-abbrev pub Does : Rules → ℕ → Result Told Status → ℕ → Found → Found → Type 0
-Does m first (Ok told) code found left = Steps m first told code found left
-Does m first (Err why) code found left = IsUnmoved why code found left
+abbrev pub Does : Rules → ℕ → ToldGiven → ℕ → Found → Found → Type 0
+Does m first told code found left = DoesTold m first (told_of told) code found left
 
 -- a breaker with so many open times, whose clock begins at 0, does so, if there is one
-abbrev pub BreakerDoes : BreakerGiven → ℕ → Result Told Status → ℕ → Found → Found → Type 0
+abbrev pub BreakerDoes : BreakerGiven → ℕ → ToldGiven → ℕ → Found → Found → Type 0
 BreakerDoes b count told code found left =
     ((c : Breaker) × IsBreakerOf 0 b count c × Does (breaker_rules c) 0 told code found left)
     ⊎ IsUnmoved OutOfRange code found left

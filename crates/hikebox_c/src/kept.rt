@@ -134,7 +134,7 @@ pub extern "C" fn hikebox_bucket_step(
     ensures unsound { terms.now.size ≡ 48 → (AreTerms (bucket_of terms.now) → ⊥) →
         IsUnmoved status.OutOfRange result (kept.old, held.old, number.old) (kept.new, held.new, number.new) }
     ensures does { terms.now.size ≡ 48 → AreTerms (bucket_of terms.now) →
-        Does (bucket_rules (bucket_of terms.now)) terms.now.capacity (told_of told.now) result
+        Does (bucket_rules (bucket_of terms.now)) terms.now.capacity told.now result
         (kept.old, held.old, number.old) (kept.new, held.new, number.new) }
 {
     if terms.size != BUCKET_SIZE {
@@ -158,7 +158,7 @@ pub extern "C" fn hikebox_breaker_step(
 ) -> u32
     ensures wrong_size { terms.now.size ≢ 32 →
         IsUnmoved status.WrongSize result (kept.old, held.old, number.old) (kept.new, held.new, number.new) }
-    ensures does { terms.now.size ≡ 32 → BreakerDoes terms.now (length times.now) (told_of told.now) result
+    ensures does { terms.now.size ≡ 32 → BreakerDoes terms.now (length times.now) told.now result
         (kept.old, held.old, number.old) (kept.new, held.new, number.new) }
 {
     if terms.size != BREAKER_SIZE {
@@ -204,8 +204,9 @@ fn does<M: Refuses>(
     held: &mut HeldGiven,
     number: &mut u64,
 ) -> u32
-    ensures { Does (rules M.next M.refusal M.generation M.worth machine.now) (M.first machine.now) (told_of told.now)
-        result (kept.old, held.old, number.old) (kept.new, held.new, number.new) }
+    ensures { let m = rules M.next M.refusal M.generation M.worth machine.now in
+        Does m (M.first machine.now) told.now result
+        (kept.old, held.old, number.old) (kept.new, held.new, number.new) }
 {
     match told.told() {
         Ok(told) => step(machine, told, kept, held, number),
@@ -221,7 +222,8 @@ fn step<M: Refuses>(
     held: &mut HeldGiven,
     number: &mut u64,
 ) -> u32
-    ensures { Steps (rules M.next M.refusal M.generation M.worth machine.now) (M.first machine.now) told result
+    ensures { let m = rules M.next M.refusal M.generation M.worth machine.now in
+        Steps m (M.first machine.now) told result
         (kept.old, held.old, number.old) (kept.new, held.new, number.new) }
 {
     let mut word = kept.word(machine);

@@ -2,12 +2,14 @@
 
 from __future__ import annotations
 
-from typing import Any, Optional
+from typing import Dict, Optional
 
 from ..errors import BudgetError, TermsError
 from ..leased import FileStore
 from ..leased.shared import SharedLimit
 from ..limits import Breaker, Bucket, Limit
+from ..policy import Policy
+from ..policy.builders import spaced
 from ..storms.limits import limit_of
 
 __all__ = ["SPELLINGS", "limit"]
@@ -24,7 +26,7 @@ _NOT_SHARED = {
 }
 
 
-def limit(text: str, open_for: Optional[Any]) -> SharedLimit:
+def limit(text: str, open_for: Optional[Policy]) -> SharedLimit:
     """The limit that all runs share which name it and its folder: `grpc:10/100@FOLDER`. A breaker is open for the waits
     of this policy, or each time for 30 seconds.
 
@@ -56,18 +58,20 @@ and a folder keeps one word of a limit
     return SharedLimit(FileStore(path), "run", made)
 
 
-def _bucket(numbers: Any) -> Limit:
-    capacity, floor, debit, credit, cost, late = (
-        numbers[name] / 1000
-        for name in ("bucket_capacity", "bucket_floor", "bucket_debit", "bucket_credit", "cost", "late_cost")
+def _bucket(numbers: Dict[str, int]) -> Limit:
+    tokens = {name: number / 1000 for name, number in numbers.items()}
+    return Bucket(
+        tokens["bucket_capacity"],
+        floor=tokens["bucket_floor"],
+        debit=tokens["bucket_debit"],
+        credit=tokens["bucket_credit"],
+        cost=tokens["cost"],
+        timeout_cost=tokens["late_cost"],
+        refund=bool(numbers["bucket_refund"]),
     )
-    how: Any = {"cost": cost, "timeout_cost": late, "debit": debit, "credit": credit}
-    return Bucket(capacity, floor=floor, refund=bool(numbers["bucket_refund"]), **how)
 
 
-def _breaker(numbers: Any, open_for: Optional[Any]) -> Limit:
-    from ..policy.builders import spaced
-
+def _breaker(numbers: Dict[str, int], open_for: Optional[Policy]) -> Limit:
     waits = spaced(30) if open_for is None else open_for
     deadline = numbers["deadline"] / 1000
     return Breaker(numbers["failures"], waits, probes=numbers["probes"], probe_deadline=deadline)

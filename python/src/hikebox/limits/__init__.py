@@ -1,4 +1,4 @@
-"""Limits of other systems: a bucket, a bound on retries in flight, a circuit breaker, a throttle, and two at once."""
+"""Limits of other systems: a bucket, a bound on retries in flight, a breaker, a throttle, and several at once."""
 
 from .kinds import Breaker, Bucket, InFlight, Throttle
 from .limit import Limit, Request
