@@ -19,7 +19,7 @@ from dataclasses import dataclass
 
 TOP = pathlib.Path(__file__).resolve().parent.parent
 PAGE = TOP / "docs" / "reports" / "wrong-bodies.md"
-MAX_EDITS = 210
+MAX_EDITS = 200
 
 HEAD = """# Wrong bodies
 
