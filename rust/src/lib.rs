@@ -2,8 +2,9 @@
 //!
 //! A [`Schedule`] says when to call again and when to stop. A [`Policy`] is a schedule that the engine has built and
 //! accepted. A [`Budget`] is a number of retries that all threads of a program share. A [`Quota`] is a number of
-//! retries in each window of time, which grows with the requests made. [`retry()`] runs a call by a policy and such a
-//! limit. It returns the first success, or the last error with the reason why it was the last:
+//! retries in each window of time, which grows with the requests made. A [`CallLimit`] is a limit of another system, such
+//! as a circuit breaker. [`retry()`] runs a call by a policy and such a limit. It returns the first success, or the last
+//! error with the reason why it was the last:
 //!
 //! ```
 //! use hikebox::{retry, Budget, Policy, Schedule};
@@ -23,7 +24,8 @@
 //! - [`repeat`] runs a call again after each success, and [`poll_until`] until you accept its value. [`Repeating`] adds
 //!   a deadline, and a clock and a sleep of your own.
 //! - With the feature `tokio`, `retry_async` retries futures. [`Retrying::sleep`] takes the sleep of any runtime.
-//! - With the feature `tower`, `RetryPolicy` is a `tower::retry::Policy`.
+//! - With the feature `tower`, `RetryPolicy` is a `tower::retry::Policy`, and `LimitLayer` a layer that takes a
+//!   [`CallLimit`] too.
 //! - With the feature `leased`, all processes of a machine can share a `Leased` or a `LeasedQuota`, which count in a
 //!   folder. A store of your own implements [`Tickets`].
 //! - With the feature `serde`, a configuration can contain a policy and a quota.
@@ -80,6 +82,7 @@ mod pages {
     ///     match error {
     ///         ScheduleDone(last) | Deadline(last) | BudgetRefused(last) | NotRetried(last) => last,
     ///         StoreFailed(_, last) | Broken(_, last) => last,
+    ///         NotAdmitted(never) => match never {},
     ///     }
     /// }
     /// ```

@@ -2,7 +2,7 @@
 
 use hikebox::RefusalReason::{BreakerOpen, LevelLow, OutOfTurn, Probing, RetriesFull, Throttled};
 use hikebox::{
-    both, Breaker, Bucket, BudgetError, CallLimit, InFlight, LimitError, Policy, RefusalReason, Request, RetryError,
+    both, retry, Breaker, Bucket, BudgetError, CallLimit, InFlight, Policy, RefusalReason, Request, RetryError,
     Throttle,
 };
 use std::sync::atomic::{AtomicU64, Ordering};
@@ -78,15 +78,15 @@ fn envoy() {
 fn an_open_breaker_admits_no_call() {
     let breaker = CallLimit::new(Breaker::consecutive(2, policy(r#"{"spaced":30000}"#))).unwrap();
     let mut runs = 0;
-    let answer = breaker.retry(&policy(r#"{"recurs":9}"#), || {
+    let answer = retry(&policy(r#"{"recurs":9}"#), &breaker, || {
         runs += 1;
         Err::<(), _>("down")
     });
-    assert_eq!(answer, Err(LimitError::Retry(RetryError::BudgetRefused("down"))));
+    assert_eq!(answer, Err(RetryError::BudgetRefused("down")));
     assert_eq!(runs, 2);
-    let answer = breaker.retry(&policy(r#"{"recurs":9}"#), || Ok::<_, &str>(5));
+    let answer = retry(&policy(r#"{"recurs":9}"#), &breaker, || Ok::<_, &str>(5));
     let refused = match answer {
-        Err(LimitError::NotAdmitted(refused)) => refused,
+        Err(RetryError::NotAdmitted(refused)) => refused,
         other => panic!("{other:?}"),
     };
     assert_eq!(refused.reason(), BreakerOpen);
@@ -163,7 +163,7 @@ fn four_or_none() {
 fn a_retry_that_succeeds_gives_back() {
     let bucket = CallLimit::new(Bucket { capacity: 2.0, debit: 1.0, credit: 1.0, ..Bucket::default() }).unwrap();
     let mut runs = 0;
-    let answer = bucket.retry(&policy(r#"{"recurs":9}"#), || {
+    let answer = retry(&policy(r#"{"recurs":9}"#), &bucket, || {
         runs += 1;
         if runs < 3 {
             Err("not yet")
@@ -180,19 +180,21 @@ fn a_retry_that_succeeds_gives_back() {
 #[cfg(feature = "tokio")]
 #[tokio::test(start_paused = true)]
 async fn futures_are_asked_too() {
+    use hikebox::retry_async;
+
     let bucket = CallLimit::new(Bucket { capacity: 1.0, cost: 1.0, ..Bucket::default() }).unwrap();
     let flights = CallLimit::new(InFlight { least: 1, share: 0.0 }).unwrap();
     let limit = both(&bucket, &flights).unwrap();
     let waits = policy(r#"{"spaced":60000}"#);
-    let call = limit.retry_async(&waits, || async { Err::<(), _>("busy") });
+    let call = retry_async(&waits, &limit, || async { Err::<(), _>("busy") });
     assert!(tokio::time::timeout(Duration::from_secs(1), call).await.is_err());
     let mut runs = 0;
-    let answer = limit.retry_async(&waits, || {
+    let answer = retry_async(&waits, &limit, || {
         runs += 1;
         let run = runs;
         async move { Err::<(), _>(run) }
     });
-    assert_eq!(answer.await, Err(LimitError::Retry(RetryError::BudgetRefused(2))));
+    assert_eq!(answer.await, Err(RetryError::BudgetRefused(2)));
 }
 
 /// How many draws are granted, where each of eight threads makes so many calls, and each draws once.

@@ -8,6 +8,7 @@ use hikebox::{
     Unlimited, Usage,
 };
 use std::cell::Cell;
+use std::convert::Infallible;
 use std::sync::Barrier;
 use std::thread;
 use std::time::{Duration, Instant};
@@ -125,7 +126,7 @@ fn terms_out_of_their_ranges_are_refused() {
 }
 
 /// A retry by hand on the quota whose runs all fail, from this moment on: how it ended, and when it ran.
-fn all_lost(json: &str, budget: &impl Grants, start: u64) -> (Ending, Vec<u64>, u64) {
+fn all_lost(json: &str, budget: &impl Grants<Refusal = Infallible>, start: u64) -> (Ending, Vec<u64>, u64) {
     let mut machine = Machine::new(&policy(json), budget).unwrap();
     let (mut now, mut report, mut runs) = (start, None, Vec::new());
     loop {

@@ -332,7 +332,7 @@ fn a_store_hears_of_successes_and_of_tickets_that_come_back() {
 fn whatever_retries_takes_whatever_grants() {
     use hikebox::Grants;
 
-    fn granted(grants: &(impl Grants + Clone)) -> u64 {
+    fn granted(grants: &(impl Grants<Refusal = std::convert::Infallible> + Clone)) -> u64 {
         let policy = policy(r#"{"recurs":5}"#);
         assert_eq!(retry(&policy, grants, fails(2)), Ok(2));
         assert_eq!(Retrying::new(&policy, &Unlimited).budget(grants).call(fails(2)), Ok(2));

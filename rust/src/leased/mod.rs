@@ -13,7 +13,7 @@ use crate::leased::folder::{Folder, Key};
 use crate::leased::share::{Answer, Share, Tell, AGAIN_AFTER};
 use crate::leased::uptime::Window;
 use crate::limits::budget::BudgetError;
-use crate::limits::grants::{Grants, Limit, Source, Tickets};
+use crate::limits::grants::{Limit, Source, Tickets};
 use crate::limits::quota::{thousandths, AtomicTerms, Terms, Usage};
 use crate::limits::ticket::{NoTicket, Ticket};
 use crate::limits::uses::{options_of_uses, Uses};
@@ -329,8 +329,6 @@ impl Terms {
     }
 }
 
-impl Grants for Leased {}
-
 impl Limit for Leased {
     fn source(&self) -> Source {
         Source::Store(Arc::new(self.clone()))
@@ -342,8 +340,6 @@ impl Tickets for Leased {
         Self::draw(self)
     }
 }
-
-impl Grants for LeasedQuota {}
 
 impl Limit for LeasedQuota {
     fn source(&self) -> Source {

@@ -8,14 +8,9 @@ use crate::limits::grants::Tickets;
 use crate::limits::ticket::{NoTicket, Ticket};
 use crate::policy::Policy;
 use crate::random;
-#[cfg(feature = "tokio")]
-use crate::retry::retry_async;
-use crate::retry::{retry, RetryError};
 use crate::system::{generation, PerProcess};
 use std::error::Error;
 use std::fmt;
-#[cfg(feature = "tokio")]
-use std::future::Future;
 use std::mem;
 use std::sync::{Arc, Mutex, MutexGuard, PoisonError};
 use std::time::Duration;
@@ -25,23 +20,24 @@ use std::time::Duration;
 /// share it, and what they do acts as one sequence. It is cheap to clone; all clones are the same limit.
 ///
 /// ```
-/// use hikebox::{Breaker, CallLimit, LimitError, Policy, RefusalReason};
+/// use hikebox::{retry, Breaker, CallLimit, Policy, RefusalReason, RetryError};
 ///
 /// let policy: Policy = r#"{"recurs":9}"#.parse()?;
 /// let breaker = CallLimit::new(Breaker::consecutive(2, r#"{"spaced":30000}"#.parse()?))?;
 /// let mut runs = 0;
-/// let answer = breaker.retry(&policy, || { runs += 1; Err::<(), _>("down") });
-/// assert!(matches!(answer, Err(LimitError::Retry(_))));
+/// let answer = retry(&policy, &breaker, || { runs += 1; Err::<(), _>("down") });
+/// assert_eq!(answer, Err(RetryError::BudgetRefused("down")));
 /// assert_eq!(runs, 2);
-/// match breaker.retry(&policy, || Ok::<_, &str>(5)) {
-///     Err(LimitError::NotAdmitted(refused)) => assert_eq!(refused.reason(), RefusalReason::BreakerOpen),
+/// match retry(&policy, &breaker, || Ok::<_, &str>(5)) {
+///     Err(RetryError::NotAdmitted(refused)) => assert_eq!(refused.reason(), RefusalReason::BreakerOpen),
 ///     other => panic!("{other:?}"),
 /// }
 /// # Ok::<(), Box<dyn std::error::Error>>(())
 /// ```
 ///
-/// What a call holds is given back once: when it ends, or when its [`Request`] is dropped. A limit belongs to its
-/// process: a forked child has its own, with nothing counted.
+/// It goes wherever a [`Quota`](crate::Quota) goes ([`Grants`](crate::Grants)). What a call holds is given back once: when
+/// it ends, or when its future or its [`Request`] is dropped. A limit belongs to its process: a forked child has its own,
+/// with nothing counted.
 #[derive(Clone)]
 pub struct CallLimit {
     shared: Arc<Shared>,
@@ -305,38 +301,8 @@ impl CallLimit {
         Ok(Request { limit: self.clone(), handle: Some(handle), generation: generation() })
     }
 
-    /// Runs the call until it succeeds, as [`retry`](crate::retry()) does, and asks this limit before each run.
-    ///
-    /// # Errors
-    ///
-    /// [`LimitError::NotAdmitted`] if the limit refuses the first run, or [`LimitError::Retry`] with the error of the
-    /// retry.
-    pub fn retry<T, E>(&self, policy: &Policy, mut call: impl FnMut() -> Result<T, E>) -> Result<T, LimitError<E>> {
-        let asked = self.admitted().map_err(LimitError::NotAdmitted)?;
-        retry(policy, &asked, || asked.tell(call())).map_err(LimitError::Retry)
-    }
-
-    /// [`CallLimit::retry`] for futures, as [`retry_async`](crate::retry_async) has it. A future that is dropped gives
-    /// back what the call holds.
-    ///
-    /// # Errors
-    ///
-    /// As of [`CallLimit::retry`].
-    #[cfg(feature = "tokio")]
-    pub async fn retry_async<T, E, F>(&self, policy: &Policy, mut call: impl FnMut() -> F) -> Result<T, LimitError<E>>
-    where
-        F: Future<Output = Result<T, E>>,
-    {
-        let asked = self.admitted().map_err(LimitError::NotAdmitted)?;
-        let runs = || {
-            let (asked, run) = (asked.clone(), call());
-            async move { asked.tell(run.await) }
-        };
-        retry_async(policy, &asked, runs).await.map_err(LimitError::Retry)
-    }
-
     /// A request that is admitted.
-    fn admitted(&self) -> Result<Arc<Asked>, Refused> {
+    pub(crate) fn admitted(&self) -> Result<Arc<Asked>, Refused> {
         let mut request = self.request().map_err(|_| Refused::of_memory())?;
         request.admit()?;
         Ok(Arc::new(Asked(Mutex::new(request))))
@@ -506,18 +472,20 @@ impl Drop for Request {
     }
 }
 
-/// A request as a store of tickets.
-struct Asked(Mutex<Request>);
+/// The request that was admitted, of a limit that is asked before the first run.
+pub type Admitted = Option<Arc<Asked>>;
+
+/// A request that was admitted, as a store of tickets. It is told how each run ended.
+#[derive(Debug)]
+pub struct Asked(Mutex<Request>);
 
 impl Asked {
-    /// Tells how a run ended.
-    fn tell<T, E>(&self, answer: Result<T, E>) -> Result<T, E> {
-        let mut request = lock(&self.0);
-        match answer {
-            Ok(_) => request.succeeded(),
-            Err(_) => request.failed(),
-        }
-        answer
+    pub(crate) fn succeeded(&self) {
+        lock(&self.0).succeeded();
+    }
+
+    pub(crate) fn failed(&self) {
+        lock(&self.0).failed();
     }
 }
 
@@ -612,27 +580,6 @@ impl fmt::Display for Refused {
 }
 
 impl Error for Refused {}
-
-/// Why a call under a [`CallLimit`] returned no value.
-#[derive(Clone, Debug, PartialEq, Eq, Hash)]
-#[non_exhaustive]
-pub enum LimitError<E> {
-    /// The limit did not admit the first run, so the call was not made.
-    NotAdmitted(Refused),
-    /// The call failed.
-    Retry(RetryError<E>),
-}
-
-impl<E: fmt::Display> fmt::Display for LimitError<E> {
-    fn fmt(&self, f: &mut fmt::Formatter<'_>) -> fmt::Result {
-        match self {
-            Self::NotAdmitted(refused) => write!(f, "the call was not admitted: {refused}"),
-            Self::Retry(error) => error.fmt(f),
-        }
-    }
-}
-
-impl<E: fmt::Debug + fmt::Display> Error for LimitError<E> {}
 
 impl fmt::Debug for CallLimit {
     fn fmt(&self, f: &mut fmt::Formatter<'_>) -> fmt::Result {

@@ -4,42 +4,80 @@ use crate::clock::Moment;
 #[cfg(feature = "leased")]
 use crate::leased::{Leased, LeasedQuota};
 use crate::limits::budget::Budget;
+use crate::limits::call_limit::{Admitted, CallLimit, Refused};
 use crate::limits::quota::Quota;
 use crate::limits::ticket::{NoTicket, Ticket};
+use std::convert::Infallible;
 use std::fmt;
 use std::sync::Arc;
 
-/// What retries can draw their tickets on: a [`Budget`], a [`Quota`], an `Arc` of your own store of [`Tickets`], or
-/// [`Unlimited`] for no limit; with the feature `leased` also `Leased` and `LeasedQuota`. Everything that retries takes
-/// any of them.
+/// What retries can draw their tickets on: a [`Budget`], a [`Quota`], a [`CallLimit`], an `Arc` of your own store of
+/// [`Tickets`], or [`Unlimited`] for no limit; with the feature `leased` also `Leased` and `LeasedQuota`. Everything that
+/// retries takes any of them. A [`Machine`](crate::Machine) and tower's own layer ask nobody before the first run, so they
+/// take those that never refuse it: all but a [`CallLimit`].
 ///
 /// ```
-/// use hikebox::{retry, Budget, Grants, Policy, Quota, RetryError, Unlimited};
+/// use hikebox::{retry, Bucket, Budget, CallLimit, Grants, Policy, Quota, Unlimited};
 /// use std::time::Duration;
 ///
 /// fn runs(budget: &impl Grants) -> Result<u32, hikebox::PolicyError> {
 ///     let policy: Policy = r#"{"recurs":5}"#.parse()?;
 ///     let mut runs = 0;
-///     let _: Result<(), RetryError<()>> = retry(&policy, budget, || { runs += 1; Err(()) });
+///     let _ = retry(&policy, budget, || { runs += 1; Err::<(), _>("busy") });
 ///     Ok(runs)
 /// }
 ///
 /// assert_eq!(runs(&Budget::new(2)?)?, 3);
 /// assert_eq!(runs(&Quota::new(1, 2.0, Duration::from_secs(60))?)?, 4); // one, and two for the one request
+/// assert_eq!(runs(&CallLimit::new(Bucket::grpc(6, 0.1))?)?, 3); // the third failure leaves half of the tokens
 /// assert_eq!(runs(&Unlimited)?, 6);
 /// # Ok::<(), Box<dyn std::error::Error>>(())
 /// ```
 ///
 /// The trait is sealed. A store of your own implements [`Tickets`].
-pub trait Grants: Limit {}
+pub trait Grants: Limit {
+    /// What tells that the first run was refused: [`Refused`] of a [`CallLimit`], and [`Infallible`] of all others, which
+    /// never refuse it.
+    type Refusal: MayRefuse;
+}
 
-impl Grants for Budget {}
-impl Grants for Quota {}
-impl Grants for Unlimited {}
-impl Grants for AnyBudget {}
-impl<S: Tickets + 'static> Grants for Arc<S> {}
+/// Whether a limit may refuse the first run of a call: [`Refused`] if it may, and [`Infallible`] if it never does. The
+/// trait is sealed.
+pub trait MayRefuse: Admission {}
 
-/// Any of these limits, for one that is chosen when the program runs.
+impl MayRefuse for Infallible {}
+impl MayRefuse for Refused {}
+
+impl Grants for CallLimit {
+    type Refusal = Refused;
+}
+
+impl<S: Tickets + 'static> Grants for Arc<S> {
+    type Refusal = Infallible;
+}
+
+/// The limits that never refuse the first run.
+macro_rules! never_refuse {
+    ($($(#[$gate:meta])? $kind:ident),+) => {$(
+        $(#[$gate])?
+        impl Grants for $kind {
+            type Refusal = Infallible;
+        }
+    )+};
+}
+
+never_refuse!(
+    Budget,
+    Quota,
+    Unlimited,
+    AnyBudget,
+    #[cfg(feature = "leased")]
+    Leased,
+    #[cfg(feature = "leased")]
+    LeasedQuota
+);
+
+/// Any of these limits but a [`CallLimit`], for one that is chosen when the program runs.
 ///
 /// ```
 /// use hikebox::{retry, AnyBudget, Budget, Policy, Quota, RetryError};
@@ -136,12 +174,18 @@ pub trait Tickets: Send + Sync {
 }
 
 mod sealed {
-    use super::{Moment, Source, Ticket};
+    use super::{Admitted, Infallible, Moment, Refused, Source, Ticket};
+    use std::error::Error;
 
     /// What a retry draws on, and by which clock.
     pub trait Limit: Send + Sync + 'static {
         /// What a retry that has begun holds of it.
         fn source(&self) -> Source;
+
+        /// A request that it admits, of one that is asked before the first run.
+        fn admit(&self) -> Result<Admitted, Refused> {
+            Ok(None)
+        }
 
         /// A request is made at this moment: a quota, or a store, counts it.
         fn count_request(&self, _now: Moment) {}
@@ -159,15 +203,36 @@ mod sealed {
             0
         }
     }
+
+    /// How a limit is asked before the first run, where it may refuse that.
+    pub trait Admission: Error + Sized + Send + Sync + 'static {
+        /// The request that it admits, of one that is asked.
+        fn admitted(limit: &dyn Limit) -> Result<Admitted, Self>;
+    }
+
+    impl Admission for Infallible {
+        #[inline]
+        fn admitted(_: &dyn Limit) -> Result<Admitted, Self> {
+            Ok(None)
+        }
+    }
+
+    impl Admission for Refused {
+        fn admitted(limit: &dyn Limit) -> Result<Admitted, Self> {
+            limit.admit()
+        }
+    }
 }
 
-pub(crate) use sealed::Limit;
+pub(crate) use sealed::{Admission, Limit};
 
 /// What a retry that has begun holds of what it draws on.
 #[derive(Clone)]
 pub enum Source {
     Budget(Budget),
     Quota(Quota),
+    /// Each request of it draws by a store of its own, once it is admitted.
+    Asked(CallLimit),
     Store(Arc<dyn Tickets>),
     Unlimited,
 }
@@ -179,7 +244,7 @@ impl Source {
         match self {
             Self::Quota(quota) if !quota.counts_successes() => quota.deposit_by_clock(Moment::now()),
             Self::Store(store) => store.deposit(),
-            Self::Budget(_) | Self::Quota(_) | Self::Unlimited => (),
+            Self::Budget(_) | Self::Quota(_) | Self::Asked(_) | Self::Unlimited => (),
         }
     }
 
@@ -194,11 +259,18 @@ impl Limit for Source {
         self.clone()
     }
 
+    fn admit(&self) -> Result<Admitted, Refused> {
+        match self {
+            Self::Asked(limit) => limit.admit(),
+            Self::Budget(_) | Self::Quota(_) | Self::Store(_) | Self::Unlimited => Ok(None),
+        }
+    }
+
     fn count_request(&self, now: Moment) {
         match self {
             Self::Quota(quota) => quota.count_request(now),
             Self::Store(store) => store.deposit(),
-            Self::Budget(_) | Self::Unlimited => (),
+            Self::Budget(_) | Self::Asked(_) | Self::Unlimited => (),
         }
     }
 
@@ -206,7 +278,7 @@ impl Limit for Source {
         match self {
             Self::Quota(quota) => quota.count_success(last, clock),
             Self::Store(store) => store.succeeded(last),
-            Self::Budget(_) | Self::Unlimited => (),
+            Self::Budget(_) | Self::Asked(_) | Self::Unlimited => (),
         }
     }
 
@@ -214,14 +286,14 @@ impl Limit for Source {
         match self {
             Self::Quota(quota) => quota.hears_of_successes(),
             Self::Store(_) => true,
-            Self::Budget(_) | Self::Unlimited => false,
+            Self::Budget(_) | Self::Asked(_) | Self::Unlimited => false,
         }
     }
 
     fn origin(&self, began: Moment) -> u64 {
         match self {
             Self::Quota(quota) => quota.origin(began),
-            Self::Budget(_) | Self::Store(_) | Self::Unlimited => 0,
+            Self::Budget(_) | Self::Asked(_) | Self::Store(_) | Self::Unlimited => 0,
         }
     }
 }
@@ -255,6 +327,16 @@ impl Limit for Quota {
 
     fn origin(&self, began: Moment) -> u64 {
         self.millis_at(began)
+    }
+}
+
+impl Limit for CallLimit {
+    fn source(&self) -> Source {
+        Source::Asked(self.clone())
+    }
+
+    fn admit(&self) -> Result<Admitted, Refused> {
+        self.admitted().map(Some)
     }
 }
 
@@ -356,6 +438,7 @@ impl fmt::Debug for Source {
         match self {
             Self::Budget(budget) => budget.fmt(f),
             Self::Quota(quota) => quota.fmt(f),
+            Self::Asked(limit) => limit.fmt(f),
             Self::Store(_) => f.write_str("a store of tickets"),
             Self::Unlimited => Unlimited.fmt(f),
         }

@@ -11,9 +11,7 @@ pub(crate) mod ticket;
 pub(crate) mod uses;
 
 pub use budget::{Budget, BudgetError, Pass};
-pub use call_limit::{
-    both, Breaker, Bucket, CallLimit, InFlight, LimitError, RefusalReason, Refused, Request, Terms, Throttle,
-};
-pub use grants::{AnyBudget, Grants, Tickets, Unlimited};
+pub use call_limit::{both, Breaker, Bucket, CallLimit, InFlight, RefusalReason, Refused, Request, Terms, Throttle};
+pub use grants::{AnyBudget, Grants, MayRefuse, Tickets, Unlimited};
 pub use quota::{Quota, QuotaPass, Usage};
 pub use ticket::{NoTicket, StoreFailure, Ticket};

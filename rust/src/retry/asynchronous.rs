@@ -3,7 +3,7 @@
 use crate::clock::Clock;
 #[cfg(feature = "tokio")]
 use crate::limits::grants::Grants;
-use crate::limits::grants::Unlimited;
+use crate::limits::grants::{MayRefuse, Unlimited};
 use crate::policy::Policy;
 use crate::retry::attempts::Attempt;
 use crate::retry::error::RetryError;
@@ -49,7 +49,7 @@ pub struct Async<F>(F);
 /// such a future `Send`.
 macro_rules! until_it_succeeds {
     ($retrying:ident, $attempt:ident => $call:expr) => {{
-        let mut progress = $retrying.begin();
+        let mut progress = $retrying.begin()?;
         let mut $attempt = $retrying.first();
         loop {
             let error = match $call.await {
@@ -100,11 +100,11 @@ macro_rules! until_it_succeeds {
 ///
 /// [`RetryError`] with the last error of the call.
 #[cfg(feature = "tokio")]
-pub async fn retry_async<T, E, F>(
+pub async fn retry_async<T, E, F, B: Grants>(
     policy: &Policy,
-    budget: &impl Grants,
+    budget: &B,
     call: impl FnMut() -> F,
-) -> Result<T, RetryError<E>>
+) -> Result<T, RetryError<E, B::Refusal>>
 where
     F: Future<Output = Result<T, E>>,
 {
@@ -117,11 +117,11 @@ where
 ///
 /// [`RetryError`] with the last error of the call.
 #[cfg(all(feature = "tokio", hikebox_async_closures))]
-pub async fn retry_async_mut<T, E>(
+pub async fn retry_async_mut<T, E, B: Grants>(
     policy: &Policy,
-    budget: &impl Grants,
+    budget: &B,
     call: impl AsyncFnMut() -> Result<T, E>,
-) -> Result<T, RetryError<E>> {
+) -> Result<T, RetryError<E, B::Refusal>> {
     Retrying::new(policy, budget).call_async_mut(call).await
 }
 
@@ -173,13 +173,13 @@ retryable!(F: [AsyncFnMut() -> Result<T, E>] [] []);
 #[cfg(not(hikebox_async_closures))]
 retryable!(F: [FnMut() -> P] [, P] [P: Future<Output = Result<T, E>>]);
 
-impl<E, H: Hooked<E>, K: Clock, S: AsyncSleep, R: Random> Retrying<'_, E, (), H, Host<K, S, R>> {
+impl<E, H: Hooked<E>, K: Clock, S: AsyncSleep, R: Random, L: MayRefuse> Retrying<'_, E, (), H, Host<K, S, R>, L> {
     /// [`Retrying::call`] for futures. Without the feature `tokio` it needs a [`Retrying::sleep`] of your runtime.
     ///
     /// # Errors
     ///
     /// [`RetryError`] with the last error of the call.
-    pub async fn call_async<T, P>(&self, mut call: impl FnMut() -> P) -> Result<T, RetryError<E>>
+    pub async fn call_async<T, P>(&self, mut call: impl FnMut() -> P) -> Result<T, RetryError<E, L>>
     where
         P: Future<Output = Result<T, E>>,
     {
@@ -214,7 +214,7 @@ impl<E, H: Hooked<E>, K: Clock, S: AsyncSleep, R: Random> Retrying<'_, E, (), H,
     /// # Errors
     ///
     /// [`RetryError`] with the last error of the call.
-    pub async fn call_async_with<T, P>(&self, mut call: impl FnMut(Attempt) -> P) -> Result<T, RetryError<E>>
+    pub async fn call_async_with<T, P>(&self, mut call: impl FnMut(Attempt) -> P) -> Result<T, RetryError<E, L>>
     where
         P: Future<Output = Result<T, E>>,
     {
@@ -247,18 +247,20 @@ impl<E, H: Hooked<E>, K: Clock, S: AsyncSleep, R: Random> Retrying<'_, E, (), H,
     ///
     /// [`RetryError`] with the last error of the call.
     #[cfg(hikebox_async_closures)]
-    pub async fn call_async_mut<T>(&self, mut call: impl AsyncFnMut() -> Result<T, E>) -> Result<T, RetryError<E>> {
+    pub async fn call_async_mut<T>(&self, mut call: impl AsyncFnMut() -> Result<T, E>) -> Result<T, RetryError<E, L>> {
         until_it_succeeds!(self, _attempt => call())
     }
 }
 
-impl<E, F, H: Hooked<E>, K: Clock, S: AsyncSleep, R: Random> Retrying<'_, E, Async<F>, H, Host<K, S, R>> {
+impl<E, F, H: Hooked<E>, K: Clock, S: AsyncSleep, R: Random, L: MayRefuse>
+    Retrying<'_, E, Async<F>, H, Host<K, S, R>, L>
+{
     /// Runs the call until it succeeds. Between runs the task waits.
     ///
     /// # Errors
     ///
     /// [`RetryError`] with the last error of the call.
-    pub async fn run<T, P>(self) -> Result<T, RetryError<E>>
+    pub async fn run<T, P>(self) -> Result<T, RetryError<E, L>>
     where
         F: FnMut() -> P,
         P: Future<Output = Result<T, E>>,
@@ -273,7 +275,7 @@ impl<E, F, H: Hooked<E>, K: Clock, S: AsyncSleep, R: Random> Retrying<'_, E, Asy
     ///
     /// [`RetryError`] with the last error of the call.
     #[cfg(hikebox_async_closures)]
-    pub async fn run_mut<T>(self) -> Result<T, RetryError<E>>
+    pub async fn run_mut<T>(self) -> Result<T, RetryError<E, L>>
     where
         F: AsyncFnMut() -> Result<T, E>,
     {
@@ -300,7 +302,7 @@ impl<E, F, H: Hooked<E>, K: Clock, S: AsyncSleep, R: Random> Retrying<'_, E, Asy
 /// # }).unwrap();
 /// ```
 #[cfg(hikebox_into_future)]
-impl<'a, T, E, F, P, H, K, S, R> std::future::IntoFuture for Retrying<'a, E, Async<F>, H, Host<K, S, R>>
+impl<'a, T, E, F, P, H, K, S, R, L> std::future::IntoFuture for Retrying<'a, E, Async<F>, H, Host<K, S, R>, L>
 where
     T: Send + 'a,
     E: Send + 'a,
@@ -311,8 +313,9 @@ where
     S: AsyncSleep + Send + Sync + 'a,
     S::Sleeping: Send,
     R: Random + Send + Sync + 'a,
+    L: MayRefuse,
 {
-    type Output = Result<T, RetryError<E>>;
+    type Output = Result<T, RetryError<E, L>>;
     type IntoFuture = std::pin::Pin<Box<dyn Future<Output = Self::Output> + Send + 'a>>;
 
     fn into_future(self) -> Self::IntoFuture {

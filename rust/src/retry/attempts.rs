@@ -1,6 +1,8 @@
 //! What the loops of a retry have in common: each attempt, and what follows it.
 
 use crate::clock::{Clock, Moment};
+use crate::limits::call_limit::{Admitted, Asked};
+use crate::limits::grants::MayRefuse;
 use crate::retry::error::RetryError;
 use crate::retry::hooks::Hooked;
 use crate::retry::host::{Host, Random};
@@ -30,25 +32,29 @@ impl Attempt {
     }
 }
 
-impl<E, H: Hooked<E>, K: Clock, S, R: Random> Retrying<'_, E, (), H, Host<K, S, R>> {
+impl<E, H: Hooked<E>, K: Clock, S, R: Random, L: MayRefuse> Retrying<'_, E, (), H, Host<K, S, R>, L> {
     /// A request, and its retry, whose first run begins.
     #[inline]
-    pub(crate) fn begin(&self) -> Progress {
-        Progress::new(self.begins())
+    pub(crate) fn begin(&self) -> Result<Progress, RetryError<E, L>> {
+        let (now, asked) = self.begins()?;
+        Ok(Progress::new(now, asked))
     }
 
-    /// The moment at which a request begins, which is counted.
+    /// The moment at which a request begins, which is counted, and the request of a limit that is asked.
     #[inline]
-    pub(crate) fn begins(&self) -> Moment {
+    pub(crate) fn begins(&self) -> Result<(Moment, Admitted), RetryError<E, L>> {
+        let asked = L::admitted(self.budget.get()).map_err(RetryError::NotAdmitted)?;
         let now = self.host.clock.moment();
         self.budget.get().count_request(now);
-        now
+        Ok((now, asked))
     }
 
     /// A request whose first run succeeded.
     #[inline]
-    pub(crate) fn succeeds_at_once(&self) {
-        if self.budget.get().hears_of_successes() {
+    pub(crate) fn succeeds_at_once(&self, asked: Option<&Asked>) {
+        if let Some(asked) = asked {
+            asked.succeeded();
+        } else if self.budget.get().hears_of_successes() {
             self.budget.get().count_success(None, &|| self.host.clock.moment());
         }
     }
@@ -62,14 +68,15 @@ impl<E, H: Hooked<E>, K: Clock, S, R: Random> Retrying<'_, E, (), H, Host<K, S, 
     /// A run succeeded, which ends the retry.
     #[inline]
     pub(crate) fn succeeds(&self, progress: &mut Progress) {
-        if self.budget.get().hears_of_successes() {
+        if progress.is_asked() || self.budget.get().hears_of_successes() {
             self.succeeded(progress);
         }
     }
 
     /// How long it is until the next run after one that failed, with its error, or how the retry ended.
-    pub(crate) fn fails(&self, progress: &mut Progress, error: E) -> Result<(Duration, E), RetryError<E>> {
+    pub(crate) fn fails(&self, progress: &mut Progress, error: E) -> Result<(Duration, E), RetryError<E, L>> {
         let now = self.host.clock.moment();
+        progress.failed();
         if !self.hooks.when(&error) {
             return Err(RetryError::NotRetried(error));
         }
@@ -90,7 +97,7 @@ impl<E, H: Hooked<E>, K: Clock, S, R: Random> Retrying<'_, E, (), H, Host<K, S, 
 
     #[cold]
     fn succeeded(&self, progress: &mut Progress) {
-        self.budget.get().count_success(progress.won(), &|| self.host.clock.moment());
+        progress.succeeded(self.budget.get(), &|| self.host.clock.moment());
     }
 
     /// The next run, which begins after the wait for it, or how the retry ended.

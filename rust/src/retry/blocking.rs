@@ -1,7 +1,7 @@
 //! Retries of calls that block their thread.
 
 use crate::clock::Clock;
-use crate::limits::grants::{Grants, Unlimited};
+use crate::limits::grants::{Grants, MayRefuse, Unlimited};
 use crate::policy::Policy;
 use crate::retry::attempts::Attempt;
 use crate::retry::error::RetryError;
@@ -37,11 +37,11 @@ use crate::retry::retrying::Retrying;
 ///
 /// [`RetryError`] with the last error of the call.
 #[inline]
-pub fn retry<T, E>(
+pub fn retry<T, E, B: Grants>(
     policy: &Policy,
-    budget: &impl Grants,
+    budget: &B,
     call: impl FnMut() -> Result<T, E>,
-) -> Result<T, RetryError<E>> {
+) -> Result<T, RetryError<E, B::Refusal>> {
     Retrying::new(policy, budget).call(call)
 }
 
@@ -74,14 +74,14 @@ impl<T, E, F: FnMut() -> Result<T, E>> BlockingRetryable<T, E> for F {}
 #[derive(Clone, Copy)]
 pub struct Blocking<F>(F);
 
-impl<E, H: Hooked<E>, K: Clock, S: Sleep, R: Random> Retrying<'_, E, (), H, Host<K, S, R>> {
+impl<E, H: Hooked<E>, K: Clock, S: Sleep, R: Random, L: MayRefuse> Retrying<'_, E, (), H, Host<K, S, R>, L> {
     /// Runs the call until it succeeds. Between runs the thread sleeps.
     ///
     /// # Errors
     ///
     /// [`RetryError`] with the last error of the call.
     #[inline]
-    pub fn call<T>(&self, mut call: impl FnMut() -> Result<T, E>) -> Result<T, RetryError<E>> {
+    pub fn call<T>(&self, mut call: impl FnMut() -> Result<T, E>) -> Result<T, RetryError<E, L>> {
         self.call_with(|_| call())
     }
 
@@ -106,14 +106,14 @@ impl<E, H: Hooked<E>, K: Clock, S: Sleep, R: Random> Retrying<'_, E, (), H, Host
     ///
     /// [`RetryError`] with the last error of the call.
     #[inline]
-    pub fn call_with<T>(&self, mut call: impl FnMut(Attempt) -> Result<T, E>) -> Result<T, RetryError<E>> {
-        let (began, first) = (self.begins(), self.first());
+    pub fn call_with<T>(&self, mut call: impl FnMut(Attempt) -> Result<T, E>) -> Result<T, RetryError<E, L>> {
+        let ((began, asked), first) = (self.begins()?, self.first());
         match call(first) {
             Ok(value) => {
-                self.succeeds_at_once();
+                self.succeeds_at_once(asked.as_deref());
                 Ok(value)
             }
-            Err(error) => self.calls_again(Progress::new(began), first, error, call),
+            Err(error) => self.calls_again(Progress::new(began, asked), first, error, call),
         }
     }
 
@@ -125,7 +125,7 @@ impl<E, H: Hooked<E>, K: Clock, S: Sleep, R: Random> Retrying<'_, E, (), H, Host
         mut attempt: Attempt,
         mut error: E,
         mut call: impl FnMut(Attempt) -> Result<T, E>,
-    ) -> Result<T, RetryError<E>> {
+    ) -> Result<T, RetryError<E, L>> {
         loop {
             let (wait, last) = self.fails(&mut progress, error)?;
             if !wait.is_zero() {
@@ -146,13 +146,15 @@ impl<E, H: Hooked<E>, K: Clock, S: Sleep, R: Random> Retrying<'_, E, (), H, Host
     }
 }
 
-impl<E, F, H: Hooked<E>, K: Clock, S: Sleep, R: Random> Retrying<'_, E, Blocking<F>, H, Host<K, S, R>> {
+impl<E, F, H: Hooked<E>, K: Clock, S: Sleep, R: Random, L: MayRefuse>
+    Retrying<'_, E, Blocking<F>, H, Host<K, S, R>, L>
+{
     /// Runs the call until it succeeds. Between runs the thread sleeps.
     ///
     /// # Errors
     ///
     /// [`RetryError`] with the last error of the call.
-    pub fn run<T>(self) -> Result<T, RetryError<E>>
+    pub fn run<T>(self) -> Result<T, RetryError<E, L>>
     where
         F: FnMut() -> Result<T, E>,
     {

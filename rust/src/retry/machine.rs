@@ -9,6 +9,7 @@ use crate::limits::ticket::{NoTicket, StoreFailure, Ticket};
 use crate::policy::Policy;
 use crate::random;
 use crate::system::generation;
+use std::convert::Infallible;
 use std::mem;
 use std::time::Duration;
 
@@ -126,7 +127,7 @@ impl Machine {
     /// # Errors
     ///
     /// [`BudgetError::NoMemory`].
-    pub fn new(policy: &Policy, budget: &impl Grants) -> Result<Self, BudgetError> {
+    pub fn new(policy: &Policy, budget: &impl Grants<Refusal = Infallible>) -> Result<Self, BudgetError> {
         Self::on(policy, budget.source(), NO_DEADLINE)
     }
 
@@ -152,7 +153,11 @@ impl Machine {
     /// # Errors
     ///
     /// [`BudgetError::NoMemory`].
-    pub fn until(policy: &Policy, budget: &impl Grants, deadline: Duration) -> Result<Self, BudgetError> {
+    pub fn until(
+        policy: &Policy,
+        budget: &impl Grants<Refusal = Infallible>,
+        deadline: Duration,
+    ) -> Result<Self, BudgetError> {
         Self::on(policy, budget.source(), whole_millis(deadline))
     }
 
@@ -160,7 +165,7 @@ impl Machine {
         let handle = policy.with(|policy| match &source {
             Source::Budget(budget) => budget.with(|root| Handle::begun(policy, root, deadline)),
             Source::Quota(quota) => quota.with(|root| Handle::begun(policy, root, deadline)),
-            Source::Store(_) | Source::Unlimited => Handle::on_nothing(policy, deadline),
+            Source::Asked(_) | Source::Store(_) | Source::Unlimited => Handle::on_nothing(policy, deadline),
         });
         Ok(Self::of(Some(handle.map_err(BudgetError::of)?), source, deadline))
     }
@@ -178,7 +183,9 @@ impl Machine {
         let handle = policy.with(|policy| match source {
             Source::Budget(budget) => budget.with_own(|pass| Handle::after(policy, pass, *deadline, run, told)),
             Source::Quota(quota) => quota.with(|root| Handle::after(policy, root, *deadline, run, told)),
-            Source::Store(_) | Source::Unlimited => Handle::after_on_nothing(policy, *deadline, run, told),
+            Source::Asked(_) | Source::Store(_) | Source::Unlimited => {
+                Handle::after_on_nothing(policy, *deadline, run, told)
+            }
         });
         // (for want of passes 2^42 of them would have to be alive)
         self.handle = Some(handle.map_err(|_| Ending::Broken(Cause::NoMemory))?);
@@ -356,7 +363,7 @@ impl Drop for Machine {
                     }
                 }
             }
-            Source::Unlimited => (),
+            Source::Asked(_) | Source::Unlimited => (),
         }
     }
 }

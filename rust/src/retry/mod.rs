@@ -6,6 +6,8 @@ mod blocking;
 mod error;
 mod hooks;
 mod host;
+#[cfg(feature = "tower")]
+mod limited;
 pub(crate) mod machine;
 mod options;
 mod progress;
@@ -27,6 +29,8 @@ pub use blocking::{retry, Blocking, BlockingRetryable};
 pub use error::RetryError;
 pub use hooks::{Hooked, Hooks, PlainHooks, SharedHooks};
 pub use host::{Host, Random, Sleep, SystemHost, SystemRandom, SystemSleep};
+#[cfg(feature = "tower")]
+pub use limited::{LimitLayer, Limited, LimitedCall};
 pub use machine::{Cause, Ending, Machine, Report, Step};
 pub use repeating::{poll_until, repeat, RepeatError, Repeating};
 #[cfg(feature = "tokio")]

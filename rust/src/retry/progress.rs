@@ -2,6 +2,7 @@
 
 use crate::clock::{whole_millis, Moment};
 use crate::engine::{Run, LOST, MAX_NUMBER, NO_DEADLINE};
+use crate::limits::call_limit::Admitted;
 use crate::limits::grants::Limit;
 use crate::limits::ticket::Ticket;
 use crate::policy::Policy;
@@ -35,6 +36,8 @@ pub(crate) struct Lost {
 pub(crate) struct Progress {
     began: Moment,
     running: Option<Running>,
+    /// The request, of a limit that was asked before the first run: the retry draws by it.
+    asked: Admitted,
 }
 
 /// A retry that the engine has begun. Its moments are whole milliseconds.
@@ -55,10 +58,10 @@ struct Running {
 }
 
 impl Progress {
-    /// One whose first run begins now.
+    /// One whose first run begins now, as that request of a limit that was asked.
     #[inline]
-    pub(crate) fn new(now: Moment) -> Self {
-        Self { began: now, running: None }
+    pub(crate) fn new(now: Moment, asked: Admitted) -> Self {
+        Self { began: now, running: None, asked }
     }
 
     /// How long ago the first run began.
@@ -76,7 +79,10 @@ impl Progress {
         };
         let running = match &mut self.running {
             Some(running) => running.lost(self.began, lost)?,
-            running => Running::begin(running, rules, self.began, lost)?,
+            running => {
+                let limit = self.asked.as_ref().map_or(rules.limit, |asked| asked);
+                Running::begin(running, &Rules { limit, ..*rules }, self.began, lost)?
+            }
         };
         let wait = match running.due {
             Some(due) => asked.max(Duration::from_millis(due - running.latest)),
@@ -84,6 +90,29 @@ impl Progress {
         };
         running.machine.set_waits(!wait.is_zero());
         Ok(wait)
+    }
+
+    /// Tells a limit that was asked that the run under way failed, whether it is retried or not.
+    #[inline]
+    pub(crate) fn failed(&self) {
+        if let Some(asked) = &self.asked {
+            asked.failed();
+        }
+    }
+
+    /// The run under way succeeded, and ends the retry: this limit counts it, or the one that was asked.
+    pub(crate) fn succeeded(&mut self, limit: &dyn Limit, clock: &dyn Fn() -> Moment) {
+        let last = self.won();
+        match &self.asked {
+            Some(asked) => asked.succeeded(),
+            None => limit.count_success(last, clock),
+        }
+    }
+
+    /// Whether a limit was asked before the first run.
+    #[inline]
+    pub(crate) fn is_asked(&self) -> bool {
+        self.asked.is_some()
     }
 
     /// The run under way succeeded, and ends the retry: the ticket of the last retry, of a store.
@@ -110,7 +139,7 @@ impl Progress {
     }
 
     /// The error of a retry that ended so.
-    pub(crate) fn error<E>(&self, ended: Ending, error: E) -> RetryError<E> {
+    pub(crate) fn error<E, L>(&self, ended: Ending, error: E) -> RetryError<E, L> {
         let failure = || self.running.as_ref().and_then(|running| running.machine.store_failure());
         match ended {
             Ending::BudgetRefused => RetryError::BudgetRefused(error),

@@ -7,6 +7,7 @@ use crate::retry::host::{Host, SystemHost};
 use crate::retry::options::Options;
 use crate::retry::progress::Rules;
 use std::borrow::Cow;
+use std::convert::Infallible;
 use std::fmt;
 use std::marker::PhantomData;
 use std::time::{Duration, Instant};
@@ -62,18 +63,19 @@ use std::time::{Duration, Instant};
 /// # assert_eq!(Client::new().unwrap().fetch().unwrap(), "fetched");
 /// ```
 #[must_use = "nothing is called before `call` or `run`"]
-pub struct Retrying<'a, E, F = (), H = PlainHooks<E>, M = SystemHost> {
+pub struct Retrying<'a, E, F = (), H = PlainHooks<E>, M = SystemHost, L = Infallible> {
     policy: Cow<'a, Policy>,
     pub(super) budget: CowLimit<'a>,
     pub(super) options: Options,
     call: F,
     pub(super) hooks: H,
     pub(super) host: M,
-    error: PhantomData<fn(&E)>,
+    error: PhantomData<fn(&E) -> L>,
 }
 
-/// A [`Retrying`] to keep: it owns its policy and its budget, and its hooks have one type.
-pub type SharedRetrying<E> = Retrying<'static, E, (), SharedHooks<E>>;
+/// A [`Retrying`] to keep: it owns its policy and its budget, and its hooks have one type. On a
+/// [`CallLimit`](crate::CallLimit) it is a `SharedRetrying<E, Refused>`.
+pub type SharedRetrying<E, L = Infallible> = Retrying<'static, E, (), SharedHooks<E>, SystemHost, L>;
 
 /// What a [`Retrying`] draws on.
 #[derive(Clone)]
@@ -95,14 +97,17 @@ impl CowLimit<'_> {
 impl<'a, E> Retrying<'a, E> {
     /// Retries every error; each has the code 0.
     #[inline]
-    pub fn new(policy: &'a Policy, budget: &'a impl Grants) -> Self {
-        Self::of(policy, budget, ())
+    pub fn new<B: Grants>(
+        policy: &'a Policy,
+        budget: &'a B,
+    ) -> Retrying<'a, E, (), PlainHooks<E>, SystemHost, B::Refusal> {
+        Retrying::of(policy, budget, ())
     }
 }
 
-impl<'a, E, F> Retrying<'a, E, F> {
+impl<'a, E, F, L> Retrying<'a, E, F, PlainHooks<E>, SystemHost, L> {
     #[inline]
-    pub(super) fn of(policy: &'a Policy, budget: &'a impl Grants, call: F) -> Self {
+    pub(super) fn of(policy: &'a Policy, budget: &'a impl Grants<Refusal = L>, call: F) -> Self {
         Self {
             policy: Cow::Borrowed(policy),
             budget: CowLimit::Borrowed(budget),
@@ -115,11 +120,18 @@ impl<'a, E, F> Retrying<'a, E, F> {
     }
 }
 
-impl<'a, E, F, H, M> Retrying<'a, E, F, H, M> {
+impl<'a, E, F, H, M, L> Retrying<'a, E, F, H, M, L> {
     /// The limit on which each retry draws a ticket.
-    pub fn budget(mut self, budget: &'a impl Grants) -> Self {
-        self.budget = CowLimit::Borrowed(budget);
-        self
+    pub fn budget<B: Grants>(self, budget: &'a B) -> Retrying<'a, E, F, H, M, B::Refusal> {
+        Retrying {
+            policy: self.policy,
+            budget: CowLimit::Borrowed(budget),
+            options: self.options,
+            call: self.call,
+            hooks: self.hooks,
+            host: self.host,
+            error: PhantomData,
+        }
     }
 
     /// The longest wait that an error can ask for by [`Retrying::retry_after`]: six hours by default.
@@ -173,7 +185,7 @@ impl<'a, E, F, H, M> Retrying<'a, E, F, H, M> {
     /// # Ok::<(), Box<dyn std::error::Error>>(())
     /// # }).unwrap();
     /// ```
-    pub fn into_owned(self) -> Retrying<'static, E, F, H, M> {
+    pub fn into_owned(self) -> Retrying<'static, E, F, H, M, L> {
         let source = match self.budget {
             CowLimit::Borrowed(budget) => budget.source(),
             CowLimit::Owned(source) => source,
@@ -191,14 +203,14 @@ impl<'a, E, F, H, M> Retrying<'a, E, F, H, M> {
 
     /// Makes it own its policy and its budget, and puts its hooks behind one pointer, so that you can name its type:
     /// [`SharedRetrying`]. Hooks cannot be changed after that.
-    pub fn shared(self) -> Retrying<'static, E, F, SharedHooks<E>, M>
+    pub fn shared(self) -> Retrying<'static, E, F, SharedHooks<E>, M, L>
     where
         H: Hooked<E> + Send + Sync + 'static,
     {
         self.into_owned().with(SharedHooks::new, |host| host)
     }
 
-    fn with<I, O>(self, hooks: impl FnOnce(H) -> I, host: impl FnOnce(M) -> O) -> Retrying<'a, E, F, I, O> {
+    fn with<I, O>(self, hooks: impl FnOnce(H) -> I, host: impl FnOnce(M) -> O) -> Retrying<'a, E, F, I, O, L> {
         Retrying {
             policy: self.policy,
             budget: self.budget,
@@ -211,7 +223,7 @@ impl<'a, E, F, H, M> Retrying<'a, E, F, H, M> {
     }
 
     /// The settings, and the call.
-    pub(super) fn parted(self) -> (Retrying<'a, E, (), H, M>, F) {
+    pub(super) fn parted(self) -> (Retrying<'a, E, (), H, M, L>, F) {
         let Self { policy, budget, options, call, hooks, host, error } = self;
         (Retrying { policy, budget, options, call: (), hooks, host, error }, call)
     }
@@ -221,16 +233,16 @@ impl<'a, E, F, H, M> Retrying<'a, E, F, H, M> {
     }
 }
 
-impl<'a, E, F, W, C, A, N, M> Retrying<'a, E, F, Hooks<W, C, A, N>, M> {
+impl<'a, E, F, W, C, A, N, M, L> Retrying<'a, E, F, Hooks<W, C, A, N>, M, L> {
     /// Retries only the errors for which this returns true. Any other ends the retry as [`RetryError::NotRetried`].
     ///
     /// [`RetryError::NotRetried`]: crate::RetryError::NotRetried
-    pub fn when<X: Fn(&E) -> bool>(self, when: X) -> Retrying<'a, E, F, Hooks<X, C, A, N>, M> {
+    pub fn when<X: Fn(&E) -> bool>(self, when: X) -> Retrying<'a, E, F, Hooks<X, C, A, N>, M, L> {
         self.with(|Hooks { code, retry_after, notify, .. }| Hooks { when, code, retry_after, notify }, |host| host)
     }
 
     /// The number of an error, up to 2^62 - 1, which the schedule can test: its input.
-    pub fn code<X: Fn(&E) -> u64>(self, code: X) -> Retrying<'a, E, F, Hooks<W, X, A, N>, M> {
+    pub fn code<X: Fn(&E) -> u64>(self, code: X) -> Retrying<'a, E, F, Hooks<W, X, A, N>, M, L> {
         self.with(|Hooks { when, retry_after, notify, .. }| Hooks { when, code, retry_after, notify }, |host| host)
     }
 
@@ -239,38 +251,38 @@ impl<'a, E, F, W, C, A, N, M> Retrying<'a, E, F, Hooks<W, C, A, N>, M> {
     pub fn retry_after<X: Fn(&E) -> Option<Duration>>(
         self,
         retry_after: X,
-    ) -> Retrying<'a, E, F, Hooks<W, C, X, N>, M> {
+    ) -> Retrying<'a, E, F, Hooks<W, C, X, N>, M, L> {
         self.with(|Hooks { when, code, notify, .. }| Hooks { when, code, retry_after, notify }, |host| host)
     }
 
     /// Called before each retry with the error and the wait.
-    pub fn notify<X: Fn(&E, Duration)>(mut self, notify: X) -> Retrying<'a, E, F, Hooks<W, C, A, X>, M> {
+    pub fn notify<X: Fn(&E, Duration)>(mut self, notify: X) -> Retrying<'a, E, F, Hooks<W, C, A, X>, M, L> {
         self.options.notifies = true;
         self.with(|Hooks { when, code, retry_after, .. }| Hooks { when, code, retry_after, notify }, |host| host)
     }
 }
 
-impl<'a, E, F, H, K, S, R> Retrying<'a, E, F, H, Host<K, S, R>> {
+impl<'a, E, F, H, K, S, R, L> Retrying<'a, E, F, H, Host<K, S, R>, L> {
     /// The clock to use instead of the system's.
-    pub fn clock<X: Fn() -> Instant>(self, clock: X) -> Retrying<'a, E, F, H, Host<X, S, R>> {
+    pub fn clock<X: Fn() -> Instant>(self, clock: X) -> Retrying<'a, E, F, H, Host<X, S, R>, L> {
         self.with(|hooks| hooks, |Host { sleep, random, .. }| Host { clock, sleep, random })
     }
 
     /// How to wait: a function that blocks for that long, or for futures one that returns a future of any runtime, such
     /// as `async_std::task::sleep`. It is not called for a wait of zero. After a wait the retry goes on even if the
     /// clock did not move.
-    pub fn sleep<X>(self, sleep: X) -> Retrying<'a, E, F, H, Host<K, X, R>> {
+    pub fn sleep<X>(self, sleep: X) -> Retrying<'a, E, F, H, Host<K, X, R>, L> {
         self.with(|hooks| hooks, |Host { clock, random, .. }| Host { clock, sleep, random })
     }
 
     /// The random words to use instead of the system's: four for each failure, if the policy has a jitter. It
     /// takes the one of its lane.
-    pub fn random<X: Fn() -> [u32; 4]>(self, random: X) -> Retrying<'a, E, F, H, Host<K, S, X>> {
+    pub fn random<X: Fn() -> [u32; 4]>(self, random: X) -> Retrying<'a, E, F, H, Host<K, S, X>, L> {
         self.with(|hooks| hooks, |Host { clock, sleep, .. }| Host { clock, sleep, random })
     }
 }
 
-impl<E, F: Clone, H: Clone, M: Clone> Clone for Retrying<'_, E, F, H, M> {
+impl<E, F: Clone, H: Clone, M: Clone, L> Clone for Retrying<'_, E, F, H, M, L> {
     fn clone(&self) -> Self {
         Self {
             policy: self.policy.clone(),
@@ -284,7 +296,7 @@ impl<E, F: Clone, H: Clone, M: Clone> Clone for Retrying<'_, E, F, H, M> {
     }
 }
 
-impl<E, F, H, M> fmt::Debug for Retrying<'_, E, F, H, M> {
+impl<E, F, H, M, L> fmt::Debug for Retrying<'_, E, F, H, M, L> {
     fn fmt(&self, f: &mut fmt::Formatter<'_>) -> fmt::Result {
         f.debug_struct("Retrying")
             .field("policy", &self.policy)

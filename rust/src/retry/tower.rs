@@ -8,8 +8,10 @@ use crate::retry::options::Options;
 use crate::retry::progress::{Lost, Progress, Rules};
 use crate::system::ToTake;
 use ::tokio::time::{sleep, Sleep};
+use std::convert::Infallible;
 use std::fmt;
 use std::future::Future;
+use std::marker::PhantomData;
 use std::pin::Pin;
 use std::sync::Arc;
 use std::task::{Context, Poll};
@@ -19,6 +21,9 @@ use std::time::Duration;
 /// [`Budget`](crate::Budget) or a [`Quota`](crate::Quota) for each retry. It takes the place of `tower::retry::budget`.
 /// A quota counts each request when it is made. An error is a failure, and so is a response for which
 /// [`RetryPolicy::failed`] returns true.
+///
+/// A policy on a [`CallLimit`](crate::CallLimit) goes into a [`LimitLayer`](crate::LimitLayer): tower's `RetryLayer` can't
+/// refuse the first call.
 ///
 /// ```
 /// use hikebox::{Budget, Policy, RetryPolicy};
@@ -41,11 +46,12 @@ use std::time::Duration;
 /// # }).unwrap();
 /// ```
 #[must_use]
-pub struct RetryPolicy<Request, Response, E, B = Whenever> {
-    settings: Arc<Settings<Request, Response, E>>,
+pub struct RetryPolicy<Request, Response, E, B = Whenever, L = Infallible> {
+    pub(super) settings: Arc<Settings<Request, Response, E>>,
     /// The retry under way, of a run after the first.
     progress: ToTake<Progress>,
     began: B,
+    refuses: PhantomData<L>,
 }
 
 /// The start of a request is not noted, so it has no deadline.
@@ -102,12 +108,12 @@ type Asked<T, A> = Option<Arc<dyn Fn(&T) -> A + Send + Sync>>;
 type Outcome<A, Response, E> = Option<Arc<dyn Fn(Result<&Response, &E>) -> A + Send + Sync>>;
 
 /// What all requests of a layer have in common.
-struct Settings<Request, Response, E> {
+pub(super) struct Settings<Request, Response, E> {
     policy: Policy,
-    source: Source,
+    pub(super) source: Source,
     hears_of_successes: bool,
-    options: Options,
-    copy: Copying<Request>,
+    pub(super) options: Options,
+    pub(super) copy: Copying<Request>,
     when: Asked<E, bool>,
     failed: Asked<Response, bool>,
     code: Asked<E, u64>,
@@ -117,7 +123,7 @@ struct Settings<Request, Response, E> {
 
 impl<Request: Clone, Response, E> RetryPolicy<Request, Response, E> {
     /// Retries every error; each has the code 0.
-    pub fn new(policy: Policy, budget: impl Grants) -> Self {
+    pub fn new<G: Grants>(policy: Policy, budget: G) -> RetryPolicy<Request, Response, E, Whenever, G::Refusal> {
         Self::copying(policy, budget, |request: &Request| Some(request.clone()))
     }
 }
@@ -125,11 +131,11 @@ impl<Request: Clone, Response, E> RetryPolicy<Request, Response, E> {
 impl<Request, Response, E> RetryPolicy<Request, Response, E> {
     /// [`RetryPolicy::new`] for requests that are not `Clone`. Like tower's `clone_request`, `copy` copies a request,
     /// or returns `None` if it cannot be made again.
-    pub fn copying(
+    pub fn copying<G: Grants>(
         policy: Policy,
-        budget: impl Grants,
+        budget: G,
         copy: impl Fn(&Request) -> Option<Request> + Send + Sync + 'static,
-    ) -> Self {
+    ) -> RetryPolicy<Request, Response, E, Whenever, G::Refusal> {
         let source = budget.source();
         let settings = Settings {
             policy,
@@ -143,11 +149,11 @@ impl<Request, Response, E> RetryPolicy<Request, Response, E> {
             response_code: None,
             retry_after: None,
         };
-        Self { settings: Arc::new(settings), progress: ToTake::none(), began: Whenever }
+        RetryPolicy::of(Arc::new(settings), Whenever)
     }
 }
 
-impl<Request, Response, E, B: Noted> RetryPolicy<Request, Response, E, B> {
+impl<Request, Response, E, B: Noted, L> RetryPolicy<Request, Response, E, B, L> {
     /// Retries only the errors for which this returns true.
     pub fn when(mut self, when: impl Fn(&E) -> bool + Send + Sync + 'static) -> Self {
         self.set().when = Some(Arc::new(when));
@@ -192,33 +198,39 @@ impl<Request, Response, E, B: Noted> RetryPolicy<Request, Response, E, B> {
     /// No retry is planned to begin later than this (in whole milliseconds) after the request was made. Tower makes a
     /// run that it was promised even if its timer was late; [`Retrying::deadline`](crate::Retrying::deadline) does not.
     /// To end a run that is under way, add a layer of `tower::timeout`.
-    pub fn deadline(mut self, deadline: Duration) -> RetryPolicy<Request, Response, E, Since> {
+    pub fn deadline(mut self, deadline: Duration) -> RetryPolicy<Request, Response, E, Since, L> {
         self.set().options.deadline = Some(deadline);
-        RetryPolicy { settings: self.settings, progress: ToTake::none(), began: Since(Moment::now()) }
+        RetryPolicy::of(self.settings, Since(Moment::now()))
     }
 
     /// The settings, which other copies of the policy keep as they are.
     fn set(&mut self) -> &mut Settings<Request, Response, E> {
         Arc::make_mut(&mut self.settings)
     }
+}
 
-    /// The wait before a request that failed so is made again, or `None` where it is not.
-    #[inline(never)]
-    fn again(&self, code: u64, result: Result<&Response, &E>) -> Option<RetryWait<Request, Response, E, B>> {
-        let (settings, now) = (&*self.settings, Moment::now());
-        let mut progress = match self.progress.take() {
-            Some(progress) => progress,
-            None => Box::new(Progress::new(self.began.began(now))),
-        };
-        let retry_after = settings.retry_after.as_ref().and_then(|retry_after| retry_after(result));
-        let lost = Lost { now, code, words: settings.policy.words(random::next), retry_after };
-        let wait = progress.lost(&settings.rules(), &lost).ok()?;
-        let next = Self { settings: self.settings.clone(), progress: ToTake::new(progress), began: self.began };
-        Some(RetryWait { next: Some(next), sleep: if wait.is_zero() { None } else { Some(sleeping(wait)) } })
+impl<Request, Response, E, B, L> RetryPolicy<Request, Response, E, B, L> {
+    /// One with no request under way.
+    #[inline]
+    fn of(settings: Arc<Settings<Request, Response, E>>, began: B) -> Self {
+        Self { settings, progress: ToTake::none(), began, refuses: PhantomData }
     }
 }
 
-impl<Request, Response, E, B> RetryPolicy<Request, Response, E, B> {
+impl<Request, Response, E, B: Noted> RetryPolicy<Request, Response, E, B> {
+    /// The wait before a request that failed so is made again, or `None` where it is not.
+    #[inline(never)]
+    fn again(&self, code: u64, result: Result<&Response, &E>) -> Option<RetryWait<Request, Response, E, B>> {
+        let now = Moment::now();
+        let mut progress = match self.progress.take() {
+            Some(progress) => progress,
+            None => Box::new(Progress::new(self.began.began(now), None)),
+        };
+        let sleep = sleeping(self.settings.wait(&mut progress, now, code, result)?);
+        let next = Self { progress: ToTake::new(progress), ..Self::of(self.settings.clone(), self.began) };
+        Some(RetryWait { next: Some(next), sleep })
+    }
+
     /// The request was answered as it should be.
     #[inline(never)]
     fn succeeded(&self) {
@@ -227,8 +239,9 @@ impl<Request, Response, E, B> RetryPolicy<Request, Response, E, B> {
     }
 }
 
-fn sleeping(wait: Duration) -> Pin<Box<Sleep>> {
-    Box::pin(sleep(wait))
+/// A timer, where there is something to wait for.
+pub(super) fn sleeping(wait: Duration) -> Option<Pin<Box<Sleep>>> {
+    (!wait.is_zero()).then(|| Box::pin(sleep(wait)))
 }
 
 impl<Request, Response, E> Settings<Request, Response, E> {
@@ -236,9 +249,22 @@ impl<Request, Response, E> Settings<Request, Response, E> {
         Rules { policy: &self.policy, limit: &self.source, options: &self.options }
     }
 
+    /// The wait before a request that failed so now is made again, or `None` where it is not.
+    pub(super) fn wait(
+        &self,
+        progress: &mut Progress,
+        now: Moment,
+        code: u64,
+        result: Result<&Response, &E>,
+    ) -> Option<Duration> {
+        let retry_after = self.retry_after.as_ref().and_then(|retry_after| retry_after(result));
+        let lost = Lost { now, code, words: self.policy.words(random::next), retry_after };
+        progress.lost(&self.rules(), &lost).ok()
+    }
+
     /// The number by which the schedule knows what is a failure.
     #[inline]
-    fn code_of_failure(&self, result: Result<&Response, &E>) -> Option<u64> {
+    pub(super) fn code_of_failure(&self, result: Result<&Response, &E>) -> Option<u64> {
         match result {
             Ok(response) => {
                 let is_failure = self.failed.as_ref().map_or(false, |failed| failed(response));
@@ -312,10 +338,10 @@ where
 }
 
 /// A clone is for a request that begins with it.
-impl<Request, Response, E, B: Noted> Clone for RetryPolicy<Request, Response, E, B> {
+impl<Request, Response, E, B: Noted, L> Clone for RetryPolicy<Request, Response, E, B, L> {
     #[inline]
     fn clone(&self) -> Self {
-        Self { settings: self.settings.clone(), progress: ToTake::none(), began: B::begins() }
+        Self::of(self.settings.clone(), B::begins())
     }
 }
 
@@ -336,7 +362,7 @@ impl<Request, Response, E> Clone for Settings<Request, Response, E> {
     }
 }
 
-impl<Request, Response, E, B> fmt::Debug for RetryPolicy<Request, Response, E, B> {
+impl<Request, Response, E, B, L> fmt::Debug for RetryPolicy<Request, Response, E, B, L> {
     fn fmt(&self, f: &mut fmt::Formatter<'_>) -> fmt::Result {
         f.debug_struct("RetryPolicy")
             .field("policy", &self.settings.policy)

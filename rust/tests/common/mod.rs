@@ -56,7 +56,7 @@ pub fn keeper_of(path: &Path) -> Child {
 }
 
 /// What a retry of this call gives that fails once and then succeeds: the number of its runs.
-pub fn retried_once(policy: &Policy, budget: &impl Grants) -> Result<u32, RetryError<&'static str>> {
+pub fn retried_once<B: Grants>(policy: &Policy, budget: &B) -> Result<u32, RetryError<&'static str, B::Refusal>> {
     let mut runs = 0;
     retry(policy, budget, || {
         runs += 1;
