@@ -1,19 +1,15 @@
 -- Keys: what one stands for, and what a heap of them holds where one is put in or taken out.
 use Rattle.std.proofs.Common.{◌≡◌, ℕ, zero, suc, ◌+◌, ◌-◌, ◌*◌, ◌/◌, ◌%◌, ◌<◌, ◌≤◌, Bool, true, false, cond, eqb}
-use Rattle.std.proofs.Common.{eqb-true, eq-eqb, List, [], ◌∷◌, Option, Some, None, refl, sym, ◌∙◌, ap, subst, arith}
-use Rattle.std.proofs.Common.{add-zero, zero-add, length, get_or}
+use Rattle.std.proofs.Common.{eqb-true, eq-eqb, Result, Ok, Err, OnOk, Option, Some, None, refl, sym, ◌∙◌, ap, subst, arith}
+use Rattle.std.proofs.Common.{add-zero, zero-add}
 use Rattle.std.proofs.lemmas.Bool.{false≢true}
-use Rattle.std.proofs.lemmas.List.Sums.{sum_by-cons}
-use Rattle.std.proofs.lemmas.List.Sorted.{sum_by-IsPermutation}
-use Rattle.std.proofs.lemmas.Map.Keys.{ge_from_not_lt}
-use Rattle.std.specs.List.Sorted.{IsPermutation}
-use Rattle.std.specs.Ordering.{nat_cmp, is_lt}
-use Rattle.std.specs.BinaryHeap.{IsUpperBound}
-use Rattle.std.specs.declared.cmp.Reverse.{Reverse}
+use Rattle.sched_calendar.specs.Keys.{one_if}
+use Rattle.sched_calendar.specs.Calendar.{times, ComesFirst as NoneBefore}
+use Rattle.sched_calendar.specs.declared.calendar.Calendar.{Calendar}
 use Rattle.sched_storm_report.specs.declared.moments.Failure.TheVariants.{Refused, Shed, Late}
 use Rattle.sched_storm_trace.specs.Trace.{updated}
-use Rattle.sched_storm.specs.Keys.{code_of, kind_from, key_of, request_in, turn_of, is_this, is_due, is_at, times_in}
-use Rattle.sched_storm.specs.Keys.{AreHeld, IsAfter, ComesFirst}
+use Rattle.sched_storm.specs.Keys.{code_of, kind_from, key_of, request_in, turn_of, is_this, is_due}
+use Rattle.sched_storm.specs.Keys.{AreHeld, ComesFirst, bound_of}
 use Rattle.sched_storm.specs.declared.turns.Kind.{Kind}
 use Rattle.sched_storm.specs.declared.turns.Kind.TheVariants.{Begins, Retries, Succeeds, Fails}
 use Rattle.sched_storm.specs.declared.turns.Turn.{Turn}
@@ -104,24 +100,19 @@ times_with keys new k times was h false s =
     (λ same. false≢true (sym s ∙ eq-eqb (request_in new) (request_in k) (ap request_in same))) in
     rw other (zero-add times ∙ h)
 
-pub put_in : (old new : List (Reverse ℕ)) (keys : ℕ → Option ℕ) (key : ℕ) → AreHeld old keys →
-    keys (request_in key) ≡ None →
-    IsPermutation (record { 0 = key } ∷ old) new → AreHeld new (updated keys (request_in key) (Some key))
-put_in old new keys key h was moved = record {
-  each = λ k.
-      let all = sum_by-IsPermutation (is_at k) (record { 0 = key } ∷ old) new moved in
-      let one = sum_by-cons (is_at k) (record { 0 = key }) old in
-      (all ∙ one) ∙ times_with keys key k (times_in k old) was (h.each k) (eqb (request_in key) (request_in k)) refl;
+pub put_in : (old new : ℕ → ℕ) (keys : ℕ → Option ℕ) (key : ℕ) → AreHeld old keys → keys (request_in key) ≡ None →
+    ((k : ℕ) → new k ≡ one_if key k + old k) → AreHeld new (updated keys (request_in key) (Some key))
+put_in old new keys key h was put = record {
+  each = λ k. put k ∙ times_with keys key k (old k) was (h.each k) (eqb (request_in key) (request_in k)) refl;
 }
 
-pub put_turn : (old new : List (Reverse ℕ)) (keys : ℕ → Option ℕ) (turn : Turn) → turn.request < 1048576 →
-    AreHeld old keys →
-    keys turn.request ≡ None → IsPermutation (record { 0 = key_of turn } ∷ old) new →
+pub put_turn : (old new : ℕ → ℕ) (keys : ℕ → Option ℕ) (turn : Turn) → turn.request < 1048576 → AreHeld old keys →
+    keys turn.request ≡ None → ((k : ℕ) → new k ≡ one_if (key_of turn) k + old k) →
     AreHeld new (updated keys turn.request (Some (key_of turn)))
-put_turn old new keys turn few h was moved =
+put_turn old new keys turn few h was put =
     let back = request_back turn few in
     subst (λ r. AreHeld new (updated keys r (Some (key_of turn)))) back
-    (put_in old new keys (key_of turn) h (subst (λ r. keys r ≡ None) (sym back) was) moved)
+    (put_in old new keys (key_of turn) h (subst (λ r. keys r ≡ None) (sym back) was) put)
 
 -- one key less
 times_without : (keys : ℕ → Option ℕ) (gone k times : ℕ) → keys (request_in gone) ≡ Some gone →
@@ -139,78 +130,54 @@ times_without keys gone k times was h false s =
     sym (zero-add times) ∙ (ap {B = ℕ} (λ b. cond b 1 0 + times) (sym other) ∙ h)
 
 -- a key that is taken out was that of what was due of its request
-pub was_due : (old new : List (Reverse ℕ)) (keys : ℕ → Option ℕ) (x : Reverse ℕ) → AreHeld old keys →
-    IsPermutation old (x ∷ new) →
-    keys (request_in x.0) ≡ Some x.0
-was_due old new keys x h moved =
-    let all = sum_by-IsPermutation (is_at x.0) old (x ∷ new) moved in
-    let one = sum_by-cons (is_at x.0) x new in
-    let here : is_at x.0 x ≡ 1 = ap {B = ℕ} (λ b. cond b 1 0) (eq-eqb x.0 x.0 refl) in
-    let each = h.each x.0 in
-    let count : suc (times_in x.0 new) ≡ cond (is_due keys x.0) 1 0 = omega arith in
-    is_this_one x.0 (keys (request_in x.0)) (one_at_most (is_due keys x.0) (times_in x.0 new) count).0
+pub was_due : (old new : ℕ → ℕ) (keys : ℕ → Option ℕ) (x : ℕ) → AreHeld old keys →
+    ((k : ℕ) → old k ≡ one_if x k + new k) → keys (request_in x) ≡ Some x
+was_due old new keys x h taken =
+    let here : one_if x x ≡ 1 = ap {B = ℕ} (λ b. cond b 1 0) (eq-eqb x x refl) in
+    let all = taken x in
+    let each = h.each x in
+    let count : suc (new x) ≡ cond (is_due keys x) 1 0 = omega arith in
+    is_this_one x (keys (request_in x)) (one_at_most (is_due keys x) (new x) count).0
 
-pub taken_out : (old new : List (Reverse ℕ)) (keys : ℕ → Option ℕ) (x : Reverse ℕ) → AreHeld old keys →
-    IsPermutation old (x ∷ new) →
-    AreHeld new (updated keys (request_in x.0) None)
-taken_out old new keys x h moved = record {
-  each = λ k.
-      let all = sum_by-IsPermutation (is_at k) old (x ∷ new) moved in
-      let one = sum_by-cons (is_at k) x new in
-      times_without keys x.0 k (times_in k new) (was_due old new keys x h moved) (sym one ∙ (all ∙ h.each k))
-      (eqb (request_in x.0) (request_in k)) refl;
+pub taken_out : (old new : ℕ → ℕ) (keys : ℕ → Option ℕ) (x : ℕ) → AreHeld old keys →
+    ((k : ℕ) → old k ≡ one_if x k + new k) → AreHeld new (updated keys (request_in x) None)
+taken_out old new keys x h taken = record {
+  each = λ k. times_without keys x k (new k) (was_due old new keys x h taken) (sym (taken k) ∙ h.each k)
+      (eqb (request_in x) (request_in k)) refl;
 }
 
 -- ---- what is least
 
-least_here : (x y : Reverse ℕ) (k : ℕ) (ys : List (Reverse ℕ)) → is_lt (nat_cmp y.0 x.0) ≡ false →
-    0 < times_in k (y ∷ ys) →
-    (0 < times_in k ys → x.0 ≤ k) → (b : Bool) → eqb y.0 k ≡ b → x.0 ≤ k
-least_here x y k ys up some later true s =
-    let same = eqb-true y.0 k s in
-    let below = ge_from_not_lt y.0 x.0 up in
-    omega arith
-least_here x y k ys up some later false s =
-    let one = sum_by-cons (is_at k) y ys in
-    let none : is_at k y ≡ 0 = ap {B = ℕ} (λ b. cond b 1 0) s in
-    later (omega arith)
-
-least_of : (x : Reverse ℕ) (k : ℕ) (held : List (Reverse ℕ)) →
-    IsUpperBound (λ (a b : Reverse ℕ). nat_cmp b.0 a.0) x held → 0 < times_in k held → x.0 ≤ k
-least_of x k [] up some = absurd (omega arith)
-least_of x k (y ∷ ys) up some = least_here x y k ys up.0 some (λ more. least_of x k ys up.1 more) (eqb y.0 k) refl
-
-due_is_there : (held : List (Reverse ℕ)) (keys : ℕ → Option ℕ) (r k : ℕ) → AreHeld held keys → keys r ≡ Some k →
-    request_in k ≡ r → times_in k held ≡ 1
-due_is_there held keys r k h due of =
+pub due_is_there : (times : ℕ → ℕ) (keys : ℕ → Option ℕ) (r k : ℕ) → AreHeld times keys → keys r ≡ Some k →
+    request_in k ≡ r → times k ≡ 1
+due_is_there times keys r k h due of =
     let at : keys (request_in k) ≡ Some k = subst (λ q. keys q ≡ Some k) (sym of) due in
     h.each k ∙ (ap {B = ℕ} (λ o. cond (is_this k o) 1 0) at ∙ ap {B = ℕ} (λ b. cond b 1 0) (eq-eqb k k refl))
 
-pub least_due : (held : List (Reverse ℕ)) (keys : ℕ → Option ℕ) (x : Reverse ℕ) (r k : ℕ) → AreHeld held keys →
-    IsUpperBound (λ (a b : Reverse ℕ). nat_cmp b.0 a.0) x held → keys r ≡ Some k → request_in k ≡ r → x.0 ≤ k
-least_due held keys x r k h up due of =
-    let there = due_is_there held keys r k h due of in
-    least_of x k held up (omega arith)
+pub least_due : (times : ℕ → ℕ) (keys : ℕ → Option ℕ) (x r k : ℕ) → AreHeld times keys →
+    ((q : ℕ) → 0 < times q → x ≤ q) → keys r ≡ Some k → request_in k ≡ r → x ≤ k
+least_due times keys x r k h least due of = least k (let there = due_is_there times keys r k h due of in omega arith)
 
-pub nothing_due : (held : List (Reverse ℕ)) (keys : ℕ → Option ℕ) (r k : ℕ) → AreHeld held keys → held ≡ [] →
-    keys r ≡ Some k → request_in k ≡ r → ⊥
-nothing_due held keys r k h none due of =
-    let there = due_is_there held keys r k h due of in
-    let gone : times_in k held ≡ 0 = ap (times_in k) none in
-    absurd (omega arith)
+pub none_held : (times : ℕ → ℕ) → ((k : ℕ) → times k ≡ 0) → AreHeld times (λ _. None)
+none_held times none = record { each = none }
 
-pub none_held : AreHeld [] (λ _. None)
-none_held = record { each = λ k. refl }
+pub same_held : (old new : ℕ → ℕ) (keys : ℕ → Option ℕ) → ((k : ℕ) → new k ≡ old k) → AreHeld old keys →
+    AreHeld new keys
+same_held old new keys same h = record { each = λ k. same k ∙ h.each k }
 
--- the first of a list is one thing
-pub first_is_one : {X : Type 0} (xs : List X) (a b : X) → 0 < length xs → a ≡ get_or xs 0 a → b ≡ get_or xs 0 b → a ≡ b
-first_is_one [] a b h f g = absurd (omega arith)
-first_is_one (x ∷ xs) a b h f g = f ∙ sym g
+-- what is next comes before all that is due, where no key comes before it
+pub first_of : (c : Calendar) (keys : ℕ → Option ℕ) (o : Option Turn) → AreHeld (times c) keys →
+    NoneBefore c (bound_of o) → ComesFirst keys o
+first_of c keys None h none = λ r k due of.
+    (let there = due_is_there (times c) keys r k h due of in let gone = none k in absurd (omega arith))
+first_of c keys (Some t) h least = λ r k due of. least_due (times c) keys (key_of t) r k h least due of
 
--- what is next comes before all that is due, where it comes before the least
-pub first_after : (held : List (Reverse ℕ)) (keys : ℕ → Option ℕ) (x : Reverse ℕ) (o : Option Turn) →
-    AreHeld held keys →
-    IsUpperBound (λ (a b : Reverse ℕ). nat_cmp b.0 a.0) x held → IsAfter o x.0 → ComesFirst keys o
-first_after held keys x None h up after = absurd after
-first_after held keys x (Some t) h up after = λ r k due of. (let least = least_due held keys x r k h up due of in
-    omega arith)
+-- what is put in, where there was memory for it
+pub put_by : {E : Type 0} (old new : Calendar) (keys : ℕ → Option ℕ) (turn : Turn) (key : ℕ)
+    (r : Result (Unit {0}) E) → turn.request < 1048576 → AreHeld (times old) keys → keys turn.request ≡ None →
+    key ≡ key_of turn → OnOk r ((k : ℕ) → times new k ≡ one_if key k + times old k) →
+    OnOk r (AreHeld (times new) (updated keys turn.request (Some (key_of turn))))
+put_by old new keys turn key (Err e) few h none is put = tt
+put_by old new keys turn key (Ok u) few h none is put =
+    put_turn (times old) (times new) keys turn few h none
+    (subst (λ x. (k : ℕ) → times new k ≡ one_if x k + times old k) is put)

@@ -6,8 +6,7 @@ use Rattle.std.proofs.lemmas.Bool.{false≢true, cases_lt, leb-true, le-leb}
 use Rattle.std.proofs.lemmas.Nat.{mul-le, le-div}
 use native.Mathlib.Nat.{div-mul-le_self}
 use Rattle.std.specs.Prelude.{nat_le, nat_lt}
-use Rattle.std.specs.BinaryHeap.{heap_items}
-use Rattle.std.specs.declared.cmp.Reverse.{Reverse}
+use Rattle.sched_calendar.specs.Calendar.{times}
 use Rattle.sched_storm_trace.specs.Trace.{Due, updated, NotAfter}
 use Rattle.sched_storm.specs.Parameters.{RequestsAreInRange, all_requests, comes_at}
 use Rattle.sched_storm.specs.Plays.{Stage, begins, if_by, first}
@@ -122,7 +121,7 @@ key_due : (r key : ℕ) (o : Option (Due Stage)) → key_if r o ≡ Some key →
 key_due r key None h = absurd (not_none key h)
 key_due r key (Some d) h = (d, refl, some_same (key_of (turn_for r d)) key h)
 
-held_by : (held : List (Reverse ℕ)) (keys others : ℕ → Option ℕ) → ((r : ℕ) → keys r ≡ others r) → AreHeld held keys →
+held_by : (held : ℕ → ℕ) (keys others : ℕ → Option ℕ) → ((r : ℕ) → keys r ≡ others r) → AreHeld held keys →
     AreHeld held others
 held_by held keys others same h = record {
   each = λ key. h.each key ∙ ap {B = ℕ} (λ o. cond (is_this key o) 1 0) (same (request_in key));
@@ -232,7 +231,7 @@ module _ (old : Course) (a : Agenda) (was : Stands old None) where
       held = updated was.held r None;
       begun = was.begun;
       told = was.told;
-      holds = held_by (heap_items a.keys) (updated (keys_of was.held) r None) (keys_of (updated was.held r None))
+      holds = held_by (times a.keys) (updated (keys_of was.held) r None) (keys_of (updated was.held r None))
           (λ q. none_in q (was.held q) (eqb r q)) h.left;
       out = record {
         call = d;
@@ -284,7 +283,7 @@ module _ (old : Course) (a : Agenda) (was : Stands old None) where
       taken_first next h held.0 held.1 held.2
 
   -- the next request comes before what is due of those that came, or nothing is due
-  module _ (same : a ≡ old.agenda) where
+  module _ (same : Holds a (keys_of was.held)) where
     stands_so : Stands (record old { agenda = a }) None
     stands_so = record {
       events = was.events;
@@ -292,7 +291,7 @@ module _ (old : Course) (a : Agenda) (was : Stands old None) where
       held = was.held;
       begun = was.begun;
       told = was.told;
-      holds = subst (λ x. Holds x (keys_of was.held)) (sym same) was.holds;
+      holds = same;
       out = tt;
       others = was.others;
       unheld = was.unheld;
@@ -345,7 +344,7 @@ module _ (old : Course) (a : Agenda) (was : Stands old None) where
             held = was.held;
             begun = was.begun;
             told = was.told;
-            holds = subst (λ x. Holds x (keys_of was.held)) (sym same) was.holds;
+            holds = same;
             out = record {
               call = n;
               is_due = due_is;
@@ -443,7 +442,7 @@ module _ (old : Course) (a : Agenda) (t q : ℕ) (next : Turn) (h : StandsAfter 
     held = updated was.held next.request (Some was.out.call);
     begun = was.begun;
     told = was.told;
-    holds = held_by (heap_items a.keys) (updated (keys_of was.held) next.request (Some (key_of next)))
+    holds = held_by (times a.keys) (updated (keys_of was.held) next.request (Some (key_of next)))
         (keys_of (updated was.held next.request (Some was.out.call)))
         (λ s. some_in next.request s was.out.call next (was.held s) was.out.turn_is (eqb next.request s) refl) put;
     out = tt;

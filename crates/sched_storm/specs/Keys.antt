@@ -1,8 +1,7 @@
 -- The keys of what is due of requests: they ascend by moment, and at one moment by the number of the request.
 use Rattle.std.specs.Prelude.{◌≡◌, ℕ, suc, zero, ◌+◌, ◌*◌, ◌/◌, ◌%◌, ◌<◌, ◌≤◌, Bool, true, false, nat_eq, if◌then◌else◌}
 use Rattle.std.specs.Prelude.{List, sum_by, Option, Some, None}
-use Rattle.std.specs.BinaryHeap.{heap_items}
-use Rattle.std.specs.declared.cmp.Reverse.{Reverse}
+use Rattle.sched_calendar.specs.Calendar.{times}
 use Rattle.sched_storm_report.specs.declared.moments.Failure.TheVariants.{Refused, Shed, Late}
 use Rattle.sched_storm_trace.specs.Trace.{updated}
 use Rattle.sched_storm.specs.declared.turns.Kind.{Kind}
@@ -44,29 +43,22 @@ is_this key (Some k) = nat_eq k key
 abbrev pub is_due : (ℕ → Option ℕ) → ℕ → Bool
 is_due keys key = is_this key (keys (request_in key))
 
--- how often a key stands in a list
-abbrev pub is_at : ℕ → Reverse ℕ → ℕ
-is_at key x = if nat_eq x.0 key then 1 else 0
-
-abbrev pub times_in : ℕ → List (Reverse ℕ) → ℕ
-times_in key xs = sum_by (is_at key) xs
-
 -- Of each request the key of what is due of it is there, once, and no other.
-pub record AreHeld (held : List (Reverse ℕ)) (keys : ℕ → Option ℕ) : Type 0 where
-  pub each : (key : ℕ) → times_in key held ≡ (if is_due keys key then 1 else 0)
+pub record AreHeld (times : ℕ → ℕ) (keys : ℕ → Option ℕ) : Type 0 where
+  pub each : (key : ℕ) → times key ≡ (if is_due keys key then 1 else 0)
 
 abbrev pub Holds : Agenda → (ℕ → Option ℕ) → Type 0
-Holds a keys = AreHeld (heap_items a.keys) keys
+Holds a keys = AreHeld (times a.keys) keys
 
 -- a key comes before what else is next
 abbrev pub IsBeforeAny : Option Turn → ℕ → Type 0
 IsBeforeAny None key = Unit {0}
 IsBeforeAny (Some turn) key = key < key_of turn
 
--- or it does not, and there is what is next
-abbrev pub IsAfter : Option Turn → ℕ → Type 0
-IsAfter None key = ⊥
-IsAfter (Some turn) key = key_of turn ≤ key
+-- the key of what else is next
+abbrev pub bound_of : Option Turn → Option ℕ
+bound_of None = None
+bound_of (Some turn) = Some (key_of turn)
 
 -- What is least due is taken out. It comes before what else is next.
 pub record Pops (keys : ℕ → Option ℕ) (other : Option Turn) (next : Turn) (new : Agenda) : Type 0 where

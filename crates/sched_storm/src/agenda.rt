@@ -1,20 +1,15 @@
 //! What is due of the requests that came, by moment, and at one moment by the number of the request.
-ghost use Rattle.std.specs.Prelude.{◌≡◌, ℕ, ◌+◌, ◌*◌, ◌/◌, ◌%◌, ◌<◌, ◌≤◌, Option, Some, None, IfSome, IfNone, OnOk};
-ghost use Rattle.std.specs.BinaryHeap.{IsHeap, heap_items};
-ghost use Rattle.std.specs.Ordering.{nat_cmp};
-ghost use Rattle.std.proofs.Props.{props};
+ghost use Rattle.std.specs.Prelude.{◌≡◌, ℕ, ◌+◌, ◌*◌, ◌/◌, ◌%◌, ◌<◌, ◌≤◌, Option, Some, None, IfOk, IfSome, IfNone, OnOk};
 
-use crate::turns::{Turn, comes_before};
+use crate::turns::{Turn, bound_of};
+use sched_calendar::Calendar;
 use sched_time::NoMemory;
 use std::alloc::Global;
-use std::cmp::Reverse;
-use std::collections::BinaryHeap;
 
 /// What is due of requests, as keys in the order in which they come.
 #[derive(Drop)]
 pub(crate) struct Agenda {
-    keys: BinaryHeap<Reverse<u64>>,
-    ghost in_order: { IsHeap (λ x y. nat_cmp y.0 x.0) (heap_items keys) } by { Prim.hlevel props },
+    keys: Calendar,
 }
 
 impl Agenda {
@@ -22,12 +17,12 @@ impl Agenda {
     ghost use Rattle.sched_storm.specs.Keys.{key_of, Holds, Pops, ComesFirst};
 
     /// Nothing.
-    pub(crate) fn new(alloc: Global) -> Agenda
-        ensures { Holds result (λ _. None) }
+    pub(crate) fn new(alloc: Global) -> Result<Agenda, NoMemory>
+        ensures { IfOk result (λ a. Holds a (λ _. None)) }
     {
-        Agenda {
-            keys: BinaryHeap::new(alloc),
-        }
+        Ok(Agenda {
+            keys: Calendar::new(alloc)?,
+        })
     }
 
     /// This is due of a request of which nothing was.
@@ -37,8 +32,7 @@ impl Agenda {
         ensures { (keys : ℕ → Option ℕ) → Holds self.old keys → keys turn.request ≡ None →
             OnOk result (Holds self.new (updated keys turn.request (Some (key_of turn)))) }
     {
-        self.keys.push(Reverse(turn.key()))?;
-        Ok(())
+        self.keys.add(turn.key())
     }
 
     /// What is least due, where it comes before this, and is then due no more.
@@ -46,14 +40,10 @@ impl Agenda {
         requires { IfSome turn (λ turn. (turn.at ≤ 7200000) × (turn.request < 1048576)) }
         ensures some { (keys : ℕ → Option ℕ) → Holds self.old keys →
             IfSome result (λ next. Pops keys turn next self.new) }
-        ensures none { IfNone result (self.new ≡ self.old) }
+        ensures none { (keys : ℕ → Option ℕ) → Holds self.old keys → IfNone result (Holds self.new keys) }
         ensures first { (keys : ℕ → Option ℕ) → Holds self.old keys → IfNone result (ComesFirst keys turn) }
     {
-        let Reverse(first) = *self.keys.peek()?;
-        if comes_before(first, turn) {
-            let Reverse(first) = self.keys.pop()?;
-            return Some(Turn::of(first));
-        }
-        None
+        let key = self.keys.pop_before(bound_of(turn))?;
+        Some(Turn::of(key))
     }
 }

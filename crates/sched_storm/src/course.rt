@@ -5,6 +5,7 @@ ghost use Rattle.sched_plan.specs.declared.history.Event.{Event};
 ghost use Rattle.sched_storm.specs.Drivers.{MayFail};
 ghost use Rattle.sched_storm.specs.Plays.{Stage, begins, retries, succeeds, fails, playing};
 ghost use Rattle.sched_storm.specs.Turns.{kind_of, begins_call};
+ghost use Rattle.sched_storm.specs.Keys.{Holds};
 ghost use Rattle.sched_storm.specs.Parameters.{comes_at};
 ghost use Rattle.sched_storm.specs.Plays.{first};
 ghost use Rattle.sched_storm.specs.Turns.{turn_if};
@@ -50,8 +51,9 @@ pub(crate) struct Course {
 }
 
 impl Course {
-    /// Before the first event.
-    pub(crate) fn new(alloc: Global, storm: Storm, plan: SharedPlan) -> Course
+    /// Before the first event, of which nothing is due yet.
+    pub(crate) fn new(alloc: Global, storm: Storm, plan: SharedPlan, agenda: Agenda) -> Course
+        requires { Holds agenda (λ _. None) }
         ensures stands { Stands result None }
         ensures storm { result.storm ≡ storm }
         ensures plan { result.plan ≡ plan }
@@ -68,7 +70,7 @@ impl Course {
             drawn: Drawn::NONE,
             limit: Stand::new(alloc, storm.draws(), parameters.words),
             drivers: Drivers::new(alloc),
-            agenda: Agenda::new(alloc),
+            agenda,
             tally: Tally::new(alloc, parameters.window),
         }
     }

@@ -3,6 +3,7 @@ ghost use Rattle.std.specs.Prelude.{IfOk};
 ghost use Rattle.sched_storm.specs.Storms.{Reports};
 ghost use Rattle.sched_storm.specs.Report.{AddsUp};
 
+use crate::agenda::Agenda;
 use crate::course::Course;
 use crate::storm::Storm;
 use sched_plan::SharedPlan;
@@ -16,7 +17,8 @@ impl Storm {
         ensures reports { IfOk result (Reports self.now plan) }
         ensures adds_up { IfOk result (AddsUp self.now) }
     {
-        let mut course = Course::new(alloc, *self, plan);
+        let agenda = Agenda::new(alloc)?;
+        let mut course = Course::new(alloc, *self, plan, agenda);
         let is_cut = course.run(alloc)?;
         course.into_report(is_cut)
     }

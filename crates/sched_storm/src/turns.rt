@@ -1,6 +1,6 @@
 //! What is due of a request, and when.
 ghost use Rattle.std.specs.Prelude.{◌≡◌, true, false, IfSome, ◌+◌, ◌*◌, ◌/◌, ◌%◌, ◌<◌, ◌≤◌, ◌^◌};
-ghost use Rattle.sched_storm.specs.Keys.{code_of, kind_from, key_of, turn_of, IsBeforeAny, IsAfter};
+ghost use Rattle.sched_storm.specs.Keys.{code_of, kind_from, key_of, turn_of, bound_of};
 ghost use Rattle.sched_storm.specs.Turns.{kind_after, turn_by, next_at, is_over};
 ghost use Rattle.sched_storm.specs.Plays.{is_late};
 ghost use Rattle.sched_storm.specs.Tickets.{asked_of, given_of};
@@ -173,14 +173,13 @@ impl Storm {
     }
 }
 
-/// Whether a key comes before that of this turn, where there is one.
-pub(crate) fn comes_before(key: u64, turn: Option<Turn>) -> bool
+/// The key of this turn, where there is one.
+pub(crate) fn bound_of(turn: Option<Turn>) -> Option<u64>
     requires { IfSome turn (λ turn. (turn.at ≤ 7200000) × (turn.request < 1048576)) }
-    ensures before { result ≡ true → IsBeforeAny turn key }
-    ensures after { result ≡ false → IsAfter turn key }
+    ensures { result ≡ bound_of turn }
 {
     match turn {
-        Some(turn) => key < turn.key(),
-        None => true,
+        Some(turn) => Some(turn.key()),
+        None => None,
     }
 }

@@ -14,6 +14,7 @@ returns-in-Some-clause-first c =
 
 pub returns-in-None-clause-first : goal.returns-in-None-clause-first
 returns-in-None-clause-first c =
-    take_none c.args.self.now c.pop_before.new.self c.requires c.in-None.ensures.none c.next_request-first.result
+    take_none c.args.self.now c.pop_before.new.self c.requires
+    (c.in-None.ensures.none (keys_of c.requires.held) c.requires.holds) c.next_request-first.result
     c.next_request-first.ensures
     (c.in-None.ensures.first (keys_of c.requires.held) c.requires.holds)

@@ -1,0 +1,3 @@
+-- The proofs of `sched_calendar`.
+pub mod Rows
+pub mod Least
