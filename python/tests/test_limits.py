@@ -27,6 +27,7 @@ from hikebox import (
     both,
     exponential,
     recurs,
+    repeat,
     retry,
     spaced,
     state_of,
@@ -282,6 +283,34 @@ def test_a_retried_function() -> None:
         return answer
 
     assert fetch() == 5
+
+
+def test_each_run_of_a_repeat_is_a_call() -> None:
+    # Two runs succeed. The third fails, and so does its retry, which opens the breaker.
+    breaker, calls = Breaker(2, spaced(30)), []
+
+    @repeat(recurs(9))
+    @retry(recurs(2), budget=breaker)
+    def look() -> int:
+        calls.append(len(calls))
+        if len(calls) > 2:
+            raise KeyError(len(calls))
+        return len(calls)
+
+    with no_waits(), pytest.raises(KeyError, match="4"):
+        look()
+    with pytest.raises(NotAdmitted):
+        look()
+    assert len(calls) == 4
+
+
+def test_a_repeat_is_a_request_that_draws_for_each_further_run() -> None:
+    # Of 10 tokens: 10 after the first success, 8 and 9 after the next run, 7 and 8 after the last.
+    bucket = Bucket(capacity=10, cost=2, credit=1)
+    with no_waits():
+        assert repeat(recurs(2), budget=bucket)(lambda: 5)() == 5
+    request = admitted(bucket)
+    assert [reason(request.draw()) for _ in range(5)] == [None] * 4 + [RefusalReason.LEVEL_LOW]
 
 
 # Threads

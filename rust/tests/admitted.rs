@@ -349,10 +349,17 @@ mod layers {
         }
     }
 
-    /// A service that is to be asked whether it is ready before each call, and says that it is not at first.
-    #[derive(Clone, Default)]
+    /// A service that is to be asked whether it is ready before each call, and says at first that it is not. A clone of
+    /// it is not ready either.
+    #[derive(Default)]
     struct GetsReady {
         asked: u32,
+    }
+
+    impl Clone for GetsReady {
+        fn clone(&self) -> Self {
+            Self::default()
+        }
     }
 
     impl Service<u8> for GetsReady {
@@ -373,7 +380,6 @@ mod layers {
         fn call(&mut self, _: u8) -> Self::Future {
             assert!(self.asked > 0 && self.asked % 2 == 0, "it is ready");
             let calls = self.asked / 2;
-            self.asked = if calls < 3 { self.asked } else { 0 };
             ready(if calls < 3 { Err("busy") } else { Ok(calls) })
         }
     }

@@ -8,7 +8,7 @@ use crate::limits::grants::Tickets;
 use crate::limits::ticket::{NoTicket, Ticket};
 use crate::policy::Policy;
 use crate::random;
-use crate::system::{generation, PerProcess};
+use crate::system::{generation, is_generation, PerProcess};
 use std::error::Error;
 use std::fmt;
 use std::mem;
@@ -35,9 +35,9 @@ use std::time::Duration;
 /// # Ok::<(), Box<dyn std::error::Error>>(())
 /// ```
 ///
-/// It goes wherever a [`Quota`](crate::Quota) goes ([`Grants`](crate::Grants)). What a call holds is given back once: when
-/// it ends, or when its future or its [`Request`] is dropped. A limit belongs to its process: a forked child has its own,
-/// with nothing counted.
+/// It goes wherever a [`Quota`](crate::Quota) goes ([`Grants`](crate::Grants)). What a call holds is given back once:
+/// when it ends, or when its future or its [`Request`] is dropped. A limit belongs to its process: a forked child has
+/// its own, with nothing counted.
 #[derive(Clone)]
 pub struct CallLimit {
     shared: Arc<Shared>,
@@ -47,7 +47,15 @@ struct Shared {
     made: Made,
     /// Moment 0.
     began: Moment,
+    reads: Reads,
     handles: PerProcess<Handles>,
+}
+
+/// What a limit reads of a call: one that does not read the clock, or a random word, is asked with 0 in its place.
+#[derive(Clone, Copy, Debug, Default)]
+struct Reads {
+    clock: bool,
+    words: bool,
 }
 
 /// What a limit is made with, and so is another one in each forked child.
@@ -279,11 +287,12 @@ impl CallLimit {
     fn of(made: Made) -> Result<Self, BudgetError> {
         let began = *lock(&BEGAN).get_or_insert_with(Moment::now);
         let handles = PerProcess::new(Handles::of(made.handle(moment_of(began))?));
-        Ok(Self { shared: Arc::new(Shared { made, began, handles }) })
+        Ok(Self { shared: Arc::new(Shared { reads: made.reads(), made, began, handles }) })
     }
 
+    #[inline]
     fn handles(&self) -> &Handles {
-        let make = || self.shared.made.handle(self.moment()).expect("memory for a limit");
+        let make = || self.shared.made.handle(moment_of(self.shared.began)).expect("memory for a limit");
         self.shared.handles.get(|| Handles::of(make()))
     }
 
@@ -302,10 +311,10 @@ impl CallLimit {
     }
 
     /// A request that is admitted.
-    pub(crate) fn admitted(&self) -> Result<Arc<Asked>, Refused> {
+    pub(crate) fn admitted(&self) -> Result<Request, Refused> {
         let mut request = self.request().map_err(|_| Refused::of_memory())?;
         request.admit()?;
-        Ok(Arc::new(Asked(Mutex::new(request))))
+        Ok(request)
     }
 
     fn cost(&self) -> u64 {
@@ -324,8 +333,22 @@ impl CallLimit {
         }
     }
 
+    /// The present moment, where it reads that.
+    #[inline]
     fn moment(&self) -> u64 {
-        moment_of(self.shared.began)
+        match self.shared.reads.clock {
+            true => moment_of(self.shared.began),
+            false => 0,
+        }
+    }
+
+    /// A random word, where it reads one.
+    #[inline]
+    fn word(&self) -> u32 {
+        match self.shared.reads.words {
+            true => random::next()[0],
+            false => 0,
+        }
     }
 }
 
@@ -356,6 +379,18 @@ pub fn both(first: &CallLimit, second: &CallLimit) -> Result<CallLimit, BudgetEr
 }
 
 impl Made {
+    fn reads(&self) -> Reads {
+        match self {
+            Self::Of(Terms::Bucket(_) | Terms::InFlight(_)) => Reads::default(),
+            Self::Of(Terms::Breaker(_)) => Reads { clock: true, words: false },
+            Self::Of(Terms::Throttle(_)) => Reads { clock: true, words: true },
+            Self::All(limits) => limits.iter().fold(Reads::default(), |read, limit| {
+                let reads = limit.shared.reads;
+                Reads { clock: read.clock || reads.clock, words: read.words || reads.words }
+            }),
+        }
+    }
+
     /// The limit in the engine, made at this moment.
     fn handle(&self, now: u64) -> Result<Handle<LimitKind>, BudgetError> {
         match self {
@@ -396,14 +431,20 @@ pub struct Request {
 }
 
 impl Request {
+    #[inline]
     fn handle(&mut self) -> &mut Handle<LimitKind> {
-        if self.generation != generation() {
-            // (in a forked child it is the parent's)
-            mem::forget(self.handle.take());
-            let part = lock(&self.limit.handles().root).split();
-            (self.handle, self.generation) = (Some(part.expect("memory for a request")), generation());
+        if !is_generation(self.generation) {
+            self.begin_anew();
         }
         self.handle.as_mut().expect("a request has its handle until it is dropped")
+    }
+
+    /// In a forked child: its handle there is the parent's.
+    #[cold]
+    fn begin_anew(&mut self) {
+        mem::forget(self.handle.take());
+        let part = lock(&self.limit.handles().root).split();
+        (self.handle, self.generation) = (Some(part.expect("memory for a request")), generation());
     }
 
     /// Asks before the first run.
@@ -412,8 +453,8 @@ impl Request {
     ///
     /// [`Refused`] says why the limit does not admit it.
     pub fn admit(&mut self) -> Result<(), Refused> {
-        let (now, [random, ..]) = (self.limit.moment(), random::next());
-        let answer = self.handle().admit(now, random);
+        let (now, word) = (self.limit.moment(), self.limit.word());
+        let answer = self.handle().admit(now, word);
         answer.map_err(|refusal| Refused::of(refusal, now))
     }
 
@@ -437,8 +478,8 @@ impl Request {
     }
 
     fn draw_of(&mut self, cost: u64) -> Result<(), Refused> {
-        let (now, [random, ..]) = (self.limit.moment(), random::next());
-        let answer = self.handle().draw(now, cost, random);
+        let (now, word) = (self.limit.moment(), self.limit.word());
+        let answer = self.handle().draw(now, cost, word);
         answer.map_err(|refusal| Refused::of(refusal, now))
     }
 
@@ -463,7 +504,7 @@ impl Request {
 impl Drop for Request {
     fn drop(&mut self) {
         match self.handle.take() {
-            Some(mut handle) if self.generation == generation() => {
+            Some(mut handle) if is_generation(self.generation) => {
                 handle.ended();
                 lock(&self.limit.handles().idle).push(handle);
             }
@@ -472,14 +513,15 @@ impl Drop for Request {
     }
 }
 
-/// The request that was admitted, of a limit that is asked before the first run.
-pub type Admitted = Option<Arc<Asked>>;
-
 /// A request that was admitted, as a store of tickets. It is told how each run ended.
 #[derive(Debug)]
 pub struct Asked(Mutex<Request>);
 
 impl Asked {
+    pub(crate) fn of(request: Request) -> Arc<Self> {
+        Arc::new(Self(Mutex::new(request)))
+    }
+
     pub(crate) fn succeeded(&self) {
         lock(&self.0).succeeded();
     }

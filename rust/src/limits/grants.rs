@@ -4,7 +4,7 @@ use crate::clock::Moment;
 #[cfg(feature = "leased")]
 use crate::leased::{Leased, LeasedQuota};
 use crate::limits::budget::Budget;
-use crate::limits::call_limit::{Admitted, CallLimit, Refused};
+use crate::limits::call_limit::{Asked, CallLimit, Refused, Request};
 use crate::limits::quota::Quota;
 use crate::limits::ticket::{NoTicket, Ticket};
 use std::convert::Infallible;
@@ -12,9 +12,9 @@ use std::fmt;
 use std::sync::Arc;
 
 /// What retries can draw their tickets on: a [`Budget`], a [`Quota`], a [`CallLimit`], an `Arc` of your own store of
-/// [`Tickets`], or [`Unlimited`] for no limit; with the feature `leased` also `Leased` and `LeasedQuota`. Everything that
-/// retries takes any of them. A [`Machine`](crate::Machine) and tower's own layer ask nobody before the first run, so they
-/// take those that never refuse it: all but a [`CallLimit`].
+/// [`Tickets`], or [`Unlimited`] for no limit; with the feature `leased` also `Leased` and `LeasedQuota`. Everything
+/// that retries takes any of them. A [`Machine`](crate::Machine) and tower's own layer ask nobody before the first run,
+/// so they take those that never refuse it: all but a [`CallLimit`].
 ///
 /// ```
 /// use hikebox::{retry, Bucket, Budget, CallLimit, Grants, Policy, Quota, Unlimited};
@@ -36,8 +36,8 @@ use std::sync::Arc;
 ///
 /// The trait is sealed. A store of your own implements [`Tickets`].
 pub trait Grants: Limit {
-    /// What tells that the first run was refused: [`Refused`] of a [`CallLimit`], and [`Infallible`] of all others, which
-    /// never refuse it.
+    /// What tells that the first run was refused: [`Refused`] of a [`CallLimit`], and [`Infallible`] of all others,
+    /// which never refuse it.
     type Refusal: MayRefuse;
 }
 
@@ -174,7 +174,7 @@ pub trait Tickets: Send + Sync {
 }
 
 mod sealed {
-    use super::{Admitted, Infallible, Moment, Refused, Source, Ticket};
+    use super::{Arc, Asked, Infallible, Moment, Refused, Request, Source, Ticket};
     use std::error::Error;
 
     /// What a retry draws on, and by which clock.
@@ -183,7 +183,7 @@ mod sealed {
         fn source(&self) -> Source;
 
         /// A request that it admits, of one that is asked before the first run.
-        fn admit(&self) -> Result<Admitted, Refused> {
+        fn admit(&self) -> Result<Option<Request>, Refused> {
             Ok(None)
         }
 
@@ -206,25 +206,68 @@ mod sealed {
 
     /// How a limit is asked before the first run, where it may refuse that.
     pub trait Admission: Error + Sized + Send + Sync + 'static {
-        /// The request that it admits, of one that is asked.
-        fn admitted(limit: &dyn Limit) -> Result<Admitted, Self>;
+        /// What a call that is admitted holds.
+        type Held: Held;
+
+        /// Asks, where the limit is one that is asked.
+        fn admitted(limit: &dyn Limit) -> Result<Self::Held, Self>;
+    }
+
+    /// What a call holds from its first run on.
+    pub trait Held {
+        /// Tells that its first run succeeded, and answers whether there is a limit that hears it.
+        fn succeeded(&mut self) -> bool;
+
+        /// The request, for a retry to draw by.
+        fn asked(self) -> Option<Arc<Asked>>;
     }
 
     impl Admission for Infallible {
+        type Held = ();
+
         #[inline]
-        fn admitted(_: &dyn Limit) -> Result<Admitted, Self> {
-            Ok(None)
+        fn admitted(_: &dyn Limit) -> Result<(), Self> {
+            Ok(())
+        }
+    }
+
+    impl Held for () {
+        #[inline]
+        fn succeeded(&mut self) -> bool {
+            false
+        }
+
+        #[inline]
+        fn asked(self) -> Option<Arc<Asked>> {
+            None
         }
     }
 
     impl Admission for Refused {
-        fn admitted(limit: &dyn Limit) -> Result<Admitted, Self> {
+        type Held = Option<Request>;
+
+        fn admitted(limit: &dyn Limit) -> Result<Option<Request>, Self> {
             limit.admit()
+        }
+    }
+
+    impl Held for Option<Request> {
+        #[inline]
+        fn succeeded(&mut self) -> bool {
+            match self {
+                Some(request) => request.succeeded(),
+                None => return false,
+            }
+            true
+        }
+
+        fn asked(self) -> Option<Arc<Asked>> {
+            self.map(Asked::of)
         }
     }
 }
 
-pub(crate) use sealed::{Admission, Limit};
+pub(crate) use sealed::{Admission, Held, Limit};
 
 /// What a retry that has begun holds of what it draws on.
 #[derive(Clone)]
@@ -259,7 +302,7 @@ impl Limit for Source {
         self.clone()
     }
 
-    fn admit(&self) -> Result<Admitted, Refused> {
+    fn admit(&self) -> Result<Option<Request>, Refused> {
         match self {
             Self::Asked(limit) => limit.admit(),
             Self::Budget(_) | Self::Quota(_) | Self::Store(_) | Self::Unlimited => Ok(None),
@@ -335,7 +378,7 @@ impl Limit for CallLimit {
         Source::Asked(self.clone())
     }
 
-    fn admit(&self) -> Result<Admitted, Refused> {
+    fn admit(&self) -> Result<Option<Request>, Refused> {
         self.admitted().map(Some)
     }
 }

@@ -1,8 +1,7 @@
 //! What the loops of a retry have in common: each attempt, and what follows it.
 
 use crate::clock::{Clock, Moment};
-use crate::limits::call_limit::{Admitted, Asked};
-use crate::limits::grants::MayRefuse;
+use crate::limits::grants::{Held, MayRefuse};
 use crate::retry::error::RetryError;
 use crate::retry::hooks::Hooked;
 use crate::retry::host::{Host, Random};
@@ -36,25 +35,23 @@ impl<E, H: Hooked<E>, K: Clock, S, R: Random, L: MayRefuse> Retrying<'_, E, (), 
     /// A request, and its retry, whose first run begins.
     #[inline]
     pub(crate) fn begin(&self) -> Result<Progress, RetryError<E, L>> {
-        let (now, asked) = self.begins()?;
-        Ok(Progress::new(now, asked))
+        let (now, held) = self.begins()?;
+        Ok(Progress::new(now, held))
     }
 
-    /// The moment at which a request begins, which is counted, and the request of a limit that is asked.
+    /// The moment at which a request begins, which is counted, and what it holds of a limit that is asked.
     #[inline]
-    pub(crate) fn begins(&self) -> Result<(Moment, Admitted), RetryError<E, L>> {
-        let asked = L::admitted(self.budget.get()).map_err(RetryError::NotAdmitted)?;
+    pub(crate) fn begins(&self) -> Result<(Moment, L::Held), RetryError<E, L>> {
+        let held = L::admitted(self.budget.get()).map_err(RetryError::NotAdmitted)?;
         let now = self.host.clock.moment();
         self.budget.get().count_request(now);
-        Ok((now, asked))
+        Ok((now, held))
     }
 
     /// A request whose first run succeeded.
     #[inline]
-    pub(crate) fn succeeds_at_once(&self, asked: Option<&Asked>) {
-        if let Some(asked) = asked {
-            asked.succeeded();
-        } else if self.budget.get().hears_of_successes() {
+    pub(crate) fn succeeds_at_once(&self, held: &mut L::Held) {
+        if !held.succeeded() && self.budget.get().hears_of_successes() {
             self.budget.get().count_success(None, &|| self.host.clock.moment());
         }
     }

@@ -107,13 +107,13 @@ impl<E, H: Hooked<E>, K: Clock, S: Sleep, R: Random, L: MayRefuse> Retrying<'_, 
     /// [`RetryError`] with the last error of the call.
     #[inline]
     pub fn call_with<T>(&self, mut call: impl FnMut(Attempt) -> Result<T, E>) -> Result<T, RetryError<E, L>> {
-        let ((began, asked), first) = (self.begins()?, self.first());
+        let ((began, mut held), first) = (self.begins()?, self.first());
         match call(first) {
             Ok(value) => {
-                self.succeeds_at_once(asked.as_deref());
+                self.succeeds_at_once(&mut held);
                 Ok(value)
             }
-            Err(error) => self.calls_again(Progress::new(began, asked), first, error, call),
+            Err(error) => self.calls_again(Progress::new(began, held), first, error, call),
         }
     }
 

@@ -8,8 +8,8 @@ use std::fmt;
 
 /// Why a retry returned no value, with the last error of the call.
 ///
-/// Under a [`CallLimit`](crate::CallLimit) it is a `RetryError<E, Refused>`: the limit may refuse the first run, and then
-/// there is no error of the call. All others admit each call, so that `RetryError<E>` always has one.
+/// Under a [`CallLimit`](crate::CallLimit) it is a `RetryError<E, Refused>`: the limit may refuse the first run, and
+/// then there is no error of the call. All others admit each call, so that `RetryError<E>` always has one.
 ///
 /// Its text contains that of the last error, so it has no [`source`](Error::source); [`RetryError::last`] returns the
 /// error itself. It is an [`Error`] for every `E` that can be displayed, including `&str`, `Box<dyn Error>` and

@@ -16,8 +16,8 @@ use std::sync::Arc;
 use std::task::{Context, Poll};
 
 /// A layer that retries as a [`RetryPolicy`] says, on any limit. A [`CallLimit`](crate::CallLimit) is asked before the
-/// first call too, and hears how each call ended. What it does not admit is not called: the error is a [`Refused`]. As of
-/// tower's own layers that have an error to add, the error of its service is a [`BoxError`].
+/// first call too, and hears how each call ended. What it does not admit is not called: the error is a [`Refused`]. As
+/// of tower's own layers that have an error to add, the error of its service is a [`BoxError`].
 ///
 /// ```
 /// use hikebox::{Breaker, CallLimit, LimitLayer, Policy, RefusalReason, Refused, RetryPolicy};
@@ -36,8 +36,8 @@ use std::task::{Context, Poll};
 /// # }).unwrap();
 /// ```
 ///
-/// A call whose future is dropped gives back what it holds of the limit. A retry whose timer was late does not begin past
-/// the deadline.
+/// A call whose future is dropped gives back what it holds of the limit. A retry whose timer was late does not begin
+/// past the deadline.
 #[derive(Clone, Debug)]
 #[must_use]
 pub struct LimitLayer<P> {

@@ -2,13 +2,14 @@
 
 use crate::clock::{whole_millis, Moment};
 use crate::engine::{Run, LOST, MAX_NUMBER, NO_DEADLINE};
-use crate::limits::call_limit::Admitted;
-use crate::limits::grants::Limit;
+use crate::limits::call_limit::Asked;
+use crate::limits::grants::{Held, Limit};
 use crate::limits::ticket::Ticket;
 use crate::policy::Policy;
 use crate::retry::error::RetryError;
 use crate::retry::machine::{Ending, Machine, Report};
 use crate::retry::options::Options;
+use std::sync::Arc;
 use std::time::Duration;
 
 /// What a retry goes by.
@@ -37,7 +38,7 @@ pub(crate) struct Progress {
     began: Moment,
     running: Option<Running>,
     /// The request, of a limit that was asked before the first run: the retry draws by it.
-    asked: Admitted,
+    asked: Option<Arc<Asked>>,
 }
 
 /// A retry that the engine has begun. Its moments are whole milliseconds.
@@ -58,10 +59,10 @@ struct Running {
 }
 
 impl Progress {
-    /// One whose first run begins now, as that request of a limit that was asked.
+    /// One whose first run begins now, holding this.
     #[inline]
-    pub(crate) fn new(now: Moment, asked: Admitted) -> Self {
-        Self { began: now, running: None, asked }
+    pub(crate) fn new(now: Moment, held: impl Held) -> Self {
+        Self { began: now, running: None, asked: held.asked() }
     }
 
     /// How long ago the first run began.

@@ -274,7 +274,7 @@ impl<T, C: Fn(&T) -> u64, K: Clock, S: AsyncSleep, R: Random> Repeating<'_, T, C
 
 impl<T, C: Fn(&T) -> u64, K: Clock, S, R: Random> Repeating<'_, T, C, Host<K, S, R>> {
     fn begin(&self) -> Progress {
-        Progress::new(self.host.clock.moment(), None)
+        Progress::new(self.host.clock.moment(), ())
     }
 
     /// How long it is waited after a run that gave this value now. To the engine each run whose value is not wanted is

@@ -224,7 +224,7 @@ impl<Request, Response, E, B: Noted> RetryPolicy<Request, Response, E, B> {
         let now = Moment::now();
         let mut progress = match self.progress.take() {
             Some(progress) => progress,
-            None => Box::new(Progress::new(self.began.began(now), None)),
+            None => Box::new(Progress::new(self.began.began(now), ())),
         };
         let sleep = sleeping(self.settings.wait(&mut progress, now, code, result)?);
         let next = Self { progress: ToTake::new(progress), ..Self::of(self.settings.clone(), self.began) };

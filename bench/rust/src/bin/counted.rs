@@ -1,7 +1,7 @@
 //! `counted CASE FAILURES COUNT` makes so many calls, each of which fails so often and then succeeds, by the crate that the
 //! case names, for bench/crates.sh, which counts the instructions. No run waits.
 
-use hikebox::{Budget, Policy, Quota, RetryPolicy, Retrying, Schedule};
+use hikebox::{Breaker, Bucket, Budget, CallLimit, Policy, Quota, RetryPolicy, Retrying, Schedule, Terms};
 use std::convert::Infallible;
 use std::future::{ready, Future, Ready};
 use std::sync::Arc;
@@ -26,6 +26,8 @@ fn main() {
                 black_box(hikebox::retry(&policy, &quota, &mut call).expect("a success"));
             }
         }
+        "hikebox-bucket" => limited_calls(Bucket::aws(), failures, count),
+        "hikebox-breaker" => limited_calls(Breaker::consecutive(5, policy()), failures, count),
         "backoff" => backoff_calls(failures, count),
         "tower" => {
             let budget = Arc::new(budget::Budget::new(WINDOW, 1_000_000, 1.0));
@@ -78,6 +80,14 @@ fn hikebox_calls(policy: &Policy, failures: u32, count: u32) {
     let retrying = Retrying::new(policy, &budget).sleep(|_: Duration| ());
     for _ in 0..count {
         black_box(retrying.call(&mut call).expect("a success"));
+    }
+}
+
+/// Calls under a limit, which are not waited for.
+fn limited_calls(terms: impl Into<Terms>, failures: u32, count: u32) {
+    let (limit, policy, mut call) = (CallLimit::new(terms).expect("a limit"), policy(), call(failures));
+    for _ in 0..count {
+        black_box(hikebox::retry(&policy, &limit, &mut call).expect("a success"));
     }
 }
 
