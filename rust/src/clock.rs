@@ -105,6 +105,7 @@ mod time {
 #[cfg(feature = "tokio")]
 mod time {
     use super::whole_millis;
+    use crate::instants::nanos_between;
     use std::time::{Duration, Instant};
 
     /// A moment.
@@ -115,7 +116,8 @@ mod time {
 
     /// Later than any program runs.
     const A_CENTURY: Duration = Duration::from_secs(100 * 365 * 86_400);
-    const NEARLY_A_MILLI: Duration = Duration::from_nanos(999_999);
+    const NANOS_A_MILLI: u64 = 1_000_000;
+    const NEARLY_A_MILLI: Duration = Duration::from_nanos(NANOS_A_MILLI - 1);
 
     impl Moment {
         /// The present moment, by [`SystemClock`](super::SystemClock).
@@ -149,13 +151,25 @@ mod time {
         /// The same in whole milliseconds, rounded down.
         #[inline]
         pub(crate) fn millis_since(self, earlier: Self) -> u64 {
-            whole_millis(self.since(earlier))
+            match nanos_between(earlier.instant, self.instant) {
+                Some(nanos) => nanos / NANOS_A_MILLI,
+                None => self.many_millis_since(earlier, Duration::ZERO),
+            }
         }
 
         /// The same, rounded up.
         #[inline]
         pub(crate) fn millis_begun_since(self, earlier: Self) -> u64 {
-            whole_millis(self.since(earlier).saturating_add(NEARLY_A_MILLI))
+            match nanos_between(earlier.instant, self.instant) {
+                Some(nanos) => (nanos + (NANOS_A_MILLI - 1)) / NANOS_A_MILLI,
+                None => self.many_millis_since(earlier, NEARLY_A_MILLI),
+            }
+        }
+
+        /// The same of any two moments, and of this much more.
+        #[cold]
+        fn many_millis_since(self, earlier: Self, more: Duration) -> u64 {
+            whole_millis(self.since(earlier).saturating_add(more))
         }
     }
 }

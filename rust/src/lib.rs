@@ -40,6 +40,8 @@
 
 mod clock;
 mod engine;
+#[cfg(feature = "tokio")]
+mod instants;
 #[cfg(feature = "leased")]
 mod leased;
 mod limits;

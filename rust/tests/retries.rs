@@ -9,7 +9,7 @@ use std::error::Error;
 use std::io;
 use std::rc::Rc;
 use std::sync::atomic::{AtomicI64, AtomicU64, Ordering};
-use std::sync::Arc;
+use std::sync::{mpsc, Arc};
 use std::thread;
 use std::time::{Duration, Instant};
 
@@ -421,6 +421,39 @@ fn sixteen_threads_never_pass_the_budget() {
         }
     });
     assert_eq!(budget.close().unwrap(), 10_000);
+}
+
+/// Retries once more when its thread ends, and sends how often.
+struct AtTheEnd(mpsc::Sender<Result<(), RetryError<u32>>>);
+
+impl Drop for AtTheEnd {
+    fn drop(&mut self) {
+        let mut runs = 0;
+        // (tokio's clock ends before its thread does)
+        let ended = Retrying::new(&policy(r#"{"recurs":2}"#), &Unlimited).clock(Instant::now).call(|| {
+            runs += 1;
+            Err(runs)
+        });
+        self.0.send(ended).unwrap();
+    }
+}
+
+#[test]
+fn a_thread_retries_on_no_limit_until_it_has_ended() {
+    thread_local! {
+        static BEFORE: RefCell<Option<AtTheEnd>> = const { RefCell::new(None) };
+        static AFTER: RefCell<Option<AtTheEnd>> = const { RefCell::new(None) };
+    }
+    let (sends, sent) = mpsc::channel();
+    thread::spawn(move || {
+        // a value of the thread's is dropped before or after the crate's own
+        BEFORE.with(|own| *own.borrow_mut() = Some(AtTheEnd(sends.clone())));
+        drop(AtTheEnd(sends.clone()));
+        AFTER.with(|own| *own.borrow_mut() = Some(AtTheEnd(sends)));
+    })
+    .join()
+    .unwrap();
+    assert_eq!(sent.iter().collect::<Vec<_>>(), vec![Err(RetryError::ScheduleDone(3)); 3]);
 }
 
 #[test]

@@ -25,7 +25,7 @@ pub(crate) use sys::{BreakerTerms, BucketTerms};
 pub(crate) use sys::{Course, Event, Line, Next, Place, Run, Storm, Totals, Used, Window};
 pub(crate) use sys::{BREAKER_OPEN, LEVEL_LOW, PROBING, REQUESTS_FULL, RETRIES_FULL, THROTTLED};
 pub(crate) use sys::{ENDED_CANCELLED, ENDED_DEADLINE, ENDED_DONE, ENDED_NO_MEMORY, ENDED_REFUSED, ENDED_WON};
-pub(crate) use sys::{LOST, MAX_NUMBER, MAX_STEPS, MAX_TICKETS, NO_DEADLINE, NO_REPORT, OVER, WAIT, WON};
+pub(crate) use sys::{LOST, MAX_NUMBER, MAX_STEPS, MAX_TICKETS, NO_DEADLINE, NO_REPORT, OVER, RUN, WAIT, WON};
 pub(crate) use sys::{ON_BREAKER, ON_BUCKET, ON_BUDGET, ON_IN_FLIGHT, ON_NOTHING, ON_QUOTA, ON_THROTTLE};
 
 // SAFETY of the calls in this folder: a pointer is to a handle of the kind that the call wants, or to an empty one that
@@ -59,9 +59,19 @@ pub(crate) enum Status {
 
 impl Status {
     /// What a call answers.
+    #[inline]
     fn of(status: u32) -> Result<(), Self> {
-        Err(match status {
-            OK => return Ok(()),
+        if status == OK {
+            Ok(())
+        } else {
+            Err(Self::refused(status))
+        }
+    }
+
+    /// That of a call which is refused.
+    #[cold]
+    fn refused(status: u32) -> Self {
+        match status {
             NO_MEMORY => Self::NoMemory,
             TOO_LARGE => Self::TooLarge,
             NO_ROOM => Self::NoRoom,
@@ -80,7 +90,7 @@ impl Status {
             RACES_LOST => Self::RacesLost,
             NOTHING_TO_HAND_BACK => Self::NothingToHandBack,
             other => Self::Other(other),
-        })
+        }
     }
 }
 
@@ -117,11 +127,19 @@ pub(crate) struct Handle<K: Kind> {
 unsafe impl<K: Kind> Send for Handle<K> {}
 
 impl<K: Kind> Handle<K> {
+    /// A handle that holds nothing: a call refuses it, or fills it.
+    pub(crate) const EMPTY: Self = Self { raw: Raw::EMPTY, kind: PhantomData };
+
     /// The handle that `call` fills.
     fn filled(call: impl FnOnce(*mut Raw) -> u32) -> Result<Self, Status> {
-        let mut handle = Self { raw: Raw::EMPTY, kind: PhantomData };
+        let mut handle = Self::EMPTY;
         Status::of(call(&mut handle.raw))?;
         Ok(handle)
+    }
+
+    #[inline]
+    pub(crate) fn is_empty(&self) -> bool {
+        self.raw.held.is_null()
     }
 
     /// What a call of the engine takes. It holds what its kind says, or nothing, which a call refuses.
@@ -131,8 +149,9 @@ impl<K: Kind> Handle<K> {
 }
 
 impl<K: Kind> Drop for Handle<K> {
+    #[inline]
     fn drop(&mut self) {
-        if !self.raw.held.is_null() {
+        if !self.is_empty() {
             // SAFETY: the handle was filled by a call that makes this kind. A handle that was emptied is refused.
             unsafe { K::FREE(&mut self.raw) };
         }

@@ -4,6 +4,7 @@ use super::pass::PassKind;
 use super::policy::PolicyKind;
 use super::sys::*;
 use super::{Handle, Kind, Status};
+use std::cell::RefCell;
 
 /// The kind of a retry.
 #[derive(Debug)]
@@ -13,42 +14,42 @@ impl Kind for RetryKind {
     const FREE: unsafe extern "C" fn(*mut Raw) -> u32 = hikebox_retry_free;
 }
 
+thread_local! {
+    /// The thread's pass of nothing, from which those of its retries are split off; empty before the first.
+    static NOTHING: RefCell<Handle<PassKind>> = const { RefCell::new(Handle::EMPTY) };
+}
+
 impl Handle<RetryKind> {
-    /// A retry with a pass of its own, and a deadline up to [`MAX_NUMBER`], or [`NO_DEADLINE`].
-    pub(crate) fn begun(
+    /// Fills the handle with a retry that has a pass of its own, and a deadline up to [`MAX_NUMBER`], or
+    /// [`NO_DEADLINE`].
+    #[inline]
+    pub(crate) fn begin(
+        &mut self,
         policy: &mut Handle<PolicyKind>,
         pass: &mut Handle<PassKind>,
         deadline: u64,
-    ) -> Result<Self, Status> {
-        Self::filled(|retry| unsafe { hikebox_retry_new(policy.raw(), pass.raw(), deadline, retry) })
+    ) -> Result<(), Status> {
+        Status::of(unsafe { hikebox_retry_new(policy.raw(), pass.raw(), deadline, self.raw()) })
     }
 
     /// The same, drawing on nothing.
-    pub(crate) fn on_nothing(policy: &mut Handle<PolicyKind>, deadline: u64) -> Result<Self, Status> {
-        Self::begun(policy, &mut Handle::unlimited()?, deadline)
-    }
-
-    /// One whose first run was this, and tells what it is at.
-    pub(crate) fn after(
-        policy: &mut Handle<PolicyKind>,
-        pass: &mut Handle<PassKind>,
-        deadline: u64,
-        run: &Run,
-        told: &mut Next,
-    ) -> Result<Self, Status> {
-        let mut retry = Self::begun(policy, pass, deadline)?;
-        retry.ran(run, told);
-        Ok(retry)
-    }
-
-    /// The same, drawing on nothing.
-    pub(crate) fn after_on_nothing(
-        policy: &mut Handle<PolicyKind>,
-        deadline: u64,
-        run: &Run,
-        told: &mut Next,
-    ) -> Result<Self, Status> {
-        Self::after(policy, &mut Handle::unlimited()?, deadline, run, told)
+    pub(crate) fn begin_on_nothing(&mut self, policy: &mut Handle<PolicyKind>, deadline: u64) -> Result<(), Status> {
+        let mut own = |nothing: &RefCell<Handle<PassKind>>| {
+            let mut pass = nothing.borrow_mut();
+            match self.begin(policy, &mut pass, deadline) {
+                Ok(()) => Ok(()),
+                // (it is the thread's first retry, or 2^42 retries have each a part of the pass)
+                Err(_) => {
+                    *pass = Handle::unlimited()?;
+                    self.begin(policy, &mut pass, deadline)
+                }
+            }
+        };
+        match NOTHING.try_with(&mut own) {
+            Ok(begun) => begun,
+            // (the thread ends)
+            Err(_) => own(&RefCell::new(Handle::EMPTY)),
+        }
     }
 
     /// Begins this run, where one may begin, and ends it as it is reported; tells what it is at then, or says that it is
@@ -56,10 +57,12 @@ impl Handle<RetryKind> {
     #[inline]
     pub(crate) fn ran(&mut self, run: &Run, told: &mut Next) -> bool {
         let status = unsafe { hikebox_retry_ran(self.raw(), run, told) };
-        if status == OK {
-            return true;
-        }
-        // (past its deadline it is over at the beginning of the run)
+        status == OK || self.begins_late(run, told)
+    }
+
+    /// Past its deadline it is over at the beginning of the run.
+    #[cold]
+    fn begins_late(&mut self, run: &Run, told: &mut Next) -> bool {
         self.poll(run.began, &run.words, NO_REPORT, 0, told)
     }
 
@@ -79,8 +82,9 @@ impl Handle<RetryKind> {
         debug_assert!(told);
     }
 
-    /// Gives its pass back to one of the same.
-    pub(crate) fn end(mut self, pass: &mut Handle<PassKind>) {
+    /// Gives its pass back to one of the same: it holds nothing then.
+    #[inline]
+    pub(crate) fn end(&mut self, pass: &mut Handle<PassKind>) {
         let status = unsafe { hikebox_retry_end(self.raw(), pass.raw()) };
         debug_assert_eq!(status, OK);
     }

@@ -266,6 +266,7 @@ pub(crate) const NO_REPORT: u32 = 0;
 pub(crate) const WON: u32 = 1;
 pub(crate) const LOST: u32 = 2;
 
+pub(crate) const RUN: u32 = 1;
 pub(crate) const WAIT: u32 = 2;
 pub(crate) const OVER: u32 = 3;
 

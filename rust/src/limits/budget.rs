@@ -162,10 +162,10 @@ impl Budget {
     /// Lends a pass to a call that begins or ends a retry: that of this thread, or the first one where another thread uses
     /// that, or it has no part to give.
     #[inline]
-    pub(crate) fn with_own<T>(
+    pub(crate) fn with_own(
         &self,
-        mut call: impl FnMut(&mut Handle<PassKind>) -> Result<T, Status>,
-    ) -> Result<T, Status> {
+        mut call: impl FnMut(&mut Handle<PassKind>) -> Result<(), Status>,
+    ) -> Result<(), Status> {
         let own = |slot: &mut Option<Handle<PassKind>>| match slot {
             Some(pass) => call(pass),
             None => call(slot.insert(self.lock().split()?)),

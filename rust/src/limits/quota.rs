@@ -385,7 +385,7 @@ impl Quota {
     }
 
     /// Takes the pass of a retry back, which is over or dropped, and its latest ticket where that comes back.
-    pub(crate) fn end(&self, retry: Handle<RetryKind>, returns_ticket: bool) {
+    pub(crate) fn end(&self, retry: &mut Handle<RetryKind>, returns_ticket: bool) {
         let root = &mut *self.lock();
         match if returns_ticket { root.split().ok() } else { None } {
             // (the latest ticket of a pass of its own is the retry's)

@@ -204,6 +204,7 @@ impl Policy {
     }
 
     /// Lends the handle to one call.
+    #[inline]
     pub(crate) fn with<T>(&self, call: impl FnOnce(&mut Handle<PolicyKind>) -> T) -> T {
         let Shared { json, handle, .. } = &*self.shared;
         let anew = || Mutex::new(Handle::read(json).expect("memory for a policy"));

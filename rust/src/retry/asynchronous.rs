@@ -59,7 +59,10 @@ macro_rules! until_it_succeeds {
                 }
                 Err(error) => error,
             };
-            let (wait, error) = $retrying.fails(&mut progress, error)?;
+            let wait = match $retrying.fails(&mut progress, &error) {
+                Ok(wait) => wait,
+                Err(ended) => return Err(progress.error(ended, error)),
+            };
             if !wait.is_zero() {
                 $retrying.host.sleep.sleep(wait).await;
             }

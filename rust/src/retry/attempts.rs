@@ -42,65 +42,62 @@ impl<E, H: Hooked<E>, K: Clock, S, R: Random, L: MayRefuse> Retrying<'_, E, (), 
     /// The moment at which a request begins, which is counted, and what it holds of a limit that is asked.
     #[inline]
     pub(crate) fn begins(&self) -> Result<(Moment, L::Held), RetryError<E, L>> {
-        let held = L::admitted(self.budget.get()).map_err(RetryError::NotAdmitted)?;
+        let held = L::admitted(self.rules.limit()).map_err(RetryError::NotAdmitted)?;
         let now = self.host.clock.moment();
-        self.budget.get().count_request(now);
+        self.rules.limit().count_request(now);
         Ok((now, held))
     }
 
     /// A request whose first run succeeded.
     #[inline]
     pub(crate) fn succeeds_at_once(&self, held: &mut L::Held) {
-        if !held.succeeded() && self.budget.get().hears_of_successes() {
-            self.budget.get().count_success(None, &|| self.host.clock.moment());
+        if !held.succeeded() && self.rules.limit().hears_of_successes() {
+            self.rules.limit().count_success(None, &|| self.host.clock.moment());
         }
     }
 
     /// The first run, which begins with the retry.
     #[inline]
     pub(crate) fn first(&self) -> Attempt {
-        Attempt { number: 1, left: self.options.deadline }
+        Attempt { number: 1, left: self.rules.options.deadline }
     }
 
     /// A run succeeded, which ends the retry.
     #[inline]
     pub(crate) fn succeeds(&self, progress: &mut Progress) {
-        if progress.is_asked() || self.budget.get().hears_of_successes() {
+        if progress.is_asked() || self.rules.limit().hears_of_successes() {
             self.succeeded(progress);
         }
     }
 
-    /// How long it is until the next run after one that failed, with its error, or how the retry ended.
-    pub(crate) fn fails(&self, progress: &mut Progress, error: E) -> Result<(Duration, E), RetryError<E, L>> {
+    /// How long it is until the next run after one that failed with this error, or how the retry ended.
+    #[inline]
+    pub(crate) fn fails(&self, progress: &mut Progress, error: &E) -> Result<Duration, Ending> {
         let now = self.host.clock.moment();
         progress.failed();
-        if !self.hooks.when(&error) {
-            return Err(RetryError::NotRetried(error));
+        if !self.hooks.when(error) {
+            return Err(Ending::Cancelled);
         }
-        let (retry_after, code) = (self.hooks.retry_after(&error), self.hooks.code(&error));
-        let rules = self.rules();
-        let words = rules.policy.words(|| self.host.random.draw());
-        let lost = Lost { now, code, words, retry_after };
-        let wait = match progress.lost(&rules, &lost) {
-            Ok(wait) => wait,
-            Err(ended) => return Err(progress.error(ended, error)),
-        };
-        self.hooks.notify(&error, wait);
-        if wait.is_zero() || !self.options.notifies {
-            return Ok((wait, error));
+        let (retry_after, code) = (self.hooks.retry_after(error), self.hooks.code(error));
+        let words = self.rules.policy.words(|| self.host.random.draw());
+        let wait = progress.lost(&self.rules, now, &mut Lost::new(code, words, retry_after))?;
+        self.hooks.notify(error, wait);
+        if wait.is_zero() || !self.rules.options.notifies {
+            return Ok(wait);
         }
-        Ok((now.after(wait).since(self.host.clock.moment()), error))
+        Ok(now.after(wait).since(self.host.clock.moment()))
     }
 
     #[cold]
     fn succeeded(&self, progress: &mut Progress) {
-        progress.succeeded(self.budget.get(), &|| self.host.clock.moment());
+        progress.succeeded(self.rules.limit(), &|| self.host.clock.moment());
     }
 
     /// The next run, which begins after the wait for it, or how the retry ended.
+    #[inline]
     pub(crate) fn next(&self, progress: &mut Progress, last: Attempt) -> Result<Attempt, Ending> {
         let began = progress.resume(|| self.host.clock.moment())?;
         let left = |(deadline, now): (Duration, Moment)| deadline.saturating_sub(progress.passed(now));
-        Ok(Attempt { number: last.number + 1, left: self.options.deadline.zip(began).map(left) })
+        Ok(Attempt { number: last.number + 1, left: self.rules.options.deadline.zip(began).map(left) })
     }
 }

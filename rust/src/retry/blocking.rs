@@ -118,7 +118,7 @@ impl<E, H: Hooked<E>, K: Clock, S: Sleep, R: Random, L: MayRefuse> Retrying<'_, 
     }
 
     /// The same after a first run that failed so.
-    #[cold]
+    #[inline(never)]
     fn calls_again<T>(
         &self,
         mut progress: Progress,
@@ -127,13 +127,16 @@ impl<E, H: Hooked<E>, K: Clock, S: Sleep, R: Random, L: MayRefuse> Retrying<'_, 
         mut call: impl FnMut(Attempt) -> Result<T, E>,
     ) -> Result<T, RetryError<E, L>> {
         loop {
-            let (wait, last) = self.fails(&mut progress, error)?;
+            let wait = match self.fails(&mut progress, &error) {
+                Ok(wait) => wait,
+                Err(ended) => return Err(progress.error(ended, error)),
+            };
             if !wait.is_zero() {
                 self.host.sleep.sleep(wait);
             }
             attempt = match self.next(&mut progress, attempt) {
                 Ok(attempt) => attempt,
-                Err(ended) => return Err(progress.error(ended, last)),
+                Err(ended) => return Err(progress.error(ended, error)),
             };
             error = match call(attempt) {
                 Ok(value) => {

@@ -1,5 +1,6 @@
 //! The functions that a retry calls at each failure.
 
+use std::marker::PhantomData;
 use std::sync::Arc;
 use std::time::Duration;
 
@@ -13,7 +14,10 @@ pub struct Hooks<W, C, A, N> {
 }
 
 /// Hooks that retry every error, by the code 0.
-pub type PlainHooks<E> = Hooks<fn(&E) -> bool, fn(&E) -> u64, fn(&E) -> Option<Duration>, fn(&E, Duration)>;
+pub type PlainHooks<E> = Hooks<NoHook<E>, NoHook<E>, NoHook<E>, NoHook<E>>;
+
+/// In the place of a function that is not given: nothing is called.
+pub struct NoHook<E>(PhantomData<fn(&E)>);
 
 /// Hooks behind one pointer, so that you can name their type: see [`Retrying::shared`](crate::Retrying::shared).
 pub struct SharedHooks<E>(Arc<dyn Hooked<E> + Send + Sync>);
@@ -30,34 +34,74 @@ pub trait Hooked<E>: sealed::Hooks {
     fn notify(&self, error: &E, wait: Duration);
 }
 
-impl<E> PlainHooks<E> {
-    #[inline]
-    pub(crate) fn plain() -> Self {
-        Self { when: |_| true, code: |_| 0, retry_after: |_| None, notify: |_, _| () }
+impl<E> NoHook<E> {
+    const NONE: Self = Self(PhantomData);
+}
+
+impl<E> Clone for NoHook<E> {
+    fn clone(&self) -> Self {
+        *self
     }
 }
 
+impl<E> Copy for NoHook<E> {}
+
+impl<E> PlainHooks<E> {
+    #[inline]
+    pub(crate) fn plain() -> Self {
+        Self { when: NoHook::NONE, code: NoHook::NONE, retry_after: NoHook::NONE, notify: NoHook::NONE }
+    }
+}
+
+/// What a hook answers: a function what it says, and a hook that is not given this.
+macro_rules! hook {
+    ($hook:ident: $call:ident($($name:ident: $of:ty),+) $(-> $answer:ty)?, $plain:expr) => {
+        impl<E, F: Fn($($of),+) $(-> $answer)?> sealed::$hook<E> for F {
+            #[inline]
+            fn $call(&self, $($name: $of),+) $(-> $answer)? {
+                self($($name),+)
+            }
+        }
+
+        impl<E> sealed::$hook<E> for NoHook<E> {
+            #[inline]
+            fn $call(&self, $(_: $of),+) $(-> $answer)? {
+                $plain
+            }
+        }
+    };
+}
+
+hook!(When: when(error: &E) -> bool, true);
+hook!(Code: code(error: &E) -> u64, 0);
+hook!(RetryAfter: retry_after(error: &E) -> Option<Duration>, None);
+hook!(Notify: notify(error: &E, wait: Duration), ());
+
 impl<E, W, C, A, N> Hooked<E> for Hooks<W, C, A, N>
 where
-    W: Fn(&E) -> bool,
-    C: Fn(&E) -> u64,
-    A: Fn(&E) -> Option<Duration>,
-    N: Fn(&E, Duration),
+    W: sealed::When<E>,
+    C: sealed::Code<E>,
+    A: sealed::RetryAfter<E>,
+    N: sealed::Notify<E>,
 {
+    #[inline]
     fn when(&self, error: &E) -> bool {
-        (self.when)(error)
+        self.when.when(error)
     }
 
+    #[inline]
     fn code(&self, error: &E) -> u64 {
-        (self.code)(error)
+        self.code.code(error)
     }
 
+    #[inline]
     fn retry_after(&self, error: &E) -> Option<Duration> {
-        (self.retry_after)(error)
+        self.retry_after.retry_after(error)
     }
 
+    #[inline]
     fn notify(&self, error: &E, wait: Duration) {
-        (self.notify)(error, wait);
+        self.notify.notify(error, wait);
     }
 }
 
@@ -92,6 +136,28 @@ impl<E> Clone for SharedHooks<E> {
 }
 
 mod sealed {
+    use std::time::Duration;
+
+    /// Whether an error is retried.
+    pub trait When<E> {
+        fn when(&self, error: &E) -> bool;
+    }
+
+    /// The number of an error.
+    pub trait Code<E> {
+        fn code(&self, error: &E) -> u64;
+    }
+
+    /// How long an error asks to wait.
+    pub trait RetryAfter<E> {
+        fn retry_after(&self, error: &E) -> Option<Duration>;
+    }
+
+    /// Learns of an error that is retried after this wait.
+    pub trait Notify<E> {
+        fn notify(&self, error: &E, wait: Duration);
+    }
+
     pub trait Hooks {}
     impl<W, C, A, N> Hooks for super::Hooks<W, C, A, N> {}
     impl<E> Hooks for super::SharedHooks<E> {}

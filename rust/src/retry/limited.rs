@@ -183,7 +183,7 @@ where
                         Poll::Pending => return Poll::Pending,
                     };
                     match this.after(&result) {
-                        Some(sleep) => this.at = At::Wait(sleep, this.settings.options.deadline.map(|_| result)),
+                        Some(sleep) => this.at = At::Wait(sleep, this.settings.rules.options.deadline.map(|_| result)),
                         None => return this.over(result.map_err(Into::into)),
                     }
                 }

@@ -1,14 +1,14 @@
 //! A retry as a machine that its host steps.
 
 use crate::clock::whole_millis;
-use crate::engine::{self, Handle, Next, RetryKind, Run, MAX_NUMBER, NO_DEADLINE};
+use crate::engine::{self, Handle, Next, RetryKind, Run, Status, MAX_NUMBER, NO_DEADLINE};
 use crate::limits::budget::BudgetError;
 use crate::limits::grants::{Grants, Source, Tickets};
 use crate::limits::part::Root;
 use crate::limits::ticket::{NoTicket, StoreFailure, Ticket};
 use crate::policy::Policy;
 use crate::random;
-use crate::system::generation;
+use crate::system::{generation, is_generation};
 use std::convert::Infallible;
 use std::mem;
 use std::time::Duration;
@@ -39,8 +39,8 @@ use std::time::Duration;
 /// never began.
 #[derive(Debug)]
 pub struct Machine {
-    /// `None` only before its retry is made and while it is dropped.
-    handle: Option<Handle<RetryKind>>,
+    /// Empty only before its retry is made and while it is dropped.
+    handle: Handle<RetryKind>,
     source: Source,
     /// What was drawn of the source, where that is a store.
     drawn: Option<Box<Drawn>>,
@@ -162,44 +162,39 @@ impl Machine {
     }
 
     pub(crate) fn on(policy: &Policy, source: Source, deadline: u64) -> Result<Self, BudgetError> {
-        let handle = policy.with(|policy| match &source {
-            Source::Budget(budget) => budget.with(|root| Handle::begun(policy, root, deadline)),
-            Source::Quota(quota) => quota.with(|root| Handle::begun(policy, root, deadline)),
-            Source::Asked(_) | Source::Store(_) | Source::Unlimited => Handle::on_nothing(policy, deadline),
-        });
-        Ok(Self::of(Some(handle.map_err(BudgetError::of)?), source, deadline))
+        let mut machine = Self::unmade(source, deadline);
+        machine.make(policy).map_err(BudgetError::of)?;
+        Ok(machine)
     }
 
     /// A machine whose retry is still to be made, by [`Machine::begin_after`].
     #[inline]
     pub(crate) fn unmade(source: Source, deadline: u64) -> Self {
-        Self::of(None, source, deadline)
-    }
-
-    /// Makes the retry of a machine that has none, whose first run was this: what it is at then, as [`Machine::step_at`]
-    /// answers it.
-    pub(crate) fn begin_after(&mut self, policy: &Policy, run: &Run) -> Result<Option<u64>, Ending> {
-        let Self { source, deadline, told, .. } = self;
-        let handle = policy.with(|policy| match source {
-            Source::Budget(budget) => budget.with_own(|pass| Handle::after(policy, pass, *deadline, run, told)),
-            Source::Quota(quota) => quota.with(|root| Handle::after(policy, root, *deadline, run, told)),
-            Source::Asked(_) | Source::Store(_) | Source::Unlimited => {
-                Handle::after_on_nothing(policy, *deadline, run, told)
-            }
-        });
-        // (for want of passes 2^42 of them would have to be alive)
-        self.handle = Some(handle.map_err(|_| Ending::Broken(Cause::NoMemory))?);
-        self.next()
-    }
-
-    #[inline]
-    fn of(handle: Option<Handle<RetryKind>>, source: Source, deadline: u64) -> Self {
         let drawn = match source {
             Source::Store(_) => Some(Box::default()),
             _ => None,
         };
-        let generation = generation();
+        let (handle, generation) = (Handle::EMPTY, generation());
         Self { handle, source, drawn, generation, deadline, told: NOTHING_TOLD, waits: false, won: false }
+    }
+
+    /// Makes the retry of a machine that has none.
+    #[inline]
+    fn make(&mut self, policy: &Policy) -> Result<(), Status> {
+        let Self { handle, source, deadline, .. } = self;
+        policy.with(|policy| match source {
+            Source::Budget(budget) => budget.with_own(|pass| handle.begin(policy, pass, *deadline)),
+            Source::Quota(quota) => quota.with(|root| handle.begin(policy, root, *deadline)),
+            Source::Asked(_) | Source::Store(_) | Source::Unlimited => handle.begin_on_nothing(policy, *deadline),
+        })
+    }
+
+    /// Makes the retry of a machine that has none, whose first run was this.
+    #[inline]
+    pub(crate) fn begin_after(&mut self, policy: &Policy, run: &Run) -> Result<(), Ending> {
+        // (for want of passes 2^42 of them would have to be alive)
+        self.make(policy).map_err(|_| Ending::Broken(Cause::NoMemory))?;
+        self.ran(run)
     }
 
     /// Steps the machine at the moment `now`, which is not before that of the last step, with the system's random
@@ -212,59 +207,72 @@ impl Machine {
     /// middle.
     pub fn step_with(&mut self, now: Duration, report: Option<Report>, words: [u32; 4]) -> Step {
         match self.step_at(whole_millis(now), report, &words) {
-            Ok(None) => Step::Run,
-            Ok(Some(until)) => Step::Wait(Duration::from_millis(until)),
+            Ok(()) => self.due().map_or(Step::Run, |due| Step::Wait(Duration::from_millis(due))),
             Err(ended) => Step::Over(ended),
         }
     }
 
-    /// The same at a moment in milliseconds: the one to wait for, or `None` where a run is under way.
-    pub(crate) fn step_at(
-        &mut self,
-        now: u64,
-        report: Option<Report>,
-        words: &[u32; 4],
-    ) -> Result<Option<u64>, Ending> {
+    /// The same at a moment in milliseconds, or how it ended.
+    fn step_at(&mut self, now: u64, report: Option<Report>, words: &[u32; 4]) -> Result<(), Ending> {
         self.poll(now, report, words);
         self.next()
     }
 
-    /// A run is made, where one may begin: the moment to wait for then, or `None` where the next run is under way.
+    /// A run ends that began as soon as the one before had failed, or that begins with this where it was waited for.
     #[inline]
-    pub(crate) fn ran(&mut self, run: &Run) -> Result<Option<u64>, Ending> {
-        if let Some(handle) = &mut self.handle {
-            let told = handle.ran(run, &mut self.told);
-            debug_assert!(!told || self.told.left == self.left_at(run.ended));
-        }
+    pub(crate) fn ran(&mut self, run: &Run) -> Result<(), Ending> {
+        let told = match self.told.what {
+            engine::RUN => self.handle.poll(run.ended, &run.words, run.report, run.code, &mut self.told),
+            _ => self.handle.ran(run, &mut self.told),
+        };
+        debug_assert!(!told || self.told.left == self.left_at(run.ended));
         self.next()
     }
 
-    /// What it is at, as its last step told.
+    /// The moment to wait for, or `None` where a run is under way, or it is over.
     #[inline]
-    fn next(&mut self) -> Result<Option<u64>, Ending> {
+    pub(crate) fn due(&self) -> Option<u64> {
+        if self.told.what == engine::WAIT {
+            Some(self.told.until)
+        } else {
+            None
+        }
+    }
+
+    /// What follows from what its last step told; or how it ended.
+    #[inline]
+    fn next(&mut self) -> Result<(), Ending> {
+        if self.drawn.is_some() {
+            self.draw_of_store()?;
+        }
+        if self.told.what == engine::OVER {
+            return Err(self.over());
+        }
+        self.waits = self.told.what == engine::WAIT;
+        Ok(())
+    }
+
+    /// How it ended, as its last step told.
+    #[cold]
+    fn over(&mut self) -> Ending {
+        self.won = self.told.how == engine::ENDED_WON;
+        ended_of(self.told.how)
+    }
+
+    /// Draws a ticket of the store for the retry to which it goes on; it is over where there is none.
+    #[cold]
+    fn draw_of_store(&mut self) -> Result<(), Ending> {
         if let (Source::Store(store), Some(drawn)) = (&self.source, &mut self.drawn) {
             if let Some(ended) = drawn.refuses(&**store, self.told.granted) {
                 self.cancel();
                 return Err(ended);
             }
         }
-        match self.told.what {
-            engine::WAIT => {
-                self.waits = true;
-                Ok(Some(self.told.until))
-            }
-            engine::OVER => {
-                self.won = self.told.how == engine::ENDED_WON;
-                Err(ended_of(self.told.how))
-            }
-            _ => {
-                self.waits = false;
-                Ok(None)
-            }
-        }
+        Ok(())
     }
 
     /// Whether its next run is yet to begin, where its host does not step it when that does.
+    #[inline]
     pub(crate) fn set_waits(&mut self, waits: bool) {
         self.waits = waits;
     }
@@ -281,10 +289,8 @@ impl Machine {
             Some(Report::Won(code)) => (engine::WON, code.min(MAX_NUMBER)),
             Some(Report::Lost(code)) => (engine::LOST, code.min(MAX_NUMBER)),
         };
-        if let Some(handle) = &mut self.handle {
-            let told = handle.poll(now, words, report, code, &mut self.told);
-            debug_assert!(!told || self.told.left == self.left_at(now));
-        }
+        let told = self.handle.poll(now, words, report, code, &mut self.told);
+        debug_assert!(!told || self.told.left == self.left_at(now));
     }
 
     /// The number of retries that were granted.
@@ -327,43 +333,44 @@ impl Machine {
         self.drawn.as_ref().and_then(|drawn| drawn.failure.as_ref())
     }
 
-    /// Ends the retry as cancelled, if it is not over. On a quota, the latest ticket goes back when the machine is
-    /// dropped, if it was waiting.
-    pub fn cancel(&mut self) {
-        if let Some(handle) = &mut self.handle {
-            handle.cancel(&mut self.told);
-        }
-    }
-}
-
-impl Drop for Machine {
-    /// Gives its tickets to be counted, and back the one of a run that never began, or that the quota wants back.
-    fn drop(&mut self) {
-        let handle = match self.handle.take() {
-            Some(handle) if self.generation == generation() => handle,
-            // (in a forked child its tickets are the parent's)
-            _ => return,
-        };
-        match &self.source {
+    fn end(&mut self) {
+        let Self { handle, source, drawn, waits, won, .. } = self;
+        match source {
             Source::Budget(budget) => {
-                let mut handle = Some(handle);
                 let ended = budget.with_own(|pass| {
-                    if let Some(handle) = handle.take() {
-                        handle.end(pass);
-                    }
+                    handle.end(pass);
                     Ok(())
                 });
                 debug_assert_eq!(ended, Ok(()));
             }
-            Source::Quota(quota) => quota.end(handle, self.waits || (self.won && quota.returns_tickets())),
+            Source::Quota(quota) => quota.end(handle, *waits || (*won && quota.returns_tickets())),
             Source::Store(store) => {
-                if let (true, Some(drawn)) = (self.waits, &mut self.drawn) {
+                if let (true, Some(drawn)) = (*waits, drawn) {
                     if let Some(ticket) = drawn.ticket.take() {
                         store.hand_back(ticket);
                     }
                 }
             }
             Source::Asked(_) | Source::Unlimited => (),
+        }
+    }
+
+    /// Ends the retry as cancelled, if it is not over. On a quota, the latest ticket goes back when the machine is
+    /// dropped, if it was waiting.
+    pub fn cancel(&mut self) {
+        if !self.handle.is_empty() {
+            self.handle.cancel(&mut self.told);
+        }
+    }
+}
+
+impl Drop for Machine {
+    /// Gives its tickets to be counted, and back the one of a run that never began, or that the quota wants back.
+    #[inline]
+    fn drop(&mut self) {
+        // (in a forked child its tickets are the parent's)
+        if !self.handle.is_empty() && is_generation(self.generation) {
+            self.end();
         }
     }
 }

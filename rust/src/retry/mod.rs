@@ -13,6 +13,7 @@ mod options;
 mod progress;
 mod repeating;
 mod retrying;
+mod rules;
 #[cfg(feature = "tower")]
 mod tower;
 
@@ -27,7 +28,7 @@ pub use asynchronous::{Async, AsyncSleep, Retryable};
 pub use attempts::Attempt;
 pub use blocking::{retry, Blocking, BlockingRetryable};
 pub use error::RetryError;
-pub use hooks::{Hooked, Hooks, PlainHooks, SharedHooks};
+pub use hooks::{Hooked, Hooks, NoHook, PlainHooks, SharedHooks};
 pub use host::{Host, Random, Sleep, SystemHost, SystemRandom, SystemSleep};
 #[cfg(feature = "tower")]
 pub use limited::{LimitLayer, Limited, LimitedCall};

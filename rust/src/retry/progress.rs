@@ -5,29 +5,19 @@ use crate::engine::{Run, LOST, MAX_NUMBER, NO_DEADLINE};
 use crate::limits::call_limit::Asked;
 use crate::limits::grants::{Held, Limit};
 use crate::limits::ticket::Ticket;
-use crate::policy::Policy;
 use crate::retry::error::RetryError;
-use crate::retry::machine::{Ending, Machine, Report};
+use crate::retry::machine::{Ending, Machine};
 use crate::retry::options::Options;
+use crate::retry::rules::Rules;
 use std::sync::Arc;
 use std::time::Duration;
 
-/// What a retry goes by.
-#[derive(Clone, Copy)]
-pub(crate) struct Rules<'a> {
-    pub(crate) policy: &'a Policy,
-    pub(crate) limit: &'a dyn Limit,
-    pub(crate) options: &'a Options,
-}
-
 /// A run that failed.
-#[derive(Clone, Copy)]
 pub(crate) struct Lost {
-    pub(crate) now: Moment,
-    pub(crate) code: u64,
-    pub(crate) words: [u32; 4],
+    /// As the engine is told of it, but for its moments.
+    run: Run,
     /// How long the error asks to wait.
-    pub(crate) retry_after: Option<Duration>,
+    retry_after: Option<Duration>,
 }
 
 /// A retry from its first run on. The engine hears of each run when it has failed, in one call: with the moments at which
@@ -49,10 +39,6 @@ struct Running {
     origin: u64,
     /// The latest moment that the engine was told, or that the run under way began at.
     latest: u64,
-    /// When the run under way began, where the engine has not begun it.
-    began: Option<u64>,
-    /// When the next run is due, where it was not due at once.
-    due: Option<u64>,
     /// How long after the first run began the last one may begin. Where it has one, moments are rounded up, so that a
     /// run which is due by it in whole milliseconds is so by the clock.
     deadline: Option<Duration>,
@@ -71,26 +57,48 @@ impl Progress {
         now.since(self.began)
     }
 
-    /// The run under way failed: how long it is to be waited from then on, or how the retry ended. The wait is the
+    /// The run under way failed now: how long it is to be waited from then on, or how the retry ended. The wait is the
     /// planned one in full, whatever part of a millisecond the run ended at, or what the error asks for.
-    pub(crate) fn lost(&mut self, rules: &Rules<'_>, lost: &Lost) -> Result<Duration, Ending> {
-        let asked = match lost.retry_after {
-            Some(asked) => rules.options.granted(asked, self.passed(lost.now)).ok_or(Ending::Deadline)?,
-            None => Duration::ZERO,
-        };
-        let running = match &mut self.running {
-            Some(running) => running.lost(self.began, lost)?,
-            running => {
-                let limit = self.asked.as_ref().map_or(rules.limit, |asked| asked);
-                Running::begin(running, &Rules { limit, ..*rules }, self.began, lost)?
-            }
-        };
-        let wait = match running.due {
-            Some(due) => asked.max(Duration::from_millis(due - running.latest)),
-            None => asked,
-        };
-        running.machine.set_waits(!wait.is_zero());
+    #[inline(always)]
+    pub(crate) fn lost(&mut self, rules: &Rules<'_>, now: Moment, lost: &mut Lost) -> Result<Duration, Ending> {
+        match lost.retry_after {
+            None => self.planned(rules, now, lost).map(Duration::from_millis),
+            Some(retry_after) => self.asked(rules, now, lost, retry_after),
+        }
+    }
+
+    /// The same where the error asks for a wait.
+    #[cold]
+    fn asked(&mut self, rules: &Rules<'_>, now: Moment, lost: &mut Lost, asked: Duration) -> Result<Duration, Ending> {
+        let asked = rules.options.granted(asked, self.passed(now)).ok_or(Ending::Deadline)?;
+        let wait = asked.max(Duration::from_millis(self.planned(rules, now, lost)?));
+        if let Some(running) = &mut self.running {
+            running.machine.set_waits(!wait.is_zero());
+        }
         Ok(wait)
+    }
+
+    /// The milliseconds until the start that is planned.
+    #[inline(always)]
+    fn planned(&mut self, rules: &Rules<'_>, now: Moment, lost: &mut Lost) -> Result<u64, Ending> {
+        match &mut self.running {
+            Some(running) => running.lost(self.began, now, lost),
+            None => self.begin(rules, now, lost),
+        }
+    }
+
+    /// The first run failed: the engine's retry begins. It is put into its place, also where that ends it.
+    #[cold]
+    fn begin(&mut self, rules: &Rules<'_>, now: Moment, lost: &mut Lost) -> Result<u64, Ending> {
+        let limit: &dyn Limit = match &self.asked {
+            Some(asked) => asked,
+            None => rules.limit(),
+        };
+        let running = self.running.insert(Running::unmade(limit, &rules.options, self.began));
+        let ended = running.told_at(self.began, now);
+        running.machine.begin_after(&rules.policy, lost.between(running.latest, ended))?;
+        running.latest = ended;
+        Ok(running.wait())
     }
 
     /// Tells a limit that was asked that the run under way failed, whether it is retried or not.
@@ -155,37 +163,45 @@ impl Progress {
     }
 }
 
-impl Running {
-    /// A retry whose first run, which began then, has failed. It is put into its place, also where that ends it.
-    fn begin<'a>(
-        place: &'a mut Option<Self>,
-        rules: &Rules<'_>,
-        began: Moment,
-        lost: &Lost,
-    ) -> Result<&'a mut Self, Ending> {
-        let origin = rules.limit.origin(began);
-        let deadline = rules.options.deadline.map(|deadline| Duration::from_millis(whole_millis(deadline)));
-        let until =
-            deadline.map_or(NO_DEADLINE, |deadline| origin.saturating_add(whole_millis(deadline)).min(MAX_NUMBER));
-        let latest = told_at(origin, deadline, began, lost.now);
-        let run =
-            Run { began: origin, ended: latest, code: lost.code.min(MAX_NUMBER), report: LOST, words: lost.words };
-        let machine = Machine::unmade(rules.limit.source(), until);
-        let running = place.insert(Self { machine, origin, latest, began: None, due: None, deadline });
-        running.due = running.machine.begin_after(rules.policy, &run)?;
-        Ok(running)
+impl Lost {
+    #[inline]
+    pub(crate) fn new(code: u64, words: [u32; 4], retry_after: Option<Duration>) -> Self {
+        let run = Run { began: 0, ended: 0, code: code.min(MAX_NUMBER), report: LOST, words };
+        Self { run, retry_after }
     }
 
-    /// The run under way failed.
-    fn lost(&mut self, began: Moment, lost: &Lost) -> Result<&mut Self, Ending> {
-        let ended = self.latest.max(told_at(self.origin, self.deadline, began, lost.now));
-        let code = lost.code.min(MAX_NUMBER);
-        self.latest = ended;
-        self.due = match self.began.take() {
-            Some(began) => self.machine.ran(&Run { began, ended, code, report: LOST, words: lost.words })?,
-            None => self.machine.step_at(ended, Some(Report::Lost(code)), &lost.words)?,
-        };
-        Ok(self)
+    /// The run, which began and ended at these moments.
+    #[inline]
+    fn between(&mut self, began: u64, ended: u64) -> &Run {
+        (self.run.began, self.run.ended) = (began, ended);
+        &self.run
+    }
+}
+
+impl Running {
+    /// A retry on this limit which the engine has still to begin, whose first run began then.
+    #[inline]
+    fn unmade(limit: &dyn Limit, options: &Options, began: Moment) -> Self {
+        let origin = limit.origin(began);
+        let deadline = options.deadline.map(|deadline| Duration::from_millis(whole_millis(deadline)));
+        let until =
+            deadline.map_or(NO_DEADLINE, |deadline| origin.saturating_add(whole_millis(deadline)).min(MAX_NUMBER));
+        Self { machine: Machine::unmade(limit.source(), until), origin, latest: origin, deadline }
+    }
+
+    /// The run under way failed now: the milliseconds until the start that is planned.
+    #[inline(always)]
+    fn lost(&mut self, first_began: Moment, now: Moment, lost: &mut Lost) -> Result<u64, Ending> {
+        let began = self.latest;
+        self.latest = began.max(self.told_at(first_began, now));
+        self.machine.ran(lost.between(began, self.latest))?;
+        Ok(self.wait())
+    }
+
+    /// The milliseconds until the run that is due.
+    #[inline]
+    fn wait(&self) -> u64 {
+        self.machine.due().map_or(0, |due| due.saturating_sub(self.latest))
     }
 
     /// Begins the run that is due, or that an error had wait, where that is not past the deadline.
@@ -195,7 +211,7 @@ impl Running {
             self.machine.cancel();
             return Err(Ending::Deadline);
         }
-        self.begins_at(told_at(self.origin, self.deadline, began, now));
+        self.begins_at(self.told_at(began, now));
         Ok(())
     }
 
@@ -203,23 +219,19 @@ impl Running {
     /// waited is taken to have moved.
     #[inline]
     fn begins_at(&mut self, now: u64) {
-        self.latest = self.latest.max(now);
-        if let Some(due) = self.due.take() {
-            self.latest = self.latest.max(due);
-            self.began = Some(self.latest);
-        }
+        self.latest = self.latest.max(now).max(self.machine.due().unwrap_or(0));
         self.machine.set_waits(false);
     }
-}
 
-/// What the engine is told of a moment, of a retry whose first run began then, at `origin`.
-#[inline]
-fn told_at(origin: u64, deadline: Option<Duration>, began: Moment, now: Moment) -> u64 {
-    let passed = match deadline {
-        Some(_) => now.millis_begun_since(began),
-        None => now.millis_since(began),
-    };
-    (origin + passed).min(MAX_NUMBER)
+    /// What the engine is told of a moment, of a retry whose first run began then, at the origin.
+    #[inline]
+    fn told_at(&self, began: Moment, now: Moment) -> u64 {
+        let passed = match self.deadline {
+            Some(_) => now.millis_begun_since(began),
+            None => now.millis_since(began),
+        };
+        (self.origin + passed).min(MAX_NUMBER)
+    }
 }
 
 #[cfg(test)]

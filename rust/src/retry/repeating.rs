@@ -1,15 +1,13 @@
 //! Repeats of calls that succeed, and polls until an answer is there.
 
 use crate::clock::Clock;
-use crate::engine::MAX_NUMBER;
 use crate::limits::grants::Unlimited;
 use crate::policy::{Policy, PolicyError};
 use crate::retry::asynchronous::AsyncSleep;
 use crate::retry::host::{Host, Random, Sleep, SystemHost};
 use crate::retry::machine::Ending;
-use crate::retry::options::Options;
-use crate::retry::progress::{Lost, Progress, Rules};
-use std::borrow::Cow;
+use crate::retry::progress::{Lost, Progress};
+use crate::retry::rules::Rules;
 use std::error::Error;
 use std::fmt;
 use std::future::Future;
@@ -129,8 +127,7 @@ where
 /// ```
 #[must_use = "nothing is called before `call` or `until`"]
 pub struct Repeating<'a, T, C = fn(&T) -> u64, M = SystemHost> {
-    policy: Cow<'a, Policy>,
-    options: Options,
+    rules: Rules<'a>,
     code: C,
     host: M,
     value: PhantomData<fn(&T)>,
@@ -139,8 +136,7 @@ pub struct Repeating<'a, T, C = fn(&T) -> u64, M = SystemHost> {
 impl<'a, T> Repeating<'a, T> {
     /// Each value has the code 0.
     pub fn new(policy: &'a Policy) -> Self {
-        let (options, host) = (Options::default(), Host::system());
-        Self { policy: Cow::Borrowed(policy), options, code: |_| 0, host, value: PhantomData }
+        Self { rules: Rules::new(policy, &Unlimited), code: |_| 0, host: Host::system(), value: PhantomData }
     }
 }
 
@@ -148,30 +144,24 @@ impl<'a, T, C, M> Repeating<'a, T, C, M> {
     /// No run but the first begins later than this (in whole milliseconds) after the start of the first, even if a wait
     /// took longer than it should.
     pub fn deadline(mut self, deadline: Duration) -> Self {
-        self.options.deadline = Some(deadline);
+        self.rules.options.deadline = Some(deadline);
         self
     }
 
     /// The number of a value, up to 2^62 - 1, which the schedule can test: its input.
     pub fn code<X: Fn(&T) -> u64>(self, code: X) -> Repeating<'a, T, X, M> {
-        let Self { policy, options, host, value, .. } = self;
-        Repeating { policy, options, code, host, value }
+        let Self { rules, host, value, .. } = self;
+        Repeating { rules, code, host, value }
     }
 
     /// Makes it own its policy, for a field of a type or for a spawned task.
     pub fn into_owned(self) -> Repeating<'static, T, C, M> {
-        let Self { policy, options, code, host, value } = self;
-        Repeating { policy: Cow::Owned(policy.into_owned()), options, code, host, value }
+        let Self { rules, code, host, value } = self;
+        Repeating { rules: rules.into_owned(), code, host, value }
     }
 
     fn with<O>(self, host: impl FnOnce(M) -> O) -> Repeating<'a, T, C, O> {
-        Repeating {
-            policy: self.policy,
-            options: self.options,
-            code: self.code,
-            host: host(self.host),
-            value: PhantomData,
-        }
+        Repeating { rules: self.rules, code: self.code, host: host(self.host), value: PhantomData }
     }
 }
 
@@ -280,10 +270,9 @@ impl<T, C: Fn(&T) -> u64, K: Clock, S, R: Random> Repeating<'_, T, C, Host<K, S,
     /// How long it is waited after a run that gave this value now. To the engine each run whose value is not wanted is
     /// one that failed, on nothing that could refuse a retry.
     fn after<E>(&self, progress: &mut Progress, value: T) -> Result<(Duration, T), RepeatError<T, E>> {
-        let (now, code) = (self.host.clock.moment(), (self.code)(&value).min(MAX_NUMBER));
-        let words = self.policy.words(|| self.host.random.draw());
-        let lost = Lost { now, code, words, retry_after: None };
-        match progress.lost(&Rules { policy: &self.policy, limit: &Unlimited, options: &self.options }, &lost) {
+        let (now, code) = (self.host.clock.moment(), (self.code)(&value));
+        let words = self.rules.policy.words(|| self.host.random.draw());
+        match progress.lost(&self.rules, now, &mut Lost::new(code, words, None)) {
             Ok(wait) => Ok((wait, value)),
             Err(ended) => Err(RepeatError::of(ended, value)),
         }
@@ -317,8 +306,8 @@ fn last<T, E>(ended: Result<T, RepeatError<T, E>>) -> Result<T, RepeatError<T, E
 impl<T, C, M> fmt::Debug for Repeating<'_, T, C, M> {
     fn fmt(&self, f: &mut fmt::Formatter<'_>) -> fmt::Result {
         f.debug_struct("Repeating")
-            .field("policy", &self.policy)
-            .field("deadline", &self.options.deadline)
+            .field("policy", &self.rules.policy)
+            .field("deadline", &self.rules.options.deadline)
             .finish_non_exhaustive()
     }
 }

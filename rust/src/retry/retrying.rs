@@ -1,12 +1,10 @@
 //! Retries of calls: their settings.
 
-use crate::limits::grants::{Grants, Limit, Source};
+use crate::limits::grants::Grants;
 use crate::policy::Policy;
 use crate::retry::hooks::{Hooked, Hooks, PlainHooks, SharedHooks};
 use crate::retry::host::{Host, SystemHost};
-use crate::retry::options::Options;
-use crate::retry::progress::Rules;
-use std::borrow::Cow;
+use crate::retry::rules::{CowLimit, Rules};
 use std::convert::Infallible;
 use std::fmt;
 use std::marker::PhantomData;
@@ -64,9 +62,7 @@ use std::time::{Duration, Instant};
 /// ```
 #[must_use = "nothing is called before `call` or `run`"]
 pub struct Retrying<'a, E, F = (), H = PlainHooks<E>, M = SystemHost, L = Infallible> {
-    policy: Cow<'a, Policy>,
-    pub(super) budget: CowLimit<'a>,
-    pub(super) options: Options,
+    pub(super) rules: Rules<'a>,
     call: F,
     pub(super) hooks: H,
     pub(super) host: M,
@@ -76,23 +72,6 @@ pub struct Retrying<'a, E, F = (), H = PlainHooks<E>, M = SystemHost, L = Infall
 /// A [`Retrying`] to keep: it owns its policy and its budget, and its hooks have one type. On a
 /// [`CallLimit`](crate::CallLimit) it is a `SharedRetrying<E, Refused>`.
 pub type SharedRetrying<E, L = Infallible> = Retrying<'static, E, (), SharedHooks<E>, SystemHost, L>;
-
-/// What a [`Retrying`] draws on.
-#[derive(Clone)]
-pub(super) enum CowLimit<'a> {
-    Borrowed(&'a dyn Limit),
-    Owned(Source),
-}
-
-impl CowLimit<'_> {
-    #[inline]
-    pub(super) fn get(&self) -> &dyn Limit {
-        match self {
-            Self::Borrowed(budget) => *budget,
-            Self::Owned(budget) => budget,
-        }
-    }
-}
 
 impl<'a, E> Retrying<'a, E> {
     /// Retries every error; each has the code 0.
@@ -109,9 +88,7 @@ impl<'a, E, F, L> Retrying<'a, E, F, PlainHooks<E>, SystemHost, L> {
     #[inline]
     pub(super) fn of(policy: &'a Policy, budget: &'a impl Grants<Refusal = L>, call: F) -> Self {
         Self {
-            policy: Cow::Borrowed(policy),
-            budget: CowLimit::Borrowed(budget),
-            options: Options::default(),
+            rules: Rules::new(policy, budget),
             call,
             hooks: Hooks::plain(),
             host: Host::system(),
@@ -124,9 +101,7 @@ impl<'a, E, F, H, M, L> Retrying<'a, E, F, H, M, L> {
     /// The limit on which each retry draws a ticket.
     pub fn budget<B: Grants>(self, budget: &'a B) -> Retrying<'a, E, F, H, M, B::Refusal> {
         Retrying {
-            policy: self.policy,
-            budget: CowLimit::Borrowed(budget),
-            options: self.options,
+            rules: Rules { limit: CowLimit::Borrowed(budget), ..self.rules },
             call: self.call,
             hooks: self.hooks,
             host: self.host,
@@ -136,7 +111,7 @@ impl<'a, E, F, H, M, L> Retrying<'a, E, F, H, M, L> {
 
     /// The longest wait that an error can ask for by [`Retrying::retry_after`]: six hours by default.
     pub fn max_retry_after(mut self, longest: Duration) -> Self {
-        self.options.max_retry_after = longest;
+        self.rules.options.max_retry_after = longest;
         self
     }
 
@@ -162,7 +137,7 @@ impl<'a, E, F, H, M, L> Retrying<'a, E, F, H, M, L> {
     /// # Ok::<(), hikebox::PolicyError>(())
     /// ```
     pub fn deadline(mut self, deadline: Duration) -> Self {
-        self.options.deadline = Some(deadline);
+        self.rules.options.deadline = Some(deadline);
         self
     }
 
@@ -186,14 +161,8 @@ impl<'a, E, F, H, M, L> Retrying<'a, E, F, H, M, L> {
     /// # }).unwrap();
     /// ```
     pub fn into_owned(self) -> Retrying<'static, E, F, H, M, L> {
-        let source = match self.budget {
-            CowLimit::Borrowed(budget) => budget.source(),
-            CowLimit::Owned(source) => source,
-        };
         Retrying {
-            policy: Cow::Owned(self.policy.into_owned()),
-            budget: CowLimit::Owned(source),
-            options: self.options,
+            rules: self.rules.into_owned(),
             call: self.call,
             hooks: self.hooks,
             host: self.host,
@@ -212,9 +181,7 @@ impl<'a, E, F, H, M, L> Retrying<'a, E, F, H, M, L> {
 
     fn with<I, O>(self, hooks: impl FnOnce(H) -> I, host: impl FnOnce(M) -> O) -> Retrying<'a, E, F, I, O, L> {
         Retrying {
-            policy: self.policy,
-            budget: self.budget,
-            options: self.options,
+            rules: self.rules,
             call: self.call,
             hooks: hooks(self.hooks),
             host: host(self.host),
@@ -224,12 +191,8 @@ impl<'a, E, F, H, M, L> Retrying<'a, E, F, H, M, L> {
 
     /// The settings, and the call.
     pub(super) fn parted(self) -> (Retrying<'a, E, (), H, M, L>, F) {
-        let Self { policy, budget, options, call, hooks, host, error } = self;
-        (Retrying { policy, budget, options, call: (), hooks, host, error }, call)
-    }
-
-    pub(super) fn rules(&self) -> Rules<'_> {
-        Rules { policy: &self.policy, limit: self.budget.get(), options: &self.options }
+        let Self { rules, call, hooks, host, error } = self;
+        (Retrying { rules, call: (), hooks, host, error }, call)
     }
 }
 
@@ -257,7 +220,7 @@ impl<'a, E, F, W, C, A, N, M, L> Retrying<'a, E, F, Hooks<W, C, A, N>, M, L> {
 
     /// Called before each retry with the error and the wait.
     pub fn notify<X: Fn(&E, Duration)>(mut self, notify: X) -> Retrying<'a, E, F, Hooks<W, C, A, X>, M, L> {
-        self.options.notifies = true;
+        self.rules.options.notifies = true;
         self.with(|Hooks { when, code, retry_after, .. }| Hooks { when, code, retry_after, notify }, |host| host)
     }
 }
@@ -285,9 +248,7 @@ impl<'a, E, F, H, K, S, R, L> Retrying<'a, E, F, H, Host<K, S, R>, L> {
 impl<E, F: Clone, H: Clone, M: Clone, L> Clone for Retrying<'_, E, F, H, M, L> {
     fn clone(&self) -> Self {
         Self {
-            policy: self.policy.clone(),
-            budget: self.budget.clone(),
-            options: self.options,
+            rules: self.rules.clone(),
             call: self.call.clone(),
             hooks: self.hooks.clone(),
             host: self.host.clone(),
@@ -299,10 +260,10 @@ impl<E, F: Clone, H: Clone, M: Clone, L> Clone for Retrying<'_, E, F, H, M, L> {
 impl<E, F, H, M, L> fmt::Debug for Retrying<'_, E, F, H, M, L> {
     fn fmt(&self, f: &mut fmt::Formatter<'_>) -> fmt::Result {
         f.debug_struct("Retrying")
-            .field("policy", &self.policy)
-            .field("budget", &self.budget.get().source())
-            .field("max_retry_after", &self.options.max_retry_after)
-            .field("deadline", &self.options.deadline)
+            .field("policy", &self.rules.policy)
+            .field("budget", &self.rules.limit().source())
+            .field("max_retry_after", &self.rules.options.max_retry_after)
+            .field("deadline", &self.rules.options.deadline)
             .finish_non_exhaustive()
     }
 }

@@ -4,8 +4,8 @@ use crate::clock::Moment;
 use crate::limits::grants::{Grants, Limit, Source};
 use crate::policy::Policy;
 use crate::random;
-use crate::retry::options::Options;
-use crate::retry::progress::{Lost, Progress, Rules};
+use crate::retry::progress::{Lost, Progress};
+use crate::retry::rules::Rules;
 use crate::system::ToTake;
 use ::tokio::time::{sleep, Sleep};
 use std::convert::Infallible;
@@ -109,10 +109,9 @@ type Outcome<A, Response, E> = Option<Arc<dyn Fn(Result<&Response, &E>) -> A + S
 
 /// What all requests of a layer have in common.
 pub(super) struct Settings<Request, Response, E> {
-    policy: Policy,
+    pub(super) rules: Rules<'static>,
     pub(super) source: Source,
     hears_of_successes: bool,
-    pub(super) options: Options,
     pub(super) copy: Copying<Request>,
     when: Asked<E, bool>,
     failed: Asked<Response, bool>,
@@ -138,10 +137,9 @@ impl<Request, Response, E> RetryPolicy<Request, Response, E> {
     ) -> RetryPolicy<Request, Response, E, Whenever, G::Refusal> {
         let source = budget.source();
         let settings = Settings {
-            policy,
+            rules: Rules::new(&policy, &source).into_owned(),
             hears_of_successes: source.hears_of_successes(),
             source,
-            options: Options::default(),
             copy: Arc::new(copy),
             when: None,
             failed: None,
@@ -191,7 +189,7 @@ impl<Request, Response, E, B: Noted, L> RetryPolicy<Request, Response, E, B, L> 
 
     /// The longest wait that a failure can ask for by [`RetryPolicy::retry_after`]: six hours by default.
     pub fn max_retry_after(mut self, longest: Duration) -> Self {
-        self.set().options.max_retry_after = longest;
+        self.set().rules.options.max_retry_after = longest;
         self
     }
 
@@ -199,7 +197,7 @@ impl<Request, Response, E, B: Noted, L> RetryPolicy<Request, Response, E, B, L> 
     /// run that it was promised even if its timer was late; [`Retrying::deadline`](crate::Retrying::deadline) does not.
     /// To end a run that is under way, add a layer of `tower::timeout`.
     pub fn deadline(mut self, deadline: Duration) -> RetryPolicy<Request, Response, E, Since, L> {
-        self.set().options.deadline = Some(deadline);
+        self.set().rules.options.deadline = Some(deadline);
         RetryPolicy::of(self.settings, Since(Moment::now()))
     }
 
@@ -245,11 +243,8 @@ pub(super) fn sleeping(wait: Duration) -> Option<Pin<Box<Sleep>>> {
 }
 
 impl<Request, Response, E> Settings<Request, Response, E> {
-    fn rules(&self) -> Rules<'_> {
-        Rules { policy: &self.policy, limit: &self.source, options: &self.options }
-    }
-
     /// The wait before a request that failed so now is made again, or `None` where it is not.
+    #[inline]
     pub(super) fn wait(
         &self,
         progress: &mut Progress,
@@ -258,8 +253,8 @@ impl<Request, Response, E> Settings<Request, Response, E> {
         result: Result<&Response, &E>,
     ) -> Option<Duration> {
         let retry_after = self.retry_after.as_ref().and_then(|retry_after| retry_after(result));
-        let lost = Lost { now, code, words: self.policy.words(random::next), retry_after };
-        progress.lost(&self.rules(), &lost).ok()
+        let words = self.rules.policy.words(random::next);
+        progress.lost(&self.rules, now, &mut Lost::new(code, words, retry_after)).ok()
     }
 
     /// The number by which the schedule knows what is a failure.
@@ -348,10 +343,9 @@ impl<Request, Response, E, B: Noted, L> Clone for RetryPolicy<Request, Response,
 impl<Request, Response, E> Clone for Settings<Request, Response, E> {
     fn clone(&self) -> Self {
         Self {
-            policy: self.policy.clone(),
+            rules: self.rules.clone(),
             source: self.source.clone(),
             hears_of_successes: self.hears_of_successes,
-            options: self.options,
             copy: self.copy.clone(),
             when: self.when.clone(),
             failed: self.failed.clone(),
@@ -365,9 +359,9 @@ impl<Request, Response, E> Clone for Settings<Request, Response, E> {
 impl<Request, Response, E, B, L> fmt::Debug for RetryPolicy<Request, Response, E, B, L> {
     fn fmt(&self, f: &mut fmt::Formatter<'_>) -> fmt::Result {
         f.debug_struct("RetryPolicy")
-            .field("policy", &self.settings.policy)
+            .field("policy", &self.settings.rules.policy)
             .field("budget", &self.settings.source)
-            .field("deadline", &self.settings.options.deadline)
+            .field("deadline", &self.settings.rules.options.deadline)
             .finish_non_exhaustive()
     }
 }
