@@ -3,10 +3,8 @@ use Rattle.std.proofs.Common.{◌≡◌, ℕ, if◌then◌else◌, ◌+◌, ◌<
 use Rattle.std.proofs.Common.{List, [], ◌∷◌, ◌++◌, length, min, Option, Some, None, is_some, IfSome, IsSomeAnd, refl}
 use Rattle.std.proofs.Common.{sym, ap, ◌∙◌, subst, arith}
 use Rattle.std.specs.Bool.{MatchBool}
-use Rattle.std.proofs.lemmas.Bool.{ltb-true, ltb-false, lt-ltb}
 use Rattle.std.proofs.lemmas.List.{append-nil, length_push}
 use Rattle.sched_time.specs.declared.numbers.Tick.{Tick}
-use Rattle.sched_plan.specs.Schedule.{Schedule}
 use Rattle.sched_effect.specs.Runs.{code_of}
 use Rattle.sched_effect.specs.declared.ran.Ran.{Ran}
 use Rattle.sched_task.specs.declared.endings.How.{How}
@@ -24,27 +22,19 @@ use Rattle.sched_task_law.proofs.Fields.{none_of}
 use Rattle.sched_task_law.proofs.Law.{under_way_then, finished_then, law_of_nothing, law_cancelled}
 use Rattle.sched_run_machine.specs.Drives.{Driving, SteppedOn}
 use Rattle.sched_run_machine.specs.Machine.{Machine, begins, unbegun, would_be_late, timed_out, breaks_off, cancelled}
-use Rattle.sched_run_machine.specs.Machine.{IsMachineOf, IsMachine, Looks, LeadsEach, PollsEach, Stops, Ends}
-use Rattle.sched_run_machine.specs.Machine.{TellsEnd, Cancels}
+use Rattle.sched_run_machine.specs.Machine.{IsMachineOf, IsMachine, Looks, LeadsEach, PollsEach, Stops, Ends, TellsEnd}
+use Rattle.sched_run_machine.specs.Machine.{Cancels}
 use Rattle.sched_run_machine.specs.Retrying.{Retrying, RetryLaw, Tells, Drawn, DrawsIn, HostPoll, given_up, GivesUp}
 use Rattle.sched_run_machine.proofs.Settles.{next, settles, rests}
 
 -- whatever happens in a poll, the deadline stays
 pub same_deadline : (kind : Kind) (v : Past) (t : Tick) (h : Happened) → (after kind v t h).deadline ≡ v.deadline
 same_deadline kind v t stays = refl
-same_deadline kind v t cannot_begin = refl
-same_deadline kind v t runs_on = refl
-same_deadline kind v t cannot_run = refl
-same_deadline kind v t (ends r) = refl
-same_deadline kind v t (breaks r fault) = refl
-same_deadline kind v t (stops_done r) = refl
-same_deadline kind v t (stops_denied r) = refl
-same_deadline kind v t (recurs r) = refl
-same_deadline kind v t times_out = refl
+same_deadline kind v t _ = refl
 
 -- what is under way does not begin too late
 never_late : (a b : Bool) → (a && (b && false)) ≡ false
-never_late a b = by_test a (λ yes. rw yes (by_test b (λ yes. rw yes refl) (λ no. rw no refl))) (λ no. rw no refl)
+never_late a b = grind arith
 
 pub running_in_time : {R D : Type 0} (deadline : Option ℕ) (m : Machine R D) (now : ℕ) → m.under_way ≡ true →
     would_be_late deadline m now ≡ false
@@ -52,11 +42,7 @@ running_in_time deadline m now running = rw running (never_late (is_past deadlin
 
 -- a number that is counted up to a limit is some where the number is
 some_counted : (told runs : ℕ) → told ≡ min runs 18446744073709551615 → nat_lt 0 told ≡ nat_lt 0 runs
-some_counted told runs is =
-    by_test (nat_lt 0 runs)
-    (λ some. rw some (lt-ltb 0 told (omega (arith, is, ltb-true 0 runs some))))
-    (λ none. rw none (by_test (nat_lt 0 told)
-    (λ some. absurd (omega (arith, is, ltb-true 0 told some, ltb-false 0 runs none))) (λ no. no)))
+some_counted told runs is = grind arith
 
 -- a task that gives up keeps its law
 pub law_given_up-not : {D : Type 0} (grants : Grants D) (lawful : Lawful grants) (kind : Kind) (v u : Retrying D) →
@@ -351,10 +337,7 @@ module _ {R D : Type 0} (driving : Driving R) (kind : Kind) (grants : Grants D) 
               )
               (x, told_run v r x st tells, last_told x y q came.2 last) holds refl
               (same_driver v s st came.1) same (idle v r st) refl refl refl (counted v r st)
-          stops_leads (Some how.Won) s x y q same tells came last holds v st = absurd came
-          stops_leads (Some how.Failed) s x y q same tells came last holds v st = absurd came
-          stops_leads (Some how.DeadlinePassed) s x y q same tells came last holds v st = absurd came
-          stops_leads (Some how.Cancelled) s x y q same tells came last holds v st = absurd came
+          stops_leads (Some _) s x y q same tells came last holds v st = absurd came
 
         -- it ends a run as it went
         ends_leads : (kept : keeps kind ≡ driving.keeps) (r : Ran) (over : Option How) (s : R) (q : D) →

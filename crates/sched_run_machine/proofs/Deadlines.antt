@@ -1,18 +1,18 @@
 -- A driver with a deadline plans the starts of its driver that are in time, and steps as that does.
-use Rattle.std.proofs.Common.{◌≡◌, ℕ, Bool, true, false, ◌||◌, List, [], ◌∷◌, Option, Some, None, is_some, is_none}
-use Rattle.std.proofs.Common.{IfSome, refl, sym, ap, ◌∙◌, arith}
+use Rattle.std.proofs.Common.{◌≡◌, ℕ, Bool, false, ◌||◌, List, [], ◌∷◌, Option, Some, None, is_some, is_none, IfSome}
+use Rattle.std.proofs.Common.{refl, sym, ap, ◌∙◌, arith}
 use Rattle.sched_time.specs.declared.numbers.Tick.{Tick}
 use Rattle.sched_plan.specs.Datum.{num}
 use Rattle.sched_plan.specs.Schedule.{Schedule}
 use Rattle.sched_plan.specs.declared.history.Event.{Event}
 use Rattle.sched_step.specs.StateOf.{event_of}
-use Rattle.sched_driver.specs.Driven.{Driven, next_start_of}
+use Rattle.sched_driver.specs.Driven.{Driven}
 use Rattle.sched_task_law.specs.Deadline.{is_past, in_time, late, earlier}
 use Rattle.sched_task_law.specs.Past.{schedule_is_done, next_start_by}
 use Rattle.sched_task_law.proofs.Lists.{by_test}
 use Rattle.sched_task_law.proofs.Journals.{start_by_both, done_some, done_after, past_earlier}
 use Rattle.sched_task_law.proofs.Law.{undone_yet, none_planned}
-use Rattle.sched_run_machine.specs.Drives.{Driving, Until, by_until, with_code, SteppedOn, Stepped}
+use Rattle.sched_run_machine.specs.Drives.{Driving, Until, by_until, with_code, Stepped}
 
 -- a start is past the earlier one where it is past one of both
 pub past_either : (a b : Option ℕ) (start : ℕ) → is_past a start ≡ false → is_past b start ≡ false →
@@ -35,7 +35,7 @@ starts_in_both a b start result is within = rw is (in_both a b start within)
 -- there is a start in time unless there is none or it is late
 late_or_in_time : (a start : Option ℕ) → is_none (in_time a start) ≡ (is_none start || is_some (late a start))
 late_or_in_time a None = refl
-late_or_in_time a (Some start) = by_test (is_past a start) (λ past. rw past refl) (λ isnt. rw isnt refl)
+late_or_in_time a (Some start) = grind arith
 
 -- the plan is done by both where it is by one of them, or has a start past the other
 done_parts : (a b : Option ℕ) (plan : Schedule) (h : List Event) →

@@ -1,6 +1,6 @@
 -- A poll of a task, of its machine and its runs, leaves one, whatever happens in it.
-use Rattle.std.proofs.Common.{◌≡◌, ℕ, ◌-◌, Bool, true, false, not, ◌||◌, if◌then◌else◌, List, [], ◌++◌, Option, Some}
-use Rattle.std.proofs.Common.{None, is_some, IfSome, refl, sym, ap, ◌∙◌, subst, arith}
+use Rattle.std.proofs.Common.{◌≡◌, ℕ, ◌-◌, Bool, true, false, not, ◌||◌, if◌then◌else◌, List, [], Option, Some, None}
+use Rattle.std.proofs.Common.{is_some, IfSome, refl, sym, ap, ◌∙◌, subst, arith}
 use Rattle.std.specs.Bool.{MatchBool}
 use Rattle.std.proofs.lemmas.List.{append-nil}
 use Rattle.sched_time.specs.declared.numbers.Tick.{Tick}
@@ -10,15 +10,15 @@ use Rattle.sched_ticket_draws.specs.Grants.{Grants, Lawful}
 use Rattle.sched_task.specs.declared.endings.How.{How}
 use Rattle.sched_task.specs.declared.endings.How.TheVariants as how
 use Rattle.sched_task_law.specs.Kind.{Kind}
-use Rattle.sched_task_law.specs.Past.{unstepped, nothing_yet, is_under_way, next_start_by, waits_by, waits_for}
+use Rattle.sched_task_law.specs.Past.{is_under_way, next_start_by, waits_by, waits_for}
 use Rattle.sched_task_law.specs.Law.{is_refused}
 use Rattle.sched_task_law.proofs.Lists.{by_test}
 use Rattle.sched_task_law.proofs.Fields.{none_of}
 use Rattle.sched_task_law.proofs.Events.{denied_is}
 use Rattle.sched_run_machine.specs.declared.runner.Polled.{Polled}
 use Rattle.sched_run_machine.specs.Drives.{Driving}
-use Rattle.sched_run_machine.specs.Machine.{Machine, begins, unbegun, would_be_late, cancelled, TimesOut, Cancels}
-use Rattle.sched_run_machine.specs.Machine.{IsMachineOf, Looks, PollsEach}
+use Rattle.sched_run_machine.specs.Machine.{Machine, would_be_late, cancelled, TimesOut, Cancels, IsMachineOf, Looks}
+use Rattle.sched_run_machine.specs.Machine.{PollsEach}
 use Rattle.sched_run_machine.specs.Of.{past_of, made_of, IsOf, IsTask}
 use Rattle.sched_run_machine.specs.Retrying.{RetryingOf, Retrying, RetryPoll, along, IsAlong, KeepsLaw, TaskPoll}
 use Rattle.sched_run_machine.specs.Retrying.{given_up, GivesUp}
@@ -34,6 +34,12 @@ late_idle deadline m now late =
     by_test m.under_way (λ running. absurd (let bad : false ≡ true = sym (running_in_time deadline m now running)
     ∙ late in cc))
     (λ idle. idle)
+
+-- what a poll of the run under way left, where the machine has one under way exactly where that goes on
+pub grown_by : {R D I F : Type 0} (item_code : I → ℕ) (fault_code : F → ℕ) (r s : Runs) (t : Tick)
+    (polled : Polled I F) (n : Machine R D) → RunPolls item_code fault_code r t polled s →
+    n.under_way ≡ leaves_run polled → Grows r s t (told_by item_code fault_code polled) n.under_way
+grown_by item_code fault_code r s t polled n ran under_way = rw under_way (grows item_code fault_code r s t polled ran)
 
 module _ {R D : Type 0} (driving : Driving R) (grants : Grants D) (lawful : Lawful grants) (kind : Kind) where
   -- its machine may stand for a task exactly where the task may be so
@@ -105,14 +111,6 @@ module _ {R D : Type 0} (driving : Driving R) (grants : Grants D) (lawful : Lawf
               (subst (λ (over : Option How). RetryPoll grants kind v t (is_some over) u) (sym st.over) was.1.poll),
           subst (λ (u : Retrying D). IsMachineOf driving kind grants n u) (sym same) st,
         )
-
-  -- what a poll of the run under way left, where the machine has one under way exactly where that goes on
-  pub grown_by : {I F : Type 0} (item_code : I → ℕ) (fault_code : F → ℕ) (r s : Runs) (t : Tick) (polled : Polled I F)
-      (n : Machine R D) → RunPolls item_code fault_code r t polled s → n.under_way ≡ leaves_run polled →
-      Grows r s t (told_by item_code fault_code polled) n.under_way
-  grown_by item_code fault_code r s t polled n ran under_way =
-      subst (λ (running : Bool). Grows r s t (told_by item_code fault_code polled) running) (sym under_way)
-      (grows item_code fault_code r s t polled ran)
 
   -- nothing finishes where the deadline ends it
   pub late_grows : (m n : Machine R D) (r : Runs) (t : Tick) → would_be_late (driving.ends m.driver) m t.now ≡ true →
@@ -204,36 +202,12 @@ module _ {R D : Type 0} (driving : Driving R) (grants : Grants D) (lawful : Lawf
       let granted : grants.granted m.drawing - m.had ≡ grants.granted q - m.had =
       ap (λ (n : ℕ). n - m.had) (sym (lawful.ends m.drawing (not m.under_way) q tells).same.granted) in
       let denied : is_refused m.over ≡ false = rw unended refl in
-      let gone : given_up v q ≡ along (made_of driving grants (cancelled m q) r true) of.0 =
-      (λ i. record {
-        past = record {
-          driver = of.0;
-          deadline = driving.ends m.driver;
-          runs = r.runs;
-          begun = r.begun;
-          over = Some how.Cancelled;
-          denied = denied i;
-          granted = granted i;
-        };
-        drawing = q;
-        had = m.had;
-        untaken = true;
-      }) in
-      let gone_of : made_of driving grants (cancelled m q) r true ≡ given_up (made_of driving grants m r untaken) q =
-      (λ i. record {
-        past = record {
-          driver = m.driver;
-          deadline = driving.ends m.driver;
-          runs = r.runs;
-          begun = r.begun;
-          over = Some how.Cancelled;
-          denied = sym denied i;
-          granted = sym granted i;
-        };
-        drawing = q;
-        had = m.had;
-        untaken = true;
-      }) in (
+      let u = given_up v q in
+      let gone : u ≡ along (made_of driving grants (cancelled m q) r true) of.0 =
+      λ i. record u { past = record u.past { denied = denied i; granted = granted i } } in
+      let w = made_of driving grants (cancelled m q) r true in
+      let gone_of : w ≡ given_up (made_of driving grants m r untaken) q =
+      λ i. record w { past = record w.past { denied = sym denied i; granted = sym granted i } } in (
         (of.0, subst (λ (u : Retrying D). IsMachineOf driving kind grants (cancelled m q) u) gone so.1),
         subst (λ (b : Bool). MatchBool b
             (made_of driving grants (cancelled m q) r true ≡ made_of driving grants m r untaken)
@@ -272,48 +246,6 @@ module _ {R D : Type 0} (driving : Driving R) (grants : Grants D) (lawful : Lawf
           told = st.told;
         },
       )
-
-  none_granted : (p : D) → grants.granted p - grants.granted p ≡ 0
-  none_granted p = omega arith
-
-  -- one that has not begun
-  pub is_new : {E : Type 0} (fits : Option How → List Ran → E → Type 0) (d : R) (p : D) (m : Machine R D) (r : Runs) →
-      m ≡ begins grants d p → r.runs ≡ [] → r.begun ≡ [] →
-      IsMachineOf driving kind grants m (unbegun grants (driving.plan d) (driving.ends d) p) →
-      IsTask driving grants kind fits m r None
-  is_new fits d p m r same runs begun stands =
-      let made : along (made_of driving grants m r false) (unstepped (driving.plan d)) ≡ unbegun grants (driving.plan d)
-      (driving.ends d) p =
-      (λ i. record {
-        past = record {
-          driver = unstepped (driving.plan d);
-          deadline = ap (λ (m : Machine R D). driving.ends m.driver) same i;
-          runs = runs i;
-          begun = begun i;
-          over = ap (λ (m : Machine R D). m.over) same i;
-          denied = ap (λ (m : Machine R D). is_refused m.over) same i;
-          granted = (ap (λ (m : Machine R D). grants.granted m.drawing - m.had) same ∙ none_granted p) i;
-        };
-        drawing = ap (λ (m : Machine R D). m.drawing) same i;
-        had = ap (λ (m : Machine R D). m.had) same i;
-        untaken = false;
-      }) in (
-        (unstepped (driving.plan d), subst (λ (v : Retrying D). IsMachineOf driving kind grants m v) (sym made) stands),
-        tt,
-      )
-
-  -- the task that is made so has done nothing
-  pub new_so : (d : R) (p : D) (m : Machine R D) (r : Runs) → m ≡ begins grants d p → r.runs ≡ [] → r.begun ≡ [] →
-      (made_of driving grants m r false).past ≡ nothing_yet d (driving.ends d)
-  new_so d p m r same runs begun i = record {
-    driver = ap (λ (m : Machine R D). m.driver) same i;
-    deadline = ap (λ (m : Machine R D). driving.ends m.driver) same i;
-    runs = runs i;
-    begun = begun i;
-    over = ap (λ (m : Machine R D). m.over) same i;
-    denied = ap (λ (m : Machine R D). is_refused m.over) same i;
-    granted = (ap (λ (m : Machine R D). grants.granted m.drawing - m.had) same ∙ none_granted p) i;
-  }
 
   -- it waits for what it waits for by its journal
   pub made_waits : ((s : R) (d : Driven) → driving.stands s d → driving.starts s ≡ next_start_by (driving.ends s) d) →

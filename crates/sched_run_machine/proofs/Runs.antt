@@ -8,11 +8,11 @@ use Rattle.sched_effect.specs.Runs.{ran_by}
 use Rattle.sched_effect.specs.declared.ran.Ran.{Ran}
 use Rattle.sched_task_law.specs.Kind.{Kind}
 use Rattle.sched_task_law.specs.Past.{Past, is_under_way, waits_for}
-use Rattle.sched_task_law.specs.Poll.{Happened, stays, cannot_begin, runs_on, cannot_run, ends, breaks, stops_done}
-use Rattle.sched_task_law.specs.Poll.{stops_denied, recurs, times_out, begun_by, after, IsDue, May, OnePoll}
+use Rattle.sched_task_law.specs.Poll.{Happened, stays, cannot_begin, runs_on, cannot_run, times_out, begun_by, after}
+use Rattle.sched_task_law.specs.Poll.{IsDue, May, OnePoll}
 use Rattle.sched_task_law.specs.Law.{HasOneMore}
 use Rattle.sched_run_machine.specs.declared.runner.Polled.{Polled}
-use Rattle.sched_run_machine.specs.declared.runner.Polled.TheVariants.{CannotBegin, Pending, CannotRun, Finished}
+use Rattle.sched_run_machine.specs.declared.runner.Polled.TheVariants.{CannotBegin, Finished}
 use Rattle.sched_task_law.specs.Lists.{last_element}
 use Rattle.sched_task_law.proofs.Lists.{last_element-push}
 use Rattle.sched_task_law.proofs.Law.{under_way_then, finished_then, late_after}
@@ -56,12 +56,8 @@ module _ (kind : Kind) (v : Past) (t : Tick) (counted : (length v.begun ≡ leng
   begun_after cannot_begin may grown = rw (nothing_told v.runs told grown, may.1) refl
   begun_after runs_on may grown = rw (under_way_then v t counted) refl
   begun_after cannot_run may grown = rw (under_way_then v t counted) refl
-  begun_after (ends r) may grown = finished_so r grown
-  begun_after (breaks r fault) may grown = finished_so r grown
-  begun_after (stops_done r) may grown = finished_so r grown
-  begun_after (stops_denied r) may grown = finished_so r grown
-  begun_after (recurs r) may grown = finished_so r grown
   begun_after times_out may grown = rw (nothing_told v.runs told grown, (late_after v t.now may.1).2) refl
+  begun_after _ may grown = finished_so _ grown
 
   pub begun_then : (u : Past) (ready : Bool) → OnePoll kind v t ready u → u.runs ≡ v.runs ++ told → Begins u
   begun_then u ready poll grown =
@@ -76,39 +72,21 @@ pub record Grows (r s : Runs) (t : Tick) (told : List Ran) (running : Bool) : Ty
 module _ {I F : Type 0} (item_code : I → ℕ) (fault_code : F → ℕ) (r s : Runs) (t : Tick) where
   pub grows : (polled : Polled I F) → RunPolls item_code fault_code r t polled s →
       Grows r s t (told_by item_code fault_code polled) (leaves_run polled)
-  grows CannotBegin polls = record {
-    runs = ap (λ (s : Runs). s.runs) polls.1 ∙ sym (append-nil r.runs);
-    begun = ap (λ (s : Runs). s.begun) polls.1;
-  }
-  grows Pending polls = record {
-    runs = ap (λ (s : Runs). s.runs) polls ∙ sym (append-nil r.runs);
-    begun = ap (λ (s : Runs). s.begun) polls;
-  }
-  grows CannotRun polls = record {
-    runs = ap (λ (s : Runs). s.runs) polls ∙ sym (append-nil r.runs);
-    begun = ap (λ (s : Runs). s.begun) polls;
-  }
-  grows (Finished run) polls = record {
-    runs = ap (λ (s : Runs). s.runs) polls;
-    begun = ap (λ (s : Runs). s.begun) polls;
-  }
+  grows CannotBegin polls = rw polls.1 (record { runs = sym (append-nil r.runs); begun = refl })
+  grows (Finished run) polls = rw polls (record { runs = refl; begun = refl })
+  grows _ polls = rw polls (record { runs = sym (append-nil r.runs); begun = refl })
 
   -- nothing is polled only where no run is under way
   pub idle_by : (polled : Polled I F) → RunPolls item_code fault_code r t polled s → polls_run polled ≡ false →
       is_under_way r.runs r.begun ≡ false
   idle_by CannotBegin polls none = polls.0
-  idle_by Pending polls none = absurd cc
-  idle_by CannotRun polls none = absurd cc
-  idle_by (Finished run) polls none = absurd cc
+  idle_by _ polls none = absurd cc
 
 -- the run that a poll ended is the last one
 pub last_told : {I F : Type 0} (item_code : I → ℕ) (fault_code : F → ℕ) (before runs : List Ran) (polled : Polled I F)
     (run : Result I F) → given_by polled ≡ Some run → runs ≡ before ++ told_by item_code fault_code polled →
     last_element runs ≡ Some (ran_by item_code fault_code run)
-last_told ic fc before runs CannotBegin run gave grown = absurd cc
-last_told ic fc before runs Pending run gave grown = absurd cc
-last_told ic fc before runs CannotRun run gave grown = absurd cc
 last_told {I} {F} ic fc before runs (Finished given) run gave grown =
     let same : given ≡ run = cc in
-    ap last_element (grown ∙ ap (λ (run : Result I F). before ++ ran_by ic fc run ∷ []) same)
-    ∙ last_element-push before (ran_by ic fc run)
+    rw (grown, same) (last_element-push before (ran_by ic fc run))
+last_told ic fc before runs _ run gave grown = absurd cc

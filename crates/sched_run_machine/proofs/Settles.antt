@@ -1,6 +1,6 @@
 -- What a poll of a retry or a repeat does keeps its law, whatever happens in it.
-use Rattle.std.proofs.Common.{◌≡◌, ℕ, ◌+◌, Bool, true, false, if◌then◌else◌, Option, Some, None, is_some}
-use Rattle.std.proofs.Common.{refl, sym, ap, ◌∙◌, subst, arith}
+use Rattle.std.proofs.Common.{◌≡◌, ℕ, ◌+◌, Bool, true, false, if◌then◌else◌, Option, Some, None, is_some, refl, sym, ap}
+use Rattle.std.proofs.Common.{◌∙◌, subst, arith}
 use Rattle.sched_time.specs.declared.numbers.Tick.{Tick}
 use Rattle.sched_ticket_draws.specs.Grants.{Grants, Lawful, IsTold}
 use Rattle.sched_effect.specs.declared.ran.Ran.{Ran}
@@ -8,8 +8,8 @@ use Rattle.sched_effect.specs.declared.ran.Ran.TheVariants.{Won, Lost}
 use Rattle.sched_task.specs.declared.endings.How.{How}
 use Rattle.sched_task_law.specs.Kind.{Kind, draws}
 use Rattle.sched_task_law.specs.Past.{Past, is_stopped}
-use Rattle.sched_task_law.specs.Poll.{Happened, stays, cannot_begin, runs_on, cannot_run, ends, breaks, stops_done}
-use Rattle.sched_task_law.specs.Poll.{stops_denied, recurs, times_out, after, May}
+use Rattle.sched_task_law.specs.Poll.{Happened, stays, cannot_begin, runs_on, cannot_run, stops_denied, recurs}
+use Rattle.sched_task_law.specs.Poll.{times_out, after, May}
 use Rattle.sched_task_law.proofs.Lists.{by_test}
 use Rattle.sched_task_law.proofs.Fields.{none_of}
 use Rattle.sched_task_law.proofs.Law.{law_after}
@@ -53,72 +53,51 @@ module _ {D : Type 0} (grants : Grants D) (lawful : Lawful grants) where
   stands_ended None p q same holds = subst grants.stands (sym same) holds
   stands_ended (Some how) p q tells holds = (lawful.ends p false q tells).same.stands holds
 
-  same_granted : (p q : D) → q ≡ p → grants.granted q ≡ grants.granted p
-  same_granted p q same = ap (λ (d : D). grants.granted d) same
+  still : (p q : D) → q ≡ p → IsTold grants p q
+  still p q same =
+      rw same (record { same = record { name = refl; granted = refl; stands = λ holds. holds }; refused = λ is. is })
 
-  granted_after : (kind : Kind) (v : Retrying D) (t : Tick) (h : Happened) (q : D) →
-      grants.granted v.drawing ≡ v.had + v.past.granted → DrawsIn grants (draws kind) h t.now v.drawing q →
-      grants.granted q ≡ v.had + (after kind v.past t h).granted
-  granted_after kind v t stays q was drew = same_granted v.drawing q drew ∙ was
-  granted_after kind v t cannot_begin q was drew = (lawful.ends v.drawing true q drew).same.granted ∙ was
-  granted_after kind v t runs_on q was drew = same_granted v.drawing q drew ∙ was
-  granted_after kind v t cannot_run q was drew = (lawful.ends v.drawing false q drew).same.granted ∙ was
-  granted_after kind v t (ends r) q was drew = (told_last r t.now v.drawing q drew).same.granted ∙ was
-  granted_after kind v t (breaks r fault) q was drew = (told_last r t.now v.drawing q drew).same.granted ∙ was
-  granted_after kind v t (stops_done r) q was drew = (told_last r t.now v.drawing q drew).same.granted ∙ was
-  granted_after kind v t (stops_denied r) q was drew =
-      (lawful.ends drew.1 false q drew.4).same.granted ∙ lawful.counts drew.0 t.now false drew.1 drew.3
-      ∙ (told r t.now v.drawing drew.0 drew.2).same.granted ∙ was
-  granted_after kind v t (recurs r) q was drew =
-      let before = (told r t.now v.drawing drew.0 drew.1).same.granted ∙ was in
-      by_test (draws kind)
-      (λ drawn.
-      let one = lawful.counts drew.0 t.now true q (rw drawn at drew.2) in
-      rw drawn (rw (one, before) (omega arith)))
-      (λ free. rw free (same_granted drew.0 q (rw free at drew.2) ∙ before))
-  granted_after kind v t times_out q was drew = (lawful.ends v.drawing true q drew).same.granted ∙ was
+  -- A poll draws on the same budget, and its tickets and its refusal are those of what it draws by.
+  module _ (kind : Kind) (v : Retrying D) (t : Tick) (q : D) (law : RetryLaw grants kind v) where
+    record Drew (h : Happened) : Type 0 where
+      name : grants.name q ≡ grants.name v.drawing
+      granted : grants.granted q ≡ v.had + (after kind v.past t h).granted
+      denied : (after kind v.past t h).denied ≡ true → grants.refused q
 
-  same_refused : (denied : Bool) (p q : D) → (denied ≡ true → grants.refused p) → q ≡ p → denied ≡ true →
-      grants.refused q
-  same_refused denied p q was same is = subst grants.refused (sym same) (was is)
+    drew_none : (h : Happened) → IsTold grants v.drawing q → (after kind v.past t h).granted ≡ v.past.granted →
+        (after kind v.past t h).denied ≡ v.past.denied → Drew h
+    drew_none h told granted denied = record {
+      name = told.same.name;
+      granted = told.same.granted ∙ law.granted ∙ ap (λ (n : ℕ). v.had + n) (sym granted);
+      denied = λ is. told.refused (law.denied (sym denied ∙ is));
+    }
 
-  denied_after : (kind : Kind) (v : Retrying D) (t : Tick) (h : Happened) (q : D) →
-      (v.past.denied ≡ true → grants.refused v.drawing) →
-      May kind v.past t h → DrawsIn grants (draws kind) h t.now v.drawing q → (after kind v.past t h).denied ≡ true →
-      grants.refused q
-  denied_after kind v t stays q was may drew = same_refused v.past.denied v.drawing q was drew
-  denied_after kind v t cannot_begin q was may drew = λ is. (lawful.ends v.drawing true q drew).refused (was is)
-  denied_after kind v t runs_on q was may drew = same_refused v.past.denied v.drawing q was drew
-  denied_after kind v t cannot_run q was may drew = λ is. (lawful.ends v.drawing false q drew).refused (was is)
-  denied_after kind v t (ends r) q was may drew = λ is. (told_last r t.now v.drawing q drew).refused (was is)
-  denied_after kind v t (breaks r fault) q was may drew = λ is. (told_last r t.now v.drawing q drew).refused (was is)
-  denied_after kind v t (stops_done r) q was may drew = λ is. (told_last r t.now v.drawing q drew).refused (was is)
-  denied_after kind v t (stops_denied r) q was may drew = λ yes.
-      (lawful.ends drew.1 false q drew.4).refused (lawful.denies drew.0 t.now drew.1 drew.3)
-  denied_after kind v t (recurs r) q was may drew = λ is. absurd (denied_stops v.past is may.0.can.is_due.unstopped)
-  denied_after kind v t times_out q was may drew = λ is. (lawful.ends v.drawing true q drew).refused (was is)
-
-  same_name : (p q : D) → q ≡ p → grants.name q ≡ grants.name p
-  same_name p q same = ap (λ (d : D). grants.name d) same
-
-  -- every poll draws on the same budget
-  named_after : (kind : Kind) (t : Tick) (h : Happened) (p q : D) → DrawsIn grants (draws kind) h t.now p q →
-      grants.name q ≡ grants.name p
-  named_after kind t stays p q drew = same_name p q drew
-  named_after kind t cannot_begin p q drew = (lawful.ends p true q drew).same.name
-  named_after kind t runs_on p q drew = same_name p q drew
-  named_after kind t cannot_run p q drew = (lawful.ends p false q drew).same.name
-  named_after kind t (ends r) p q drew = (told_last r t.now p q drew).same.name
-  named_after kind t (breaks r fault) p q drew = (told_last r t.now p q drew).same.name
-  named_after kind t (stops_done r) p q drew = (told_last r t.now p q drew).same.name
-  named_after kind t (stops_denied r) p q drew =
-      (lawful.ends drew.1 false q drew.4).same.name ∙ lawful.keeps drew.0 t.now false drew.1 drew.3
-      ∙ (told r t.now p drew.0 drew.2).same.name
-  named_after kind t (recurs r) p q drew =
-      let before = (told r t.now p drew.0 drew.1).same.name in
-      by_test (draws kind) (λ drawn. lawful.keeps drew.0 t.now true q (rw drawn at drew.2) ∙ before)
-      (λ free. same_name drew.0 q (rw free at drew.2) ∙ before)
-  named_after kind t times_out p q drew = (lawful.ends p true q drew).same.name
+    drew_in : (h : Happened) → May kind v.past t h → DrawsIn grants (draws kind) h t.now v.drawing q → Drew h
+    drew_in stays may drew = drew_none stays (still v.drawing q drew) refl refl
+    drew_in runs_on may drew = drew_none runs_on (still v.drawing q drew) refl refl
+    drew_in cannot_run may drew = drew_none cannot_run (lawful.ends v.drawing false q drew) refl refl
+    drew_in cannot_begin may drew = drew_none cannot_begin (lawful.ends v.drawing true q drew) refl refl
+    drew_in times_out may drew = drew_none times_out (lawful.ends v.drawing true q drew) refl refl
+    drew_in (stops_denied r) may drew =
+        let before = (told r t.now v.drawing drew.0 drew.2).same in
+        let over = lawful.ends drew.1 false q drew.4 in
+        record {
+          name = over.same.name ∙ lawful.keeps drew.0 t.now false drew.1 drew.3 ∙ before.name;
+          granted = over.same.granted ∙ lawful.counts drew.0 t.now false drew.1 drew.3 ∙ before.granted ∙ law.granted;
+          denied = λ yes. over.refused (lawful.denies drew.0 t.now drew.1 drew.3);
+        }
+    drew_in (recurs r) may drew =
+        let before = told r t.now v.drawing drew.0 drew.1 in
+        by_test (draws kind)
+        (λ drawn. let taken = rw drawn at drew.2 in record {
+          name = lawful.keeps drew.0 t.now true q taken ∙ before.same.name;
+          granted = rw drawn (rw (lawful.counts drew.0 t.now true q taken, before.same.granted ∙ law.granted)
+              (omega arith));
+          denied = λ is. absurd (denied_stops v.past is may.0.can.is_due.unstopped);
+        })
+        (λ free. drew_none (recurs r) (told_on v.drawing drew.0 q before (still drew.0 q (rw free at drew.2)))
+        (rw free refl) refl)
+    drew_in h may drew = drew_none h (told_last _ t.now v.drawing q drew) refl refl
 
   -- the task after a poll in which this happened
   abbrev pub next : Kind → Retrying D → Tick → Happened → D → Retrying D
@@ -132,22 +111,24 @@ module _ {D : Type 0} (grants : Grants D) (lawful : Lawful grants) where
   pub settles : (kind : Kind) (v : Retrying D) (t : Tick) (h : Happened) (q : D) → RetryLaw grants kind v →
       v.past.over ≡ None → May kind v.past t h → DrawsIn grants (draws kind) h t.now v.drawing q → grants.stands q →
       Settled kind v t (is_some (after kind v.past t h).over) (next kind v t h q)
-  settles kind v t h q law unended may drew holds = record {
-    law = record {
-      law = law_after kind v.past t h law.law may;
-      granted = granted_after kind v t h q law.granted drew;
-      denied = denied_after kind v t h q law.denied may drew;
-      stands = holds;
-      untaken = λ yes. yes;
-    };
-    poll = record {
-      poll = record { happened = h; may = may; leaves = refl; ready_is = refl };
-      drawing = drew;
-      budget = named_after kind t h v.drawing q drew;
-      had = refl;
-      untaken = rw unended refl;
-    };
-  }
+  settles kind v t h q law unended may drew holds =
+      let did = drew_in kind v t q law h may drew in
+      record {
+        law = record {
+          law = law_after kind v.past t h law.law may;
+          granted = did.granted;
+          denied = did.denied;
+          stands = holds;
+          untaken = λ yes. yes;
+        };
+        poll = record {
+          poll = record { happened = h; may = may; leaves = refl; ready_is = refl };
+          drawing = drew;
+          budget = did.name;
+          had = refl;
+          untaken = rw unended refl;
+        };
+      }
 
   untaken_false : (kind : Kind) (v : Retrying D) → RetryLaw grants kind v → v.past.over ≡ None → v.untaken ≡ false
   untaken_false kind v law unended =

@@ -1,6 +1,6 @@
 -- The tickets of a retry, and the events of its journal.
-use Rattle.std.proofs.Common.{◌≡◌, ℕ, suc, ◌+◌, ◌<◌, Bool, true, false, not, List, [], ◌∷◌, map, take, length}
-use Rattle.std.proofs.Common.{Option, Some, None, refl, sym, ap, ◌∙◌, arith}
+use Rattle.std.proofs.Common.{◌≡◌, ℕ, suc, ◌+◌, ◌<◌, Bool, true, false, not, List, [], ◌∷◌, map, take, length, Option}
+use Rattle.std.proofs.Common.{Some, None, refl, sym, ap, ◌∙◌, arith}
 use Rattle.std.specs.List.{sum_by, count_by}
 use Rattle.std.proofs.lemmas.List.Sums.{sum_by-cons}
 use Rattle.sched_plan.specs.History.{prefixes}
@@ -8,11 +8,9 @@ use Rattle.sched_plan.specs.Answer.{is_done}
 use Rattle.sched_plan.specs.declared.history.Event.{Event}
 use Rattle.sched_task.specs.declared.endings.How.{How}
 use Rattle.sched_task.specs.declared.endings.How.TheVariants.{Won, ScheduleDone, BudgetRefused, DeadlinePassed, Failed}
-use Rattle.sched_task.specs.declared.endings.How.TheVariants.{Cancelled, Broken}
 use Rattle.sched_task_law.specs.Kind.{Kind, repeats}
 use Rattle.sched_task_law.specs.Past.{Past, decision_on, schedule_is_done, is_stopped, recurrences, bit}
 use Rattle.sched_task_law.specs.Law.{Law, Ended, is_stop, is_refused}
-use Rattle.sched_task_law.proofs.Lists.{by_test}
 use Rattle.sched_task_law.proofs.Journals.{is_done_some}
 use Rattle.sched_task_law.proofs.Law.{or_false}
 
@@ -25,8 +23,7 @@ sum_by-map f g (x ∷ xs) =
 passing : (test : List Event → Bool) (e : Event) (h : List Event) →
     ((n : ℕ) → 0 < n → n < length (e ∷ h) → test (take n (e ∷ h)) ≡ true) →
     count_by test (prefixes (e ∷ h)) + bit (not (test (e ∷ h))) ≡ length (e ∷ h)
-passing test e [] before =
-    by_test (test (e ∷ [])) (λ yes. rw yes refl) (λ no. rw no refl)
+passing test e [] before = grind arith
 passing test e (d ∷ h) before =
     let first : test (e ∷ []) ≡ true = before 1 (omega arith) (omega arith) in
     let rest = passing (λ p. test (e ∷ p)) d h (λ n some small. before (suc n) (omega arith) (omega arith)) in
@@ -35,10 +32,6 @@ passing test e (d ∷ h) before =
     sum_by-cons (λ p. bit (test p)) (e ∷ []) (map (λ p. e ∷ p) (prefixes (d ∷ h)))
     ∙ ap (λ n. bit (test (e ∷ [])) + n) (sum_by-map (λ p. bit (test p)) (λ p. e ∷ p) (prefixes (d ∷ h))) in
     rw (split, first) (omega (arith, rest))
-
-not_not : (b : Bool) → not (not b) ≡ b
-not_not true = refl
-not_not false = refl
 
 -- the schedule goes on at each event but the last, where it is done
 went : (deadline : Option ℕ) (plan : _) (h : List Event) →
@@ -51,7 +44,7 @@ went deadline plan (e ∷ h) before =
     let done = is_done_some deadline (record { plan = plan; journal = e ∷ h }) (omega arith) in
     let all = passing (λ p. not (is_done (decision_on deadline plan p))) e h
     (λ n some small. ap not (before n some small)) in
-    rw done (rw (not_not (is_done (decision_on deadline plan (e ∷ h)))) at all)
+    rw done (grind (arith, all))
 
 pub undenied : (v : Past) → is_stopped v ≡ false → v.denied ≡ false
 undenied v unstopped = (or_false v.denied (schedule_is_done v.deadline v.driver) unstopped).0
@@ -63,14 +56,12 @@ none_stopped v unstopped =
 stop_bit : (kind : Kind) → repeats kind ≡ false → (v : Past) (over : Option How) → Ended kind v over →
     (v.denied ≡ true → schedule_is_done v.deadline v.driver ≡ false) →
     bit (is_stop over) ≡ bit v.denied + bit (schedule_is_done v.deadline v.driver)
-stop_bit kind retries v None ended apart = none_stopped v ended
 stop_bit kind retries v (Some Won) ended apart = none_stopped v ended.1
 stop_bit kind retries v (Some ScheduleDone) ended apart = rw (ended.0, ended.1) refl
 stop_bit kind retries v (Some BudgetRefused) ended apart = rw (ended, apart ended) refl
 stop_bit kind retries v (Some DeadlinePassed) ended apart = none_stopped v ended.0
 stop_bit kind retries v (Some Failed) ended apart = absurd (let bad : true ≡ false = sym ended.0 ∙ retries in cc)
-stop_bit kind retries v (Some Cancelled) ended apart = none_stopped v ended
-stop_bit kind retries v (Some (Broken fault)) ended apart = none_stopped v ended
+stop_bit kind retries v _ ended apart = none_stopped v ended
 
 -- the tickets of a retry are as many as its events, less one at a stop
 pub events_law : (kind : Kind) → repeats kind ≡ false → (v : Past) → Law kind v →
@@ -83,11 +74,9 @@ events_law kind retries v law =
 
 -- a task is denied where its budget refused it
 pub denied_is : (kind : Kind) (v : Past) (over : Option How) → Ended kind v over → v.denied ≡ is_refused over
-denied_is kind v None ended = undenied v ended
 denied_is kind v (Some Won) ended = undenied v ended.1
 denied_is kind v (Some ScheduleDone) ended = ended.1
 denied_is kind v (Some BudgetRefused) ended = ended
 denied_is kind v (Some DeadlinePassed) ended = undenied v ended.0
 denied_is kind v (Some Failed) ended = undenied v ended.1
-denied_is kind v (Some Cancelled) ended = undenied v ended
-denied_is kind v (Some (Broken fault)) ended = undenied v ended
+denied_is kind v _ ended = undenied v ended

@@ -2,7 +2,6 @@
 use Rattle.std.proofs.Common.{◌≡◌, ℕ, ◌+◌, ◌<◌, true, false, not, ◌||◌, nat_lt, min, List, [], ◌∷◌, ◌++◌, map, filter}
 use Rattle.std.proofs.Common.{length, Option, Some, None, option_map, is_none, IsSome, refl, sym, ap, ◌∙◌, arith}
 use Rattle.std.proofs.Common.{append-nil}
-use Rattle.std.proofs.lemmas.Bool.{ltb-true, ltb-false, lt-ltb}
 use Rattle.std.specs.List.{count_by}
 use Rattle.std.proofs.lemmas.List.{map-append, length_push}
 use Rattle.std.proofs.lemmas.List.Elements.{filter-append}
@@ -14,7 +13,7 @@ use Rattle.sched_plan.specs.Datum.{Datum, num}
 use Rattle.sched_plan.specs.Schedule.{Schedule}
 use Rattle.sched_plan.specs.History.{prefixes}
 use Rattle.sched_plan.proofs.HistoryLaws.{prefixes-push}
-use Rattle.sched_plan.specs.Answer.{is_done}
+use Rattle.sched_plan.specs.Answer.{answer, is_done}
 use Rattle.sched_plan.specs.declared.history.Event.{Event}
 use Rattle.sched_plan.specs.declared.history.Answer.{Answer}
 use Rattle.sched_driver_tree.specs.Standing.{start_planned}
@@ -22,10 +21,9 @@ use Rattle.sched_driver.specs.Driven.{Driven, last_answer, next_start_of, after}
 use Rattle.sched_effect.specs.Runs.{code_of}
 use Rattle.sched_effect.specs.declared.ran.Ran.{Ran}
 use Rattle.sched_task_law.specs.Kind.{Kind, calls}
-use Rattle.sched_task_law.specs.Deadline.{in_time, ended_by, earlier}
+use Rattle.sched_task_law.specs.Deadline.{in_time, ended_by, until, earlier}
 use Rattle.sched_task_law.specs.Past.{decision_on, last_by, was_done, schedule_is_done, next_start_by, recurrences}
 use Rattle.sched_task_law.specs.Past.{inputs, called_inputs, bit}
-use Rattle.sched_task_law.proofs.Lists.{by_test}
 
 pub inputs-push : (h : List Event) (e : Event) → inputs (h ++ e ∷ []) ≡ inputs h ++ e.input ∷ []
 inputs-push h e = map-append (λ (d : Event). d.input) h (e ∷ [])
@@ -42,18 +40,21 @@ called_inputs-same kind rs r called =
     rw (filter-append (calls kind) rs (r ∷ [])) (rw called
     (ap (map (λ (x : Ran). num (code_of x))) (append-nil (filter (calls kind) rs))))
 
-was_done-push : (deadline : Option ℕ) (s : Schedule) (h : List Event) (e : Event) →
-    was_done (last_by deadline (record { plan = s; journal = h ++ e ∷ [] })) ≡
-    is_done (decision_on deadline s (h ++ e ∷ []))
-was_done-push None s [] e = refl
-was_done-push None s (d ∷ h) e = refl
-was_done-push (Some end) s [] e = refl
-was_done-push (Some end) s (d ∷ h) e = refl
+-- the answer to the last of some events
+last_at : (deadline : Option ℕ) (s : Schedule) (h : List Event) → 0 < length h →
+    last_by deadline (record { plan = s; journal = h }) ≡ Some (until deadline (answer s) h)
+last_at deadline s [] some = absurd (omega arith)
+last_at None s (e ∷ h) some = refl
+last_at (Some end) s (e ∷ h) some = refl
 
--- the schedule is done after a step where it decides so
-pub schedule_is_done-push : (deadline : Option ℕ) (d : Driven) (e : Event) →
-    schedule_is_done deadline (after d e) ≡ is_done (decision_on deadline d.plan (d.journal ++ e ∷ []))
-schedule_is_done-push deadline d e = was_done-push deadline d.plan d.journal e
+pub is_done_some : (deadline : Option ℕ) (d : Driven) → 0 < length d.journal →
+    schedule_is_done deadline d ≡ is_done (decision_on deadline d.plan d.journal)
+is_done_some deadline d some = ap was_done (last_at deadline d.plan d.journal some)
+
+-- after a step the next start is that of its answer
+pub next_start_some : (deadline : Option ℕ) (d : Driven) → 0 < length d.journal →
+    next_start_by deadline d ≡ start_of (decision_on deadline d.plan d.journal)
+next_start_some deadline d some = ap start_planned (last_at deadline d.plan d.journal some)
 
 pub recurrences-push : (deadline : Option ℕ) (d : Driven) (e : Event) →
     recurrences deadline (after d e) ≡ recurrences deadline d + bit (not (schedule_is_done deadline (after d e)))
@@ -61,28 +62,8 @@ recurrences-push deadline d e =
     let goes = λ (h : List Event). not (is_done (decision_on deadline d.plan h)) in
     ap (count_by goes) (prefixes-push d.journal e)
     ∙ sum_by_push (λ (h : List Event). bit (goes h)) (prefixes d.journal) (d.journal ++ e ∷ [])
-    ∙ ap (λ b. recurrences deadline d + bit (not b)) (sym (schedule_is_done-push deadline d e))
-
-done_at : (deadline : Option ℕ) (s : Schedule) (h : List Event) → 0 < length h →
-    was_done (last_by deadline (record { plan = s; journal = h })) ≡ is_done (decision_on deadline s h)
-done_at deadline s [] some = absurd (omega arith)
-done_at None s (e ∷ h) some = refl
-done_at (Some end) s (e ∷ h) some = refl
-
-start_at : (deadline : Option ℕ) (s : Schedule) (h : List Event) → 0 < length h →
-    start_planned (last_by deadline (record { plan = s; journal = h })) ≡ start_of (decision_on deadline s h)
-start_at deadline s [] some = absurd (omega arith)
-start_at None s (e ∷ h) some = refl
-start_at (Some end) s (e ∷ h) some = refl
-
-pub is_done_some : (deadline : Option ℕ) (d : Driven) → 0 < length d.journal →
-    schedule_is_done deadline d ≡ is_done (decision_on deadline d.plan d.journal)
-is_done_some deadline d some = done_at deadline d.plan d.journal some
-
--- after a step the next start is that of its answer
-pub next_start_some : (deadline : Option ℕ) (d : Driven) → 0 < length d.journal →
-    next_start_by deadline d ≡ start_of (decision_on deadline d.plan d.journal)
-next_start_some deadline d some = start_at deadline d.plan d.journal some
+    ∙ ap (λ b. recurrences deadline d + bit (not b))
+    (sym (is_done_some deadline (after d e) (omega (arith, length_push d.journal e))))
 
 -- what is not done has a start
 pub start_some : (d : Decision) → is_done d ≡ false → IsSome (start_of d)
@@ -93,17 +74,15 @@ start_some Done goes = absurd cc
 -- late one.
 pub start_ended : (end : ℕ) (output : Datum) (d : Decision) →
     start_of (ended_by (Some end) (record { output = output; decision = d })).decision ≡ in_time (Some end) (start_of d)
-start_ended end output (Go start) = by_test (nat_lt end start) (λ past. rw past refl) (λ isnt. rw isnt refl)
+start_ended end output (Go start) = grind arith
 start_ended end output Done = refl
 
 start_of_last : (end : ℕ) (given : Option Answer) →
     start_planned (option_map (ended_by (Some end)) given) ≡ in_time (Some end) (start_planned given)
-start_of_last end None = refl
-start_of_last end (Some a) = start_ended end a.output a.decision
+start_of_last end given = grind arith
 
 pub none_in_time : (start : Option ℕ) → start ≡ in_time None start
-none_in_time None = refl
-none_in_time (Some start) = refl
+none_in_time start = grind arith
 
 pub next_start_in_time : (deadline : Option ℕ) (d : Driven) →
     next_start_by deadline d ≡ in_time deadline (next_start_of d)
@@ -111,8 +90,7 @@ next_start_in_time None d = none_in_time (next_start_of d)
 next_start_in_time (Some end) d = start_of_last end (last_answer d.plan d.journal)
 
 done_is_none : (d : Decision) → is_done d ≡ is_none (start_of d)
-done_is_none (Go start) = refl
-done_is_none Done = refl
+done_is_none d = grind arith
 
 -- after a step it is done where it has planned no start
 pub done_some : (deadline : Option ℕ) (d : Driven) → 0 < length d.journal →
@@ -127,27 +105,10 @@ done_after deadline d e = done_some deadline (after d e) (omega (arith, length_p
 
 -- of two deadlines the earlier one counts
 pub past_earlier : (a b start : ℕ) → nat_lt (min a b) start ≡ (nat_lt a start || nat_lt b start)
-past_earlier a b start =
-    by_test (nat_lt a start)
-    (λ past. rw past (lt-ltb (min a b) start (omega (arith, ltb-true a start past))))
-    (λ isnt. rw isnt (by_test (nat_lt b start)
-    (λ late. rw late (lt-ltb (min a b) start (omega (arith, ltb-true b start late))))
-    (λ none. rw none (by_test (nat_lt (min a b) start)
-    (λ yes. absurd (omega (arith, ltb-true (min a b) start yes, ltb-false a start isnt, ltb-false b start none)))
-    (λ no. no)))))
-
-in_time_either : (a b start : ℕ) → in_time (Some (min a b)) (Some start) ≡
-    in_time (Some a) (in_time (Some b) (Some start))
-in_time_either a b start =
-    rw (past_earlier a b start) (by_test (nat_lt b start)
-    (λ late. rw late (by_test (nat_lt a start) (λ past. rw past refl) (λ isnt. rw isnt refl)))
-    (λ none. rw none (by_test (nat_lt a start) (λ past. rw past refl) (λ isnt. rw isnt refl))))
+past_earlier a b start = grind arith
 
 pub in_time_earlier : (a b start : Option ℕ) → in_time (earlier a b) start ≡ in_time a (in_time b start)
-in_time_earlier a None start = ap (in_time a) (none_in_time start)
-in_time_earlier None (Some b) start = none_in_time (in_time (Some b) start)
-in_time_earlier (Some a) (Some b) None = refl
-in_time_earlier (Some a) (Some b) (Some start) = in_time_either a b start
+in_time_earlier a b start = grind arith
 
 -- by the earlier of two deadlines a plan has the start that it has by one of them, where that is in time
 pub start_by_both : (a b : Option ℕ) (d : Driven) → in_time a (next_start_by b d) ≡ next_start_by (earlier a b) d

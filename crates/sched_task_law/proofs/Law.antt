@@ -420,7 +420,7 @@ none_planned None plan = refl
 none_planned (Some end) plan = refl
 
 never_past : (deadline : Option ℕ) (now : ℕ) (b : Bool) → (is_past deadline now && (false && b)) ≡ false
-never_past deadline now b = by_test (is_past deadline now) (λ past. rw past refl) (λ isnt. rw isnt refl)
+never_past deadline now b = grind arith
 
 -- its first run can begin, and go on
 pub first_can : (deadline : Option ℕ) (plan : Schedule) (t : Tick) → CanRun (nothing_until plan deadline) t

@@ -1,11 +1,7 @@
 -- The tickets of a retry are as many as its events, less one at a stop.
-use Rattle.std.proofs.Common.{◌≡◌, ◌+◌, false, length, ap, ◌∙◌, subst}
-use Rattle.sched_driver.specs.Driven.{Driven}
-use Rattle.sched_task_law.specs.Kind.{repeats}
-use Rattle.sched_task_law.specs.Past.{bit}
-use Rattle.sched_task_law.specs.Law.{is_stop}
+use Rattle.std.proofs.Common.{ap, ◌∙◌}
 use Rattle.sched_task_law.proofs.Events.{events_law}
-use Rattle.sched_run_machine.specs.Retrying.{RetryingOf, IsAlong}
+use Rattle.sched_run_machine.specs.Retrying.{RetryingOf}
 use Rattle.sched_retry.proofs.reruns.Rerun.granted.Goals as goal
 
 pub returns-clause-granted : goal.returns-clause-granted

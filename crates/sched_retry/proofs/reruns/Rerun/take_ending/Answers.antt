@@ -6,7 +6,7 @@ use Rattle.sched_retry.proofs.reruns.Rerun.take_ending.Goals as goal
 pub invariant_of-self : goal.invariant_of-self
 invariant_of-self g c =
     rw c.take.ensures.after (
-      taken_so g.R.Drives.driving g.D.Draws.grants g.met.D.Draws.lawful (g.A.Aims.kind g.R.Drives.driving.keeps)
+      taken_so _ _ g.met.D.Draws.lawful _
           c.self.inside.machine c.self.inside.runner (is_some c.self.inside.ending) c.self.invariant.0,
       tt,
     )

@@ -4,10 +4,10 @@ use Rattle.sched_run_machine.proofs.machine.Machine.begin.Goals as goal
 
 pub returns-clause-polls : goal.returns-clause-polls
 returns-clause-polls g c =
-    begins_run g.R.Drives.driving (g.A.Aims.kind g.R.Drives.driving.keeps) g.D.Draws.grants g.met.D.Draws.lawful
+    begins_run _ _ _ g.met.D.Draws.lawful
     _ c.args._tick.now c.args.self.now c.self.view_is c.requires.looks c.requires.in_time
 
 pub invariant_of-self : goal.invariant_of-self
 invariant_of-self g c =
-    left g.R.Drives.driving (g.A.Aims.kind g.R.Drives.driving.keeps) g.D.Draws.grants g.met.D.Draws.lawful
+    left _ _ _ g.met.D.Draws.lawful
     _ c.args._tick.now c.args.self.now _ _ c.self.view_is (returns-clause-polls g c) c.self.invariant

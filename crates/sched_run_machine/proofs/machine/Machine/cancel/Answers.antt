@@ -5,8 +5,7 @@ use Rattle.sched_run_machine.proofs.machine.Machine.cancel.Goals as goal
 
 pub returns-then-is_some-clause-stands : goal.returns-then-is_some-clause-stands
 returns-then-is_some-clause-stands g c =
-    over_stays g.R.Drives.driving (g.A.Aims.kind g.R.Drives.driving.keeps) g.D.Draws.grants g.met.D.Draws.lawful _
-    (rw (← c.self.view_is) (sym c.is_some.ensures ∙ c.if-is_some.true))
+    over_stays _ _ _ g.met.D.Draws.lawful _ (rw (← c.self.view_is) (sym c.is_some.ensures ∙ c.if-is_some.true))
 
 pub returns-clause-cancelled : goal.returns-clause-cancelled
 returns-clause-cancelled g c =
@@ -15,12 +14,9 @@ returns-clause-cancelled g c =
 
 pub returns-clause-stands : goal.returns-clause-stands
 returns-clause-stands g c =
-    cancels g.R.Drives.driving (g.A.Aims.kind g.R.Drives.driving.keeps) g.D.Draws.grants g.met.D.Draws.lawful _ _
-    (returns-clause-cancelled g c)
+    cancels _ _ _ g.met.D.Draws.lawful _ _ (returns-clause-cancelled g c)
 
 pub invariant_of-self : goal.invariant_of-self
 invariant_of-self g c =
-    cancels_left g.R.Drives.driving (g.A.Aims.kind g.R.Drives.driving.keeps) g.D.Draws.grants g.met.D.Draws.lawful
-    c.args.self.now _ (returns-clause-cancelled g c)
-    (seen g.R.Drives.driving (g.A.Aims.kind g.R.Drives.driving.keeps) g.D.Draws.grants g.met.D.Draws.lawful
-    _ c.args.self.now c.self.view_is c.self.invariant)
+    cancels_left _ _ _ g.met.D.Draws.lawful c.args.self.now _ (returns-clause-cancelled g c)
+    (seen _ _ _ g.met.D.Draws.lawful _ c.args.self.now c.self.view_is c.self.invariant)

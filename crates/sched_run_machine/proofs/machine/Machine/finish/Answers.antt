@@ -5,20 +5,18 @@ use Rattle.sched_run_machine.proofs.machine.Machine.finish.Goals as goal
 pub returns-clause-polls : goal.returns-clause-polls
 returns-clause-polls g c =
     let ended = c.end_run-self-inside in
-    rw c.saturating_add-self-inside.ensures
-    (ends_run g.R.Drives.driving (g.A.Aims.kind g.R.Drives.driving.keeps) g.D.Draws.grants g.met.D.Draws.lawful
+    rw c.saturating_add-self-inside.ensures (ends_run _ _ _ g.met.D.Draws.lawful
     _ c.args.tick.now c.args.self.now c.self.view_is c.requires.looks c.requires.in_time
     (g.met.A.Aims.as_kept g.R.Drives.driving.keeps) c.args.ran ended.result ended.new.driver
     ended.new.drawing ended.ensures.deadline ended.ensures.ends ended.ensures.stands)
 
 pub invariant_of-self : goal.invariant_of-self
 invariant_of-self g c =
-    left g.R.Drives.driving (g.A.Aims.kind g.R.Drives.driving.keeps) g.D.Draws.grants g.met.D.Draws.lawful
+    left _ _ _ g.met.D.Draws.lawful
     _ c.args.tick.now c.args.self.now _ _ c.self.view_is (returns-clause-polls g c) c.self.invariant
 
 pub end_run-self-inside-requires : goal.end_run-self-inside-requires
 end_run-self-inside-requires g c =
     record {
-      stands = (has_drawn g.R.Drives.driving (g.A.Aims.kind g.R.Drives.driving.keeps) g.D.Draws.grants
-          g.met.D.Draws.lawful _ c.self.invariant).1;
+      stands = (has_drawn _ _ _ g.met.D.Draws.lawful _ c.self.invariant).1;
     }

@@ -5,5 +5,4 @@ use Rattle.sched_run_machine.proofs.machine.Machine.poll.Goals as goal
 
 pub returns-then-stays-clause-polls : goal.returns-then-stays-clause-polls
 returns-then-stays-clause-polls g c =
-    stays_as g.R.Drives.driving (g.A.Aims.kind g.R.Drives.driving.keeps) g.D.Draws.grants g.met.D.Draws.lawful
-    c.args.self.now c.args.tick.now (rw c.if-stays.true at c.stays.ensures.looks)
+    stays_as _ _ _ g.met.D.Draws.lawful c.args.self.now c.args.tick.now (rw c.if-stays.true at c.stays.ensures.looks)

@@ -6,12 +6,11 @@ use Rattle.sched_run_machine.proofs.machine.Machine.stays.Goals as goal
 
 pub returns-then-is_some-clause-looks : goal.returns-then-is_some-clause-looks
 returns-then-is_some-clause-looks g c =
-    looks_over g.R.Drives.driving (g.A.Aims.kind g.R.Drives.driving.keeps) g.D.Draws.grants g.met.D.Draws.lawful
+    looks_over _ _ _ g.met.D.Draws.lawful
     c.args.self.now c.args.tick.now (rw (← c.self.view_is) (sym c.is_some.ensures ∙ c.if-is_some.true))
 
 pub returns-clause-looks : goal.returns-clause-looks
 returns-clause-looks g c =
-    looks g.R.Drives.driving (g.A.Aims.kind g.R.Drives.driving.keeps) g.D.Draws.grants g.met.D.Draws.lawful
-    c.args.self.now c.args.tick.now c.due.result c.is_later.result
+    looks _ _ _ g.met.D.Draws.lawful c.args.self.now c.args.tick.now c.due.result c.is_later.result
     (rw (← c.self.view_is) (none_of c.self.inside.over (sym c.is_some.ensures ∙ c.if-is_some.false)))
     c.due.ensures c.is_later.ensures

@@ -5,8 +5,7 @@ use Rattle.sched_run_machine.proofs.machine.Machine.unbegun.Goals as goal
 
 pub returns-clause-stands : goal.returns-clause-stands
 returns-clause-stands g c =
-    rw c.granted-had.ensures.granted
-    (stands_new g.R.Drives.driving (g.A.Aims.kind g.R.Drives.driving.keeps) g.D.Draws.grants g.met.D.Draws.lawful
+    rw c.granted-had.ensures.granted (stands_new _ _ _ g.met.D.Draws.lawful
     c.args.driver c.args.drawing c.granted-had.ensures.stands (g.met.R.Drives.begins c.args.driver c.requires.fresh))
 
 pub invariant_of-result : goal.invariant_of-result
@@ -14,7 +13,7 @@ invariant_of-result g c =
     rw c.granted-had.ensures.granted (
       unbegun g.D.Draws.grants (g.R.Drives.driving.plan c.args.driver) (g.R.Drives.driving.ends c.args.driver)
           c.args.drawing,
-      stands_new g.R.Drives.driving (g.A.Aims.kind g.R.Drives.driving.keeps) g.D.Draws.grants g.met.D.Draws.lawful
+      stands_new _ _ _ g.met.D.Draws.lawful
           c.args.driver c.args.drawing c.granted-had.ensures.stands
           (g.met.R.Drives.begins c.args.driver c.requires.fresh),
     )
