@@ -1,12 +1,14 @@
 -- Rows of keys: what a row has where one is put in another's place.
-use Rattle.std.proofs.Common.{◌≡◌, ◌≢◌, ℕ, zero, suc, ◌+◌, ◌-◌, ◌%◌, ◌<◌, Bool, true, false, cond, eqb, eqb-true, eq-eqb, zero-add, ◌⊎◌, inl, inr}
+use Rattle.std.proofs.Common.{◌≡◌, ◌≢◌, ℕ, zero, suc, ◌+◌, ◌-◌, ◌%◌, ◌<◌, Bool, true, false, cond, eqb, eqb-true}
+use Rattle.std.proofs.Common.{eq-eqb, zero-add, ◌⊎◌, inl, inr}
 use Rattle.std.proofs.Common.{List, [], ◌∷◌, ◌++◌, length, get_or, set, refl, sym, ◌∙◌, ap, subst, arith}
 use Rattle.std.proofs.lemmas.Bool.{false≢true, ne_eqb}
 use Rattle.std.proofs.lemmas.List.Sums.{sum_by_push}
 use Rattle.std.specs.Global.{Global}
 use Rattle.std.specs.declared.cmp.Reverse.{Reverse}
 use Rattle.std_alloc.specs.declared.vec.Vec.{Vec}
-use Rattle.sched_calendar.specs.Keys.{moment_of, row_of, one_if, is_at, times_in, AreOf, IsAhead, row_at, IsPlaced, ArePlaced}
+use Rattle.sched_calendar.specs.Keys.{moment_of, row_of, one_if, is_at, times_in, AreOf, IsAhead, row_at, IsPlaced}
+use Rattle.sched_calendar.specs.Keys.{ArePlaced}
 
 abbrev Row : Type 0
 Row = Vec (Reverse ℕ) Global
@@ -50,7 +52,8 @@ put_in k x old new false is = ap (times_in k) is ∙ sym (zero-add (times_in k o
 
 put_there : (rows : List Row) (i j k : ℕ) (row : Row) (x : Reverse ℕ) (b : Bool) →
     times_in k row.items ≡ cond b (one_if x.0 k) 0 + times_in k (row_at rows i) → (here : Bool) → eqb i j ≡ here →
-    times_in k (cond here row.items (row_at rows j)) ≡ cond here (cond b (one_if x.0 k) 0) 0 + times_in k (row_at rows j)
+    times_in k (cond here row.items (row_at rows j))
+    ≡ cond here (cond b (one_if x.0 k) 0) 0 + times_in k (row_at rows j)
 put_there rows i j k row x b put true e =
     put ∙ ap (λ r. cond b (one_if x.0 k) 0 + times_in k (row_at rows r)) (eqb-true i j e)
 put_there rows i j k row x b put false e = sym (zero-add (times_in k (row_at rows j)))
@@ -102,7 +105,8 @@ pub times_row : (rows : List Row) (i k : ℕ) (row : Row) (x : Reverse ℕ) → 
     cond b (one_if x.0 k) 0 ≡ one_if x.0 k
 times_row rows i k row x few here is true e = refl
 times_row rows i k row x few here is false e =
-    sym (ap {B = ℕ} (λ b. cond b 1 0) (ne_eqb x.0 k (λ same. false≢true (sym e ∙ eq-eqb i (row_of k) (sym here ∙ ap row_of same)))))
+    let other = λ (same : x.0 ≡ k). false≢true (sym e ∙ eq-eqb i (row_of k) (sym here ∙ ap row_of same)) in
+    sym (ap {B = ℕ} (λ b. cond b 1 0) (ne_eqb x.0 k other))
 
 -- each key is counted where its row is
 pub times_put_row : (rows : List Row) (i k : ℕ) (row : Row) (x : Reverse ℕ) → i < length rows → row_of x.0 ≡ i →

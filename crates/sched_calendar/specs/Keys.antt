@@ -1,6 +1,6 @@
 -- Keys: the moments that they tell, and the rows in which they stand.
-use Rattle.std.specs.Prelude.{◌≡◌, ℕ, suc, zero, ◌+◌, ◌/◌, ◌%◌, ◌<◌, ◌≤◌, nat_eq, if◌then◌else◌, List, [], ◌∷◌, sum_by, min}
-use Rattle.std.specs.Prelude.{Option, Some, None}
+use Rattle.std.specs.Prelude.{◌≡◌, ℕ, suc, zero, ◌+◌, ◌/◌, ◌%◌, ◌<◌, ◌≤◌, nat_eq, min, if◌then◌else◌}
+use Rattle.std.specs.Prelude.{List, [], ◌∷◌, sum_by, Option, Some, None}
 use Rattle.std.specs.Global.{Global}
 use Rattle.std.specs.List.Sorted.{IsSorted}
 use Rattle.std.specs.Ordering.{nat_cmp}

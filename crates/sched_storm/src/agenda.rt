@@ -1,5 +1,5 @@
 //! What is due of the requests that came, by moment, and at one moment by the number of the request.
-ghost use Rattle.std.specs.Prelude.{◌≡◌, ℕ, ◌+◌, ◌*◌, ◌/◌, ◌%◌, ◌<◌, ◌≤◌, Option, Some, None, IfOk, IfSome, IfNone, OnOk};
+ghost use Rattle.std.specs.Prelude.{◌≡◌, ℕ, ◌+◌, ◌*◌, ◌<◌, ◌≤◌, Option, Some, None, IfOk, IfSome, IfNone, OnOk};
 
 use crate::turns::{Turn, bound_of};
 use sched_calendar::Calendar;

@@ -21,7 +21,7 @@ use crate::tickets::Drawn;
 use crate::turns::{Kind, Turn};
 use rand_core::SeedableRng;
 use rand_xoshiro::Xoshiro128PlusPlus;
-use sched_plan::SharedPlan;
+use sched_driver_stepper::Compiled;
 use sched_storm_limit::Stand;
 use sched_storm_report::{Ends, Failure, Happening, Moment, Report, Tally};
 use sched_task::four_words;
@@ -32,7 +32,7 @@ use std::alloc::Global;
 #[derive(Drop)]
 pub(crate) struct Course {
     pub(crate) storm: Storm,
-    pub(crate) plan: SharedPlan,
+    pub(crate) plan: Compiled,
     words: Xoshiro128PlusPlus,
     /// How many requests came.
     requests: u64,
@@ -52,7 +52,7 @@ pub(crate) struct Course {
 
 impl Course {
     /// Before the first event, of which nothing is due yet.
-    pub(crate) fn new(alloc: Global, storm: Storm, plan: SharedPlan, agenda: Agenda) -> Course
+    pub(crate) fn new(alloc: Global, storm: Storm, plan: Compiled, agenda: Agenda) -> Course
         requires { Holds agenda (λ _. None) }
         ensures stands { Stands result None }
         ensures storm { result.storm ≡ storm }

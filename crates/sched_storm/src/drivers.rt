@@ -7,8 +7,8 @@ ghost use Rattle.sched_plan.specs.declared.history.Event.{Event};
 ghost use Rattle.sched_driver_stepper.specs.Standing.{StandsFor};
 ghost use Rattle.sched_storm.specs.Drivers.{input_of, with_failure, DriverStands, MayFail, IsAnswered};
 
-use sched_driver_stepper::{StepFault, Stepper};
-use sched_plan::{SharedPlan, Val};
+use sched_driver_stepper::{Compiled, StepFault, Stepper};
+use sched_plan::Val;
 use sched_storm_report::Failure;
 use sched_time::{Millis, Moment, NoMemory, Tick};
 use std::alloc::Global;
@@ -28,16 +28,13 @@ pub(crate) fn input_of(failure: Failure) -> u32
 }
 
 /// The driver of a request whose call fails: the one that it has, or a new one.
-fn driver_of(alloc: Global, plan: &SharedPlan, slot: Slot) -> Result<Box<Stepper>, NoMemory>
+fn driver_of(alloc: Global, plan: &Compiled, slot: Slot) -> Result<Box<Stepper>, NoMemory>
     ensures { IfOk result
         (λ made. (h : List Event) → DriverStands plan.now slot h → DriverStands plan.now (Some made) h) }
 {
     match slot {
         Some(driver) => Ok(driver),
-        None => {
-            let driver = Stepper::of_shared(alloc, plan.share()?)?;
-            Ok(Box::new(alloc, driver)?)
-        }
+        None => { Ok(Box::new(alloc, plan.stepper(alloc)?)?) }
     }
 }
 
@@ -91,7 +88,7 @@ impl Drivers {
     pub(crate) fn fail(
         &mut self,
         alloc: Global,
-        plan: &SharedPlan,
+        plan: &Compiled,
         request: u64,
         at: u64,
         words: [u32; 4],

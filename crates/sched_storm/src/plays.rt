@@ -6,6 +6,7 @@ ghost use Rattle.sched_storm.specs.Report.{AddsUp};
 use crate::agenda::Agenda;
 use crate::course::Course;
 use crate::storm::Storm;
+use sched_driver_stepper::Compiled;
 use sched_plan::SharedPlan;
 use sched_storm_report::Report;
 use sched_time::NoMemory;
@@ -17,6 +18,7 @@ impl Storm {
         ensures reports { IfOk result (Reports self.now plan) }
         ensures adds_up { IfOk result (AddsUp self.now) }
     {
+        let plan = Compiled::of_shared(alloc, plan)?;
         let agenda = Agenda::new(alloc)?;
         let mut course = Course::new(alloc, *self, plan, agenda);
         let is_cut = course.run(alloc)?;

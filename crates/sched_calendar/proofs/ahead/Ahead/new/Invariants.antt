@@ -1,3 +1,4 @@
+-- So many rows were made, and none has a key.
 use Rattle.std.proofs.Common.{◌≡◌, vec_len}
 use Rattle.sched_calendar.proofs.Rows.{AreEmpty}
 use Rattle.sched_calendar.proofs.ahead.Ahead.new.Given as goal
