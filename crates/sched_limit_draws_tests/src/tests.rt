@@ -17,6 +17,7 @@ use std::sync::Wait;
 
 mod cancels;
 mod limits;
+mod repeats;
 
 // The code of a call that came too late.
 const LATE: u32 = 9;
@@ -51,6 +52,16 @@ fn stepper(rt: &impl Abort, alloc: Global) -> Stepper
 {
     let plan = Plan::spaced(10).expect(rt, "the plan is built");
     Stepper::new(alloc, plan).expect(rt, "there is memory")
+}
+
+// Open for 100 ms at the first trip, and then 200. Two failures trip it, and one probe closes it.
+fn breaker(rt: &impl Abort, alloc: Global) -> OnLimit<Breaker> {
+    let mut times = [0; 64];
+    times[0] = 100;
+    times[1] = 200;
+    let breaker = Breaker::new(moment(0), 2, 1, Millis::from(1000), times, 1);
+    let breaker = breaker.expect(rt, "there is such a breaker");
+    OnLimit::new(alloc, breaker).expect(rt, "there is memory")
 }
 
 // What draws on the limit, at a cost of 5, and of 10 after a call that came too late.

@@ -1,1 +1,2 @@
--- No lemma: each proof stands beside its function.
+-- Rows computed with the definitions; each proof stands beside its function.
+mod Worked

@@ -9,16 +9,6 @@ fn open(until: u64) -> Refusal {
     Refusal::Open(moment(until))
 }
 
-// Open for 100 ms at the first trip, and then 200. Two failures trip it, and one probe closes it.
-fn breaker(rt: &impl Abort, alloc: Global) -> OnLimit<Breaker> {
-    let mut times = [0; 64];
-    times[0] = 100;
-    times[1] = 200;
-    let breaker = Breaker::new(moment(0), 2, 1, Millis::from(1000), times, 1);
-    let breaker = breaker.expect(rt, "there is such a breaker");
-    OnLimit::new(alloc, breaker).expect(rt, "there is memory")
-}
-
 // gRPC's: 4 tokens at most, half a token for a success.
 #[test]
 fn grpc(rt: HostRuntime) {
