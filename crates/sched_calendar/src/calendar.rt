@@ -12,6 +12,9 @@ use std::alloc::Global;
 use std::cmp::Reverse;
 use std::collections::BinaryHeap;
 
+/// A row of more room gives its memory back once its keys are taken.
+const KEPT: usize = 16;
+
 /// Keys, of which the least comes first.
 ///
 /// A key of one of the next moments stands in the row of its moment. When that moment is reached, the keys of its row
@@ -97,6 +100,9 @@ impl Calendar {
         ensures seen { self.new.ready.items ≡ [] → IsSeen self.new bound }
     {
         if self.ready.is_empty() {
+            if self.ready.capacity() > KEPT {
+                self.ready = Vec::new(*self.ready.allocator());
+            }
             let to = self.horizon(bound);
             go_on(&mut self.ready, &mut self.ahead, to);
         }
