@@ -20,13 +20,10 @@ ends_with {I} {F} item_code fault_code over runs how handed outcome same ends la
 -- calls may end as a run may end them
 stops_calls : (repeats : Bool) (over : Option How) → MayStop repeats over → MayStopCalls repeats over
 stops_calls repeats None is = tt
-stops_calls repeats (Some how.Won) is = absurd is
 stops_calls repeats (Some how.ScheduleDone) is = tt
 stops_calls repeats (Some how.BudgetRefused) is = is
-stops_calls repeats (Some how.DeadlinePassed) is = absurd is
-stops_calls repeats (Some how.Failed) is = absurd is
-stops_calls repeats (Some how.Cancelled) is = absurd is
 stops_calls repeats (Some (how.Broken fault)) is = tt
+stops_calls repeats (Some _) is = absurd is
 
 pub ends_calls : (repeats : Bool) (ran : Ran) (over : Option How) → EndsAs repeats ran over → EndsCalls repeats ran over
 ends_calls false (Won code) over is = is

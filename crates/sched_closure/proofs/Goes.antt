@@ -1,14 +1,12 @@
 -- What turns of a machine, from its beginning to its end, say of each retry that it may stand for.
-use Rattle.std.proofs.Common.{◌≡◌, ℕ, Bool, true, false, List, Option, Some, None, Result, is_some, refl, sym, ap, ◌∙◌}
+use Rattle.std.proofs.Common.{◌≡◌, ℕ, true, false, List, Option, Some, None, Result, sym, ap, ◌∙◌, arith}
 use Rattle.std.specs.List.{FoldsTo}
 use Rattle.rand_core.specs.Stream.{Stream}
 use Rattle.sched_time.specs.declared.numbers.Tick.{Tick}
 use Rattle.sched_ticket_draws.specs.Grants.{Grants}
 use Rattle.sched_task.specs.declared.endings.How.{How}
-use Rattle.sched_task_law.specs.Deadline.{is_past}
 use Rattle.sched_task_law.specs.Kind.{Kind}
 use Rattle.sched_task_law.specs.Past.{Past, is_under_way, waits_for}
-use Rattle.sched_task_law.proofs.Lists.{by_test}
 use Rattle.sched_run_machine.specs.Drives.{Driving}
 use Rattle.sched_run_machine.specs.Machine.{Machine, unbegun, would_be_late, IsMachineOf}
 use Rattle.sched_closure.specs.Turns.{calling, Turn}
@@ -20,12 +18,11 @@ use Rattle.sched_closure.proofs.Ended.{ends_with}
 -- a machine of which no run was reported is not too late
 pub first_in_time : {R D : Type 0} (deadline : Option ℕ) (m : Machine R D) (now : ℕ) → m.told ≡ 0 →
     would_be_late deadline m now ≡ false
-first_in_time deadline m now none =
-    rw none (by_test (is_past deadline now) (λ past. rw past refl) (λ isnt. rw isnt refl))
+first_in_time deadline m now none = grind arith
 
 -- where a run is under way nothing is waited for
 pub none_waited : (v : Past) → is_under_way v.runs v.begun ≡ true → None ≡ waits_for v
-none_waited v runs = by_test (is_some v.over) (λ over. rw over refl) (λ live. rw (live, runs) refl)
+none_waited v runs = grind arith
 
 module _ {R D K C I F : Type 0} (driving : Driving R) (kind : Kind) (grants : Grants D) (tells : K → ℕ → K → Type 0)
     (waits : K → ℕ → ℕ → K → Type 0) (gives : C → Result I F → C → Type 0) (item_code : I → ℕ)

@@ -1,6 +1,5 @@
 -- The lemmas that the proofs of closures cite.
 pub mod Ended
 pub mod Told
-pub mod First
 pub mod Unbegun
 pub mod Goes

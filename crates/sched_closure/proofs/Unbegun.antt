@@ -1,6 +1,6 @@
 -- What a first call makes of a retry that has not begun.
-use Rattle.std.proofs.Common.{◌≡◌, ℕ, Bool, true, false, List, [], ◌∷◌, Option, Some, None, Result, Err, refl, sym}
-use Rattle.std.proofs.Common.{subst, arith}
+use Rattle.std.proofs.Common.{◌≡◌, ℕ, Bool, true, false, [], ◌∷◌, Option, Some, None, Result, Err, refl, sym, subst}
+use Rattle.std.proofs.Common.{arith}
 use Rattle.std.specs.List.{FoldsTo}
 use Rattle.rand_core.specs.Stream.{Stream}
 use Rattle.sched_time.specs.declared.numbers.Tick.{Tick}
@@ -20,7 +20,6 @@ use Rattle.sched_closure.specs.Turns.{calling, Turn}
 use Rattle.sched_closure.specs.Calls.{task_turning}
 use Rattle.sched_closure.specs.Endings.{EndsWith}
 use Rattle.sched_closure.specs.Begins.{HasNotBegun, WinsOnce, TakesTurns}
-use Rattle.sched_closure.proofs.First.{idle_turn, run_turn}
 
 -- the plan has had no event, so that there is room for one
 room_in_none : (keeps : Bool) (plan : Schedule) (now : ℕ) →
@@ -102,16 +101,26 @@ module _ {T D K C I F : Type 0} (grants : Grants D) (lawful : Lawful grants) (qu
               broken,
               (
                 calling running during between call None,
-                idle_turn (task_turning grants (a_retry keeps)) tells waits gives item_code fault_code _ _ clock during
-                    words between call None
-                    began (sym (none_planned is.1 is.0)) refl told lanes
-                    (record { poll = first.poll; runs = refl }),
+                record {
+                  told = [];
+                  start = None;
+                  due = sym (none_planned is.1 is.0);
+                  finishes = (refl, refl, refl);
+                  moment = told;
+                  lanes = lanes;
+                  poll = record { poll = first.poll; runs = refl };
+                },
                 (
                   calling broken then left called (Some (Err fault)),
-                  run_turn (task_turning grants (a_retry keeps)) tells waits gives item_code fault_code _ _ during then
-                      between left call called
-                      None ended (Err fault) refl refl gave tells_then lanes_then
-                      (record { poll = second.poll; runs = refl }),
+                  record {
+                    told = Lost code ∷ [];
+                    start = None;
+                    due = refl;
+                    finishes = (Err fault, gave, refl, refl);
+                    moment = tells_then;
+                    lanes = lanes_then;
+                    poll = record { poll = second.poll; runs = refl };
+                  },
                   refl,
                 ),
               ),

@@ -1,7 +1,7 @@
 -- Each call on a machine is one poll of each task that it may stand for.
-use Rattle.std.proofs.Common.{◌≡◌, ℕ, if◌then◌else◌, ◌+◌, ◌<◌, ◌≤◌, inl, inr, Bool, true, false, not, ◌&&◌, nat_lt}
-use Rattle.std.proofs.Common.{List, [], ◌∷◌, ◌++◌, length, min, Option, Some, None, is_some, IfSome, IsSomeAnd, refl}
-use Rattle.std.proofs.Common.{sym, ap, ◌∙◌, subst, arith}
+use Rattle.std.proofs.Common.{◌≡◌, ℕ, if◌then◌else◌, ◌+◌, ◌<◌, ◌≤◌, inl, inr, Bool, true, false, not, nat_lt, List, []}
+use Rattle.std.proofs.Common.{◌∷◌, ◌++◌, length, min, Option, Some, None, is_some, IfSome, IsSomeAnd, refl, sym, ap}
+use Rattle.std.proofs.Common.{◌∙◌, subst, arith}
 use Rattle.std.specs.Bool.{MatchBool}
 use Rattle.std.proofs.lemmas.List.{append-nil, length_push}
 use Rattle.sched_time.specs.declared.numbers.Tick.{Tick}
@@ -10,7 +10,6 @@ use Rattle.sched_effect.specs.declared.ran.Ran.{Ran}
 use Rattle.sched_task.specs.declared.endings.How.{How}
 use Rattle.sched_task.specs.declared.endings.How.TheVariants as how
 use Rattle.sched_ticket_draws.specs.Grants.{Grants, Lawful}
-use Rattle.sched_task_law.specs.Deadline.{is_past}
 use Rattle.sched_task_law.specs.Kind.{Kind, keeps, draws, calls}
 use Rattle.sched_task_law.specs.Past.{Past, unstepped, is_under_way, is_too_late, waits_for}
 use Rattle.sched_task_law.specs.Poll.{Happened, stays, cannot_begin, runs_on, cannot_run, ends, breaks, stops_done}
@@ -33,12 +32,9 @@ same_deadline kind v t stays = refl
 same_deadline kind v t _ = refl
 
 -- what is under way does not begin too late
-never_late : (a b : Bool) → (a && (b && false)) ≡ false
-never_late a b = grind arith
-
 pub running_in_time : {R D : Type 0} (deadline : Option ℕ) (m : Machine R D) (now : ℕ) → m.under_way ≡ true →
     would_be_late deadline m now ≡ false
-running_in_time deadline m now running = rw running (never_late (is_past deadline now) (nat_lt 0 m.told))
+running_in_time deadline m now running = grind arith
 
 -- a number that is counted up to a limit is some where the number is
 some_counted : (told runs : ℕ) → told ≡ min runs 18446744073709551615 → nat_lt 0 told ≡ nat_lt 0 runs

@@ -1,6 +1,6 @@
 -- A poll of a task, of its machine and its runs, leaves one, whatever happens in it.
-use Rattle.std.proofs.Common.{◌≡◌, ℕ, ◌-◌, Bool, true, false, not, ◌||◌, if◌then◌else◌, List, [], Option, Some, None}
-use Rattle.std.proofs.Common.{is_some, IfSome, refl, sym, ap, ◌∙◌, subst, arith}
+use Rattle.std.proofs.Common.{◌≡◌, ℕ, ◌-◌, Bool, true, false, not, ◌||◌, if◌then◌else◌, List, [], Option, None, is_some}
+use Rattle.std.proofs.Common.{IfSome, refl, sym, ap, ◌∙◌, subst, arith}
 use Rattle.std.specs.Bool.{MatchBool}
 use Rattle.std.proofs.lemmas.List.{append-nil}
 use Rattle.sched_time.specs.declared.numbers.Tick.{Tick}
@@ -8,7 +8,6 @@ use Rattle.sched_driver.specs.Driven.{Driven}
 use Rattle.sched_effect.specs.declared.ran.Ran.{Ran}
 use Rattle.sched_ticket_draws.specs.Grants.{Grants, Lawful}
 use Rattle.sched_task.specs.declared.endings.How.{How}
-use Rattle.sched_task.specs.declared.endings.How.TheVariants as how
 use Rattle.sched_task_law.specs.Kind.{Kind}
 use Rattle.sched_task_law.specs.Past.{is_under_way, next_start_by, waits_by, waits_for}
 use Rattle.sched_task_law.specs.Law.{is_refused}
@@ -24,16 +23,13 @@ use Rattle.sched_run_machine.specs.Retrying.{RetryingOf, Retrying, RetryPoll, al
 use Rattle.sched_run_machine.specs.Retrying.{given_up, GivesUp}
 use Rattle.sched_run_machine.specs.Runner.{Runs, begun_with, leaves_run, told_by, RunPolls}
 use Rattle.sched_run_machine.proofs.Settles.{rests}
-use Rattle.sched_run_machine.proofs.Calls.{law_given_up-not, gone_stands, running_in_time}
+use Rattle.sched_run_machine.proofs.Calls.{law_given_up-not, gone_stands}
 use Rattle.sched_run_machine.proofs.Runs.{finishes, begun_then, Grows, grows}
 
 -- a machine that is too late has no run under way
 late_idle : {R D : Type 0} (deadline : Option ℕ) (m : Machine R D) (now : ℕ) → would_be_late deadline m now ≡ true →
     m.under_way ≡ false
-late_idle deadline m now late =
-    by_test m.under_way (λ running. absurd (let bad : false ≡ true = sym (running_in_time deadline m now running)
-    ∙ late in cc))
-    (λ idle. idle)
+late_idle deadline m now late = grind arith
 
 -- what a poll of the run under way left, where the machine has one under way exactly where that goes on
 pub grown_by : {R D I F : Type 0} (item_code : I → ℕ) (fault_code : F → ℕ) (r s : Runs) (t : Tick)

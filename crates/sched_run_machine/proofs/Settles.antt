@@ -11,7 +11,6 @@ use Rattle.sched_task_law.specs.Past.{Past, is_stopped}
 use Rattle.sched_task_law.specs.Poll.{Happened, stays, cannot_begin, runs_on, cannot_run, stops_denied, recurs}
 use Rattle.sched_task_law.specs.Poll.{times_out, after, May}
 use Rattle.sched_task_law.proofs.Lists.{by_test}
-use Rattle.sched_task_law.proofs.Fields.{none_of}
 use Rattle.sched_task_law.proofs.Law.{law_after}
 use Rattle.sched_run_machine.specs.Retrying.{Retrying, RetryLaw, Tells, TellsLast, DrawsIn, RetryPoll}
 use Rattle.sched_run_machine.specs.Machine.{TellsEnd}
@@ -130,16 +129,11 @@ module _ {D : Type 0} (grants : Grants D) (lawful : Lawful grants) where
         };
       }
 
-  untaken_false : (kind : Kind) (v : Retrying D) → RetryLaw grants kind v → v.past.over ≡ None → v.untaken ≡ false
-  untaken_false kind v law unended =
-      by_test v.untaken (λ yes. let bad = rw unended at (law.untaken yes) in absurd (cc)) (λ no. no)
-
   -- there is an ending to take only where it is over
   untaken_stays : (kind : Kind) (v : Retrying D) (ready : Bool) → ready ≡ is_some v.past.over → RetryLaw grants kind v →
       v.untaken ≡ (if is_some v.past.over then v.untaken else ready)
   untaken_stays kind v ready is law =
-      by_test (is_some v.past.over) (λ over. rw over refl)
-      (λ isnt. rw isnt (untaken_false kind v law (none_of v.past.over isnt) ∙ sym (is ∙ isnt)))
+      by_test (is_some v.past.over) (λ over. rw over refl) (λ isnt. let has = law.untaken in grind (arith, has))
 
   -- one that is over, or waits for a later moment, stays as it is
   pub rests : (kind : Kind) (v : Retrying D) (t : Tick) (ready : Bool) → ready ≡ is_some v.past.over →

@@ -9,7 +9,7 @@ use Rattle.std.proofs.lemmas.List.Sums.{sum_by_push}
 use Rattle.sched_time.specs.Decision.{start_of}
 use Rattle.sched_time.specs.declared.starts.Decision.{Decision}
 use Rattle.sched_time.specs.declared.starts.Decision.TheVariants.{Go, Done}
-use Rattle.sched_plan.specs.Datum.{Datum, num}
+use Rattle.sched_plan.specs.Datum.{num}
 use Rattle.sched_plan.specs.Schedule.{Schedule}
 use Rattle.sched_plan.specs.History.{prefixes}
 use Rattle.sched_plan.proofs.HistoryLaws.{prefixes-push}
@@ -72,11 +72,6 @@ start_some Done goes = absurd cc
 
 -- The start that a schedule has by a deadline is its own, where that is in time; there is one unless it has none, or a
 -- late one.
-pub start_ended : (end : ℕ) (output : Datum) (d : Decision) →
-    start_of (ended_by (Some end) (record { output = output; decision = d })).decision ≡ in_time (Some end) (start_of d)
-start_ended end output (Go start) = grind arith
-start_ended end output Done = refl
-
 start_of_last : (end : ℕ) (given : Option Answer) →
     start_planned (option_map (ended_by (Some end)) given) ≡ in_time (Some end) (start_planned given)
 start_of_last end given = grind arith

@@ -103,22 +103,12 @@ begun_length v t counted =
 pub under_way_then : (v : Past) (t : Tick) → (length v.begun ≡ length v.runs) ⊎ HasOneMore v →
     is_under_way v.runs (begun_by v t) ≡ true
 under_way_then v t counted =
-    let more = begun_length v t counted in
-    by_test (is_under_way v.runs (begun_by v t)) (λ yes. yes)
-    (λ no. absurd (omega (arith, more, ltb-false (length v.runs) (length (begun_by v t)) no)))
+    let more = begun_length v t counted in grind (arith, more)
 
 pub finished_then : (v : Past) (t : Tick) (r : Ran) → (length v.begun ≡ length v.runs) ⊎ HasOneMore v →
     is_under_way (v.runs ++ r ∷ []) (begun_by v t) ≡ false
 finished_then v t r counted =
-    let more = begun_length v t counted in
-    by_test (is_under_way (v.runs ++ r ∷ []) (begun_by v t))
-    (λ yes. absurd (omega (
-      arith,
-      more,
-      length_push v.runs r,
-      ltb-true (length (v.runs ++ r ∷ [])) (length (begun_by v t)) yes,
-    )))
-    (λ no. no)
+    let more = begun_length v t counted in grind (arith, more, length_push v.runs r)
 
 even_length : (kind : Kind) (v : Past) → list_all (calls kind) v.runs ≡ true →
     inputs v.driver.journal ≡ called_inputs kind v.runs → length v.driver.journal ≡ length v.runs

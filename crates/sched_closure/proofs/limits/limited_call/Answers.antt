@@ -1,7 +1,6 @@
 -- Turns of the machine whose limit admitted the first call, or a machine that has not begun.
-use Rattle.std.proofs.Common.{◌≡◌, false, true, not, refl, sym, ◌∙◌}
+use Rattle.std.proofs.Common.{not, refl, sym, ◌∙◌}
 use Rattle.sched_task_law.specs.Kind.{a_retry}
-use Rattle.sched_run_machine.specs.Machine.{begins}
 use Rattle.sched_closure.proofs.Goes.{goes_so}
 use Rattle.sched_closure.proofs.limits.limited_call.Given.{C-step}
 use Rattle.sched_closure.proofs.limits.limited_call.Goals as goal
@@ -32,11 +31,8 @@ returns-clause-asks g c =
         turns.1,
         goes_so g.S.Drives.driving (a_retry g.S.Drives.driving.keeps) g.D.Draws.grants g.K.Clock.tells
             g.K.Clock.waits (C-step g) g.I.Coded.coded
-            g.F.Coded.coded (begins g.D.Draws.grants c.args.driver c.admit-is_admitted.new.self)
-            c.call_on-outcome.new.machine
-            c.now.new.self c.call_on-outcome.new.clock (g.G.Rng.stream c.args.words.now)
-            (g.G.Rng.stream c.call_on-outcome.new.words) c.args.call turns.1 turns.0 c.call_on-outcome.result _ _
-            turns.2 ending.ensures.gave (sym c.over.ensures ∙ ending.ensures.over) begun,
+            g.F.Coded.coded _ _ _ _ _ _ _ turns.1 turns.0 _ _ _ turns.2 ending.ensures.gave
+            (sym c.over.ensures ∙ ending.ensures.over) begun,
       );
       rests = tt;
     }

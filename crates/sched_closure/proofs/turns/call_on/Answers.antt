@@ -17,15 +17,13 @@ returns-then-is_some-clause-turns g c =
       was.2.0 ++ tick.result ∷ [],
       c.call-outcome.new.self,
       one_more g.K.Clock.tells g.K.Clock.waits _ g.I.Coded.coded g.F.Coded.coded g.M.Turns.turning _ _ _ was.2.0
-          tick.result
-          (ran_by g.I.Coded.coded g.F.Coded.coded c.call-outcome.result ∷ []) _ was.2.1 next.ensures.due
+          tick.result (ran_by g.I.Coded.coded g.F.Coded.coded c.call-outcome.result ∷ []) _ was.2.1 next.ensures.due
           (rw (c.in-Run.ensures.finds.1) (
             c.call-outcome.result,
             called g.C.FnMut c.call-outcome.ensures refl,
             refl,
             refl,
-          ))
-          tick.ensures.moment tick.ensures.lanes (rw (← c.ran_of.ensures) c.tell.ensures.polls),
+          )) tick.ensures.moment tick.ensures.lanes (rw (← c.ran_of.ensures) c.tell.ensures.polls),
     )
 
 pub loop-preserved-in-Run : goal.loop-preserved-in-Run
@@ -39,15 +37,13 @@ loop-preserved-in-Run g c =
       (
         was.2.0 ++ tick.result ∷ [],
         one_more g.K.Clock.tells g.K.Clock.waits _ g.I.Coded.coded g.F.Coded.coded g.M.Turns.turning _ _ _ was.2.0
-            tick.result
-            (ran_by g.I.Coded.coded g.F.Coded.coded c.call-outcome.result ∷ []) _ was.2.1 next.ensures.due
+            tick.result (ran_by g.I.Coded.coded g.F.Coded.coded c.call-outcome.result ∷ []) _ was.2.1 next.ensures.due
             (rw (c.in-Run.ensures.finds.1) (
               c.call-outcome.result,
               called g.C.FnMut c.call-outcome.ensures refl,
               refl,
               refl,
-            ))
-            tick.ensures.moment tick.ensures.lanes (rw (← c.ran_of.ensures) c.tell.ensures.polls),
+            )) tick.ensures.moment tick.ensures.lanes (rw (← c.ran_of.ensures) c.tell.ensures.polls),
       ),
       λ none. absurd cc,
       rw none at (rw c.ran_of.ensures at c.tell.ensures.ends),

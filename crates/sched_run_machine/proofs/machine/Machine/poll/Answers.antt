@@ -1,5 +1,4 @@
 -- A poll leaves the machine as it is, ends it by its deadline or begins a run.
-use Rattle.std.proofs.Common.{sym, ◌∙◌}
 use Rattle.sched_run_machine.proofs.Calls.{stays_as}
 use Rattle.sched_run_machine.proofs.machine.Machine.poll.Goals as goal
 

@@ -1,6 +1,4 @@
 -- A step of the driver beneath is one of the driver with its deadline.
-use Rattle.std.proofs.Common.{is_none, ap, ◌∙◌}
-use Rattle.sched_task_law.specs.Deadline.{in_time}
 use Rattle.sched_run_machine.proofs.Deadlines.{steps_until}
 use Rattle.sched_run_machine.proofs.until.UntilDrives.step.Goals as goal
 
