@@ -1,21 +1,18 @@
 -- A poll of a retry with a fallback keeps its law, whatever it comes to.
 use Rattle.std.proofs.Common.{◌≡◌, ℕ, ◌<◌, Bool, true, false, if◌then◌else◌, List, [], ◌∷◌, length, Option, Some, None}
-use Rattle.std.proofs.Common.{option_map, is_some, IsSome, IfSome, Result, Ok, Err, refl, sym, ap, ◌∙◌, subst, arith}
+use Rattle.std.proofs.Common.{option_map, is_some, IfSome, Ok, Err, refl, sym, ap, ◌∙◌, subst, arith}
 use Rattle.sched_time.specs.declared.numbers.Tick.{Tick}
 use Rattle.sched_plan.specs.Datum.{Datum}
 use Rattle.sched_plan.specs.Schedule.{Schedule}
 use Rattle.sched_plan.specs.declared.history.Event.{Event}
 use Rattle.sched_driver.specs.Driven.{Driven, last_answer, last_output}
-use Rattle.sched_effect.specs.Runs.{ran_by}
 use Rattle.sched_effect.specs.declared.ran.Ran.{Ran}
-use Rattle.sched_effect.specs.declared.ran.Ran.TheVariants as ran
 use Rattle.sched_task.specs.declared.endings.How.{How}
 use Rattle.sched_task.specs.declared.endings.How.TheVariants as how
-use Rattle.sched_task.specs.declared.endings.RunFault.TheVariants.{NoMemory}
 use Rattle.sched_ticket_draws.specs.Grants.{Grants, Lawful}
 use Rattle.sched_task_law.specs.Kind.{a_retry, calls}
 use Rattle.sched_task_law.specs.Lists.{last_is, last_element}
-use Rattle.sched_task_law.specs.Past.{Past, schedule_is_done, waits_by, waits_by-over}
+use Rattle.sched_task_law.specs.Past.{Past, schedule_is_done, waits_by}
 use Rattle.sched_task_law.specs.Law.{Law, Ended, is_stop}
 use Rattle.sched_task_law.proofs.Lists.{by_test}
 use Rattle.sched_task_law.proofs.Fields.{none_of}
@@ -26,12 +23,10 @@ use Rattle.sched_retry.specs.Ending.{EndingFits}
 use Rattle.sched_retry.specs.declared.endings.Ending.{Ending}
 use Rattle.sched_retry.specs.declared.endings.Ending.TheVariants as ending
 use Rattle.sched_retry_or.specs.Ending.{RetryOrFits}
-use Rattle.sched_retry_or.specs.Falling.{Falling, falls_due, IsAsked, HasFallen, FallingLaw, ComesTo, PollsAs}
-use Rattle.sched_retry_or.specs.Falling.{FallingPoll, KeepsStop, IsFalling}
+use Rattle.sched_retry_or.specs.Falling.{Falling, falls_due, FallingLaw, PollsAs, FallingPoll, KeepsStop, IsFalling}
 use Rattle.sched_retry_or.specs.Stops.{unless_stop, or_stopped, EndsRetry}
 use Rattle.sched_retry_or.specs.declared.endings.RetryOrEnding.{RetryOrEnding}
-use Rattle.sched_retry_or.specs.declared.endings.RetryOrEnding.TheVariants.{Won, Fallen, DeadlinePassed, Cancelled}
-use Rattle.sched_retry_or.specs.declared.endings.RetryOrEnding.TheVariants.{Broken}
+use Rattle.sched_retry_or.specs.declared.endings.RetryOrEnding.TheVariants.{Won, DeadlinePassed, Cancelled, Broken}
 
 -- the last of a list tells whether that passes a test
 last_tells : {A : Type 0} (test : A → Bool) (xs : List A) (x : A) → last_element xs ≡ Some x → last_is test xs ≡ test x
@@ -40,15 +35,14 @@ last_tells test (y ∷ []) x is = let same : y ≡ x = cc in ap test same
 last_tells test (y ∷ z ∷ xs) x is = last_tells test (z ∷ xs) x is
 
 never_stop : (over : Option How) → is_stop (unless_stop over) ≡ false
-never_stop over = by_test (is_stop over) (λ yes. rw yes refl) (λ no. rw no no)
+never_stop over = grind arith
 
 no_stop : (over : Option How) (P : Type 0) → is_stop over ≡ false → is_stop over ≡ true → P
 no_stop over P isnt is = absurd (let bad : false ≡ true = sym isnt ∙ is in cc)
 
 -- what is stopped is over
 stop_over : (over : Option How) → is_stop over ≡ true → is_some over ≡ true
-stop_over None is = absurd cc
-stop_over (Some how) is = refl
+stop_over over is = grind arith
 
 -- a schedule that has stepped has given an output
 given_some : (s : Schedule) (h : List Event) → 0 < length h →
@@ -68,12 +62,7 @@ stopped_given : (kept : Bool) (v : Past) (over : Option How) → Law (a_retry ke
 stopped_given kept v (Some how.ScheduleDone) law ended is = done_given v.deadline v.driver.plan v.driver.journal ended.0
 stopped_given kept v (Some how.BudgetRefused) law ended is =
     given_some v.driver.plan v.driver.journal (law.denied ended).stepped
-stopped_given kept v None law ended is = absurd cc
-stopped_given kept v (Some how.Won) law ended is = absurd cc
-stopped_given kept v (Some how.Failed) law ended is = absurd cc
-stopped_given kept v (Some how.DeadlinePassed) law ended is = absurd cc
-stopped_given kept v (Some how.Cancelled) law ended is = absurd cc
-stopped_given kept v (Some (how.Broken fault)) law ended is = absurd cc
+stopped_given kept v _ law ended is = absurd cc
 
 module _ {R D : Type 0} (driving : Driving R) (outputs : R → Option Datum) (grants : Grants D) where
   -- a retry that has stopped has given an output
@@ -88,7 +77,6 @@ module _ {R D : Type 0} (driving : Driving R) (outputs : R → Option Datum) (gr
     -- an ending of a retry is one that retries have
     ends_retry : (v : RetryingOf R D) → KeepsLaw driving grants (a_retry driving.keeps) v → (e : Ending I F) →
         EndingFits item_code fault_code v.past.over v.past.runs e → EndsRetry e
-    ends_retry v is (ending.Won item) fits = tt
     ends_retry v is (ending.Failed fault) fits =
         let ended = subst (λ (over : Option How). Ended (a_retry driving.keeps) (along v is.0).past over) fits.0
         is.1.law.law.ended in
@@ -99,11 +87,7 @@ module _ {R D : Type 0} (driving : Driving R) (outputs : R → Option Datum) (gr
         let lost = is.1.law.law.done ended.0 in
         absurd (let bad : false ≡ true = sym (last_tells (calls (a_retry driving.keeps)) v.past.runs _ fits.1) ∙ lost in
         cc)
-    ends_retry v is (ending.ScheduleDone (Err fault)) fits = tt
-    ends_retry v is (ending.BudgetRefused fault) fits = tt
-    ends_retry v is ending.DeadlinePassed fits = tt
-    ends_retry v is ending.Cancelled fits = tt
-    ends_retry v is (ending.Broken fault) fits = tt
+    ends_retry v is _ fits = tt
 
     pub all_ends_retry : (v : RetryingOf R D) → KeepsLaw driving grants (a_retry driving.keeps) v →
         (e : Option (Ending I F)) →
@@ -170,9 +154,7 @@ module _ {R D : Type 0} (driving : Driving R) (outputs : R → Option Datum) (gr
   pub due_as : (v : Falling R D) → FallingLaw driving outputs grants v →
       waits_by (driving.starts v.retrying.past.driver) v.retrying.past ≡ falls_due driving v
   due_as v law =
-      by_test (is_some v.over)
-      (λ over. rw over (waits_by-over (driving.starts v.retrying.past.driver) v.retrying.past (is_over v law over)))
-      (λ isnt. rw isnt refl)
+      let over = is_over v law in grind (arith, over)
 
   module _ {I F : Type 0} (item_code : I → ℕ) (fault_code : F → ℕ) (v : Falling R D) (stopped : Option F)
       (ending : Option (RetryOrEnding I F)) (unended : v.over ≡ None)

@@ -18,7 +18,6 @@ returns g c =
 
 pub invariant_of-self : goal.invariant_of-self
 invariant_of-self g c =
-    gone_is g.R.Drives.driving g.R.GivesOutput.outputs g.D.Draws.grants g.X.Item.Coded.coded g.X.Fault.Coded.coded _
-    c.self.inside.stopped c.self.inside.ending
+    gone_is _ _ _ _ _ _ c.self.inside.stopped c.self.inside.ending
     (none_of c.self.inside.over (sym c.is_some.ensures ∙ c.if-is_some.false)) c.self.invariant c.cancel.new.self
     c.cancel.ensures g.met.D.Draws.lawful

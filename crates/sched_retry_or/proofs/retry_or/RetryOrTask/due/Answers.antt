@@ -6,5 +6,5 @@ use Rattle.sched_retry_or.proofs.retry_or.RetryOrTask.due.Goals as goal
 
 pub returns : goal.returns
 returns g c =
-    c.due.ensures ∙ due_as g.R.Drives.driving g.R.GivesOutput.outputs g.D.Draws.grants _ c.self.invariant.law
+    c.due.ensures ∙ due_as _ _ _ _ c.self.invariant.law
     ∙ ap (λ (v : Falling g.row.R.Denot g.row.D.Denot). falls_due g.R.Drives.driving v) c.self.view_is
