@@ -1,6 +1,6 @@
 -- How a retry with a deadline has ended tells whether its plan is done, and whether the deadline ended it.
 use Rattle.std.proofs.Common.{◌≡◌, ℕ, Bool, true, false, ◌||◌, if◌then◌else◌, nat_eq, List, [], ◌∷◌, Option, Some, None}
-use Rattle.std.proofs.Common.{is_some, refl, sym, ap, ◌∙◌}
+use Rattle.std.proofs.Common.{is_some, refl, sym, ap, ◌∙◌, arith}
 use Rattle.sched_plan.specs.Schedule.{Schedule}
 use Rattle.sched_time.specs.Decision.{start_of}
 use Rattle.sched_time.specs.declared.starts.Decision.{Decision}
@@ -32,14 +32,12 @@ undone v unstopped = (or_false v.denied (schedule_is_done v.deadline v.driver) u
 
 done_where : (keeps : Bool) (v : Past) (over : Option How) → Law (a_retry keeps) v → Ended (a_retry keeps) v over →
     schedule_is_done v.deadline v.driver ≡ says_done over
-done_where keeps v None law ended = undone v ended
 done_where keeps v (Some how.Won) law ended = undone v ended.1
 done_where keeps v (Some how.ScheduleDone) law ended = ended.0
 done_where keeps v (Some how.BudgetRefused) law ended = (law.denied ended).undone
 done_where keeps v (Some how.DeadlinePassed) law ended = undone v ended.0
 done_where keeps v (Some how.Failed) law ended = undone v ended.1
-done_where keeps v (Some how.Cancelled) law ended = undone v ended
-done_where keeps v (Some (how.Broken fault)) law ended = undone v ended
+done_where keeps v _ law ended = undone v ended
 
 -- a plan that is done has no start that is late
 no_start : (d : Decision) → is_done d ≡ true → start_of d ≡ None
@@ -56,9 +54,8 @@ not_late deadline s (e ∷ h) done = rw (no_start (answer s (e ∷ h)).decision 
 told_done : (planned late : Bool) → (planned || late) ≡ true → (planned ≡ true → late ≡ false) →
     (planned ≡ nat_eq (if late then 8 else 2) 2) × (late ≡ nat_eq (if late then 8 else 2) 8)
 told_done true true is apart = let isnt = apart refl in absurd cc
-told_done true false is apart = (refl, refl)
-told_done false true is apart = (refl, refl)
 told_done false false is apart = absurd cc
+told_done _ _ is apart = (refl, refl)
 
 -- the number of an ending, or 0
 abbrev number_of : Option How → Bool → ℕ
@@ -69,7 +66,7 @@ told_unended : (running : Bool) (start : Option ℕ) (late : Bool) (granted runs
     (reply_to (if running then next.Run else next_by_start start) late granted runs left).how ≡ 0
 told_unended true start late granted runs left = refl
 told_unended false None late granted runs left = refl
-told_unended false (Some start) late granted runs left = refl
+told_unended _ start late granted runs left = refl
 
 told_as : (v : Past) (over : Option How) (late : Bool) (granted runs left : ℕ) →
     (reply_to (next_by_ending v over) late granted runs left).how ≡ number_of over late
@@ -85,23 +82,16 @@ told_late : (planned late : Bool) → (planned || late) ≡ false → (planned �
 told_late planned late is = let parts = or_false planned late is in (parts.0, rw parts.1 refl)
 
 or_none : (late n : Bool) → late ≡ n → (late || false) ≡ n
-or_none true n same = same
-or_none false n same = same
+or_none late n same = grind arith
 
 told_by : (over : Option How) (planned late : Bool) → (planned || late) ≡ says_done over →
     (planned ≡ true → late ≡ false) →
     (planned ≡ nat_eq (number_of over late) 2) × ((late || was_timed_out over) ≡ nat_eq (number_of over late) 8)
-told_by None planned late is apart = neither planned late is
-told_by (Some how.Won) planned late is apart = neither planned late is
 told_by (Some how.ScheduleDone) planned late is apart =
     let told = told_done planned late is apart in (told.0, or_none late _ told.1)
-told_by (Some how.BudgetRefused) planned late is apart = neither planned late is
 told_by (Some how.DeadlinePassed) planned late is apart = told_late planned late is
-told_by (Some how.Failed) planned late is apart = neither planned late is
-told_by (Some how.Cancelled) planned late is apart = neither planned late is
 told_by (Some (how.Broken fault.NoMemory)) planned late is apart = neither planned late is
-told_by (Some (how.Broken fault.JournalFull)) planned late is apart = neither planned late is
-told_by (Some (how.Broken fault.Backwards)) planned late is apart = neither planned late is
+told_by _ planned late is apart = neither planned late is
 
 -- this number tells whether the plan is done, and whether the deadline ended the retry
 abbrev pub TellsEnding : Option ℕ → Past → ℕ → Type 0
@@ -126,7 +116,5 @@ pub waits_in_time : (deadline : Option ℕ) (next : Next) (late : Bool) (granted
     WaitsInTime deadline next →
     (reply_to next late granted runs left).what ≡ 2 → is_past deadline (reply_to next late granted runs left).until ≡
     false
-waits_in_time deadline next.Poll late granted runs left in_time waits = absurd cc
-waits_in_time deadline next.Run late granted runs left in_time waits = absurd cc
 waits_in_time deadline (next.Wait start) late granted runs left in_time waits = in_time
-waits_in_time deadline (next.Over ended) late granted runs left in_time waits = absurd cc
+waits_in_time deadline _ late granted runs left in_time waits = absurd cc

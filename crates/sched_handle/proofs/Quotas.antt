@@ -9,8 +9,6 @@ use Rattle.sched_handle.specs.Passes.{NoQuota}
 use Rattle.sched_handle.specs.Status.{of_quota}
 
 pub no_quota : (k : Terms) (fault : QuotaFault) → k.period ≤ FAR → RefusesTerms k fault → NoQuota k (of_quota fault)
-no_quota k quota.ReserveTooLarge far why = why
-no_quota k quota.ShareTooLarge far why = why
-no_quota k quota.PeriodTooShort far why = why
 no_quota k quota.NoMemory far why = (why, far)
 no_quota k quota.TooManyPasses far why = absurd why
+no_quota k _ far why = why

@@ -1,11 +1,10 @@
 -- What C is told of a retry is so of each retry that the machine may stand for.
-use Rattle.std.proofs.Common.{◌≡◌, ℕ, Bool, false, ◌||◌, ◌-◌, nat_eq, length, min, Option, None, is_some, option_map}
-use Rattle.std.proofs.Common.{sym, ap, ◌∙◌, subst}
-use Rattle.sched_run_machine.specs.declared.next.Next.{Next}
+use Rattle.std.proofs.Common.{◌≡◌, ℕ, false, ◌||◌, ◌-◌, nat_eq, length, min, Option, None, is_some, option_map, refl}
+use Rattle.std.proofs.Common.{sym, ap, ◌∙◌}
 use Rattle.sched_handle.specs.declared.replies.Reply.{Reply}
 use Rattle.sched_run_machine.specs.Retrying.{Retrying}
 use Rattle.sched_ticket_draws.specs.declared.drawing.Drawing.{Drawing}
-use Rattle.sched_handle.specs.Retries.{MayBe, reply_to, reply_of, plan_is_done, left_number, left_at}
+use Rattle.sched_handle.specs.Retries.{MayBe, reply_of, plan_is_done, left_number, left_at}
 use Rattle.sched_driver.specs.Driven.{Driven}
 use Rattle.sched_driver_stepper.specs.Standing.{Standing}
 use Rattle.sched_task_law.specs.Deadline.{late}
@@ -14,37 +13,32 @@ use Rattle.sched_run_machine.specs.Drives.{Until, IsStepped}
 use Rattle.sched_handle.proofs.Deadlines.{TellsEnding, tells_ending, waits_in_time}
 use Rattle.sched_handle.proofs.retries.reply.Goals as goal
 
--- of equal parts the same is told
-same_reply : (r : Reply) (next next' : Next) (late late' : Bool) (granted granted' runs runs' left left' : ℕ) →
-    r ≡ reply_to next late granted runs left → next ≡ next' → late ≡ late' → granted ≡ granted' → runs ≡ runs' →
-    left ≡ left' → r ≡ reply_to next' late' granted' runs' left'
-same_reply r next next' late late' granted granted' runs runs' left left' is n l g s t =
-    let same : reply_to next late granted runs left ≡ reply_to next' late' granted' runs' left' =
-    λ i. reply_to (n i) (l i) (g i) (s i) (t i) in
-    is ∙ same
-
 pub returns : goal.returns
 returns c =
     let m = c.args.retry.now in
     let deadline = m.driver.deadline in
     let start = c.late_start-late.result in
     let late_is : (d : Driven) → IsStepped m.driver.driver d → start ≡ late deadline (next_start_by None d) =
-    subst (λ (v : Until Standing). (d : Driven) → IsStepped v.driver d → start ≡ late v.deadline (next_start_by None d))
-    c.driver.ensures c.late_start-late.ensures.late in
+    rw c.driver.ensures at c.late_start-late.ensures.late in
     let done_is : (d : Driven) → IsStepped m.driver.driver d →
     schedule_is_done deadline d ≡ (schedule_is_done None d || is_some start) =
-    subst (λ (v : Until Standing). (d : Driven) → IsStepped v.driver d →
-    schedule_is_done v.deadline d ≡ (schedule_is_done None d || is_some start))
-    c.driver.ensures c.late_start-late.ensures.done in
+    rw c.driver.ensures at c.late_start-late.ensures.done in
     let now = c.args.now in
     let left_is : c.left_of-left.result ≡ left_at deadline now =
     c.left_of-left.ensures
     ∙ ap left_number (c.left.ensures ∙ ap (λ (v : Until Standing). option_map (λ (end : ℕ). end - now) v.deadline)
     c.driver-2.ensures) in
     let tells : (u : Retrying Drawing) → MayBe m u → c.reply_to.result ≡ reply_of deadline now u.past =
-    λ u st. same_reply _ _ _ _ _ _ _ _ _ _ _ c.reply_to.ensures (c.next-next.ensures.next u st)
-    (c.is_some.ensures ∙ ap is_some (late_is u.past.driver st.driver))
-    (c.granted-granted.ensures.granted u st) (c.told-runs.ensures ∙ st.told) left_is in
+    λ u st. rw (
+      c.reply_to.ensures,
+      c.next-next.ensures.next u st,
+      c.is_some.ensures,
+      late_is u.past.driver st.driver,
+      c.granted-granted.ensures.granted u st,
+      c.told-runs.ensures,
+      st.told,
+      left_is,
+    ) refl in
     let ending : (u : Retrying Drawing) → MayBe m u → TellsEnding deadline u.past (reply_of deadline now u.past).how =
     λ u st. tells_ending false deadline u.past u.past.granted (min (length u.past.runs) 18446744073709551615)
     (left_at deadline now) st.law.law

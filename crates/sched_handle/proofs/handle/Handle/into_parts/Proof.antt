@@ -1,42 +1,17 @@
 -- `into_parts` tests the pointer: that of a block is not null, and where the handle holds nothing it is.
-use mathlib.Core.Path.{◌≡◌, refl, sym, subst}
-use mathlib.Core.List.{List, [], ◌∷◌, ◌++◌}
-use lib.Dec.{lit<}
-use seplogic.Ra.Ura.{Ura}
-use mir.Raw.{raw as bare}
-use mir.Val.{Val, vstruct, of_list, has_ty}
-use base.Logic.{SProp, ent, emp, id⊢, guard, guard_i}
-use base.Fml.{ftrue, fsep}
-use prog.Memory.{Memory}
-use prog.Routine.{Routine}
-use prog.Wp.{WpFn, Tables}
-use types.Logic.{Logic, sem}
-use contract.Monad.{Fun, fact_use}
-use contract.Running.{tables, tables_of}
-use sound.WpLaws.{WpFn-mono}
-use types.Kit.{Item, at_ret, ‵, raw, given, ◌⊛◌, ◌$◌, ◌∵◌, !, qed, by, learn, move, keep, drop, use0, use1, join, split}
-use types.Kit.{fsplit, fjoin, fpick, feq_l, suffices, done}
-use types.Match.{live}
-use types.Part.{whole, sub, agg}
-use types.Run.{bin, lit, stop, fld, no_more, and_then, of_opd, first, branches, skips, exec, returns, returns_within}
-use types.Run.{enter}
-use types.ByLocal.{alloc_all, pass_all, free_all, look_at, get, get_in, sets, env}
-use denote.Exit.{yes}
-use denote.RawPtr.{Ptr, block_ptr, null_ptr, ptr_val, Testable, tests_null}
-use denote.Steps.{nothing}
-use denote.Triple.Spec.{triple_of}
-use denote.Triple.Table.{entered}
-use denote.Triple.Walked.{says, Stays, stay_dropped, walk_of, ends_at, Goes-dropped, walk_Meets}
-use Rattle.core.proofs.alloc.Calls.{token, handle_tells}
-use Rattle.core.proofs.option.Made.{Some-of, none_of}
-use Rattle.core.specs.declared.option.Option.{Option}
-use Rattle.core.specs.declared.option.Option.TheVariants.{None, Some}
+use Rattle.sched_parts.proofs.Walks.{◌≡◌, refl, sym, subst, List, [], ◌∷◌, ◌++◌, lit<, Ura, bare, Val, vstruct, of_list}
+use Rattle.sched_parts.proofs.Walks.{has_ty, SProp, ent, emp, id⊢, guard, guard_i, ftrue, fsep, Memory, Routine, WpFn}
+use Rattle.sched_parts.proofs.Walks.{Tables, Logic, sem, Fun, fact_use, tables, tables_of, WpFn-mono, Item, at_ret, ‵}
+use Rattle.sched_parts.proofs.Walks.{raw, given, ◌⊛◌, ◌$◌, ◌∵◌, !, qed, by, learn, move, keep, drop, use0, use1, join}
+use Rattle.sched_parts.proofs.Walks.{split, fsplit, fjoin, fpick, feq_l, suffices, done, live, whole, sub, agg, bin}
+use Rattle.sched_parts.proofs.Walks.{lit, stop, fld, no_more, and_then, of_opd, first, branches, skips, exec, returns}
+use Rattle.sched_parts.proofs.Walks.{returns_within, enter, alloc_all, pass_all, free_all, look_at, get, get_in, sets}
+use Rattle.sched_parts.proofs.Walks.{env, yes, Ptr, block_ptr, null_ptr, ptr_val, Testable, tests_null, nothing}
+use Rattle.sched_parts.proofs.Walks.{triple_of, entered, says, Stays, stay_dropped, walk_of, ends_at, Goes-dropped}
+use Rattle.sched_parts.proofs.Walks.{walk_Meets, token, handle_tells, Some-of, none_of, Option, None, Some, Global}
+use Rattle.sched_parts.proofs.Walks.{dealloc_token-Testable, D, B, X, τ, box_ty, word, box_typed, box_out, box_in}
+use Rattle.sched_parts.proofs.Walks.{and_tt}
 use Rattle.core.specs.contracts.option.Option as OP
-use Rattle.std.specs.Global.{Global}
-use Rattle.std.proofs.GlobalToken.{dealloc_token-Testable}
-use Rattle.std_alloc.proofs.BoxSteps.Form.{D, B, X, τ, box_ty, word, box_typed}
-use Rattle.std_alloc.proofs.BoxSteps.Steps.{box_out, box_in}
-use Rattle.std_alloc.proofs.ResultValues.{and_tt}
 use Rattle.std_heap.specs.contracts.Global as Heap
 use Rattle.std_heap.specs.contracts.GlobalAllocator.TheImpl.{ghosts}
 use Rattle.sched_handle.proofs.AsBox.{E, FromHandle as From, null_word, null_typed}

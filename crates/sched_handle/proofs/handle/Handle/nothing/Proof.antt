@@ -1,34 +1,12 @@
 -- `nothing` makes a handle of a null pointer, which owns no block.
-use mathlib.Core.Path.{refl, sym, subst}
-use mathlib.Core.List.{List, [], ◌∷◌, ◌++◌}
-use seplogic.Ra.Ura.{Ura}
-use mir.Val.{Val, vnull}
-use base.Logic.{SProp, ent, emp, id⊢}
-use base.Fml.{ftrue, fsep}
-use prog.Memory.{Memory}
-use prog.Routine.{Routine}
-use prog.Wp.{WpFn, Tables}
-use types.Logic.{Logic}
-use contract.Monad.{Fun}
-use contract.Running.{tables, tables_of}
-use sound.WpLaws.{WpFn-mono}
-use types.Kit.{Item, ‵, raw, ◌⊛◌, ◌$◌, ◌∵◌, !, qed, by, move, keep, drop, use1, join, split, fsplit, fjoin, fpack}
-use types.Kit.{feq_i, suffices, done}
-use types.Part.{agg}
-use types.Run.{lit, no_more, and_then, returns, enter}
-use types.ByLocal.{alloc_all, pass_all, free_all, look_at, get, sets}
-use denote.Exit.{yes}
-use denote.RattleType.{Valss}
-use denote.RawPtr.{Ptr, RawPtr, null_ptr, ptr_val}
-use denote.Signature.{plain}
-use denote.Steps.{nothing}
-use denote.Struct.Struct.{within}
-use denote.Struct.Owning.{shape, to}
-use denote.Triple.Spec.{triple_of}
-use denote.Triple.Table.{entered}
-use denote.Triple.Walked.{says, Stays, stay_dropped, walk_of, ends_at, Goes-dropped, walk_Meets}
-use Rattle.core.proofs.alloc.Calls.{handle_tells}
-use Rattle.core.specs.declared.option.Option.TheVariants.{None}
+use Rattle.sched_parts.proofs.Walks.{refl, sym, subst, List, [], ◌∷◌, ◌++◌, Ura, Val, vnull, SProp, ent, emp, id⊢}
+use Rattle.sched_parts.proofs.Walks.{ftrue, fsep, Memory, Routine, WpFn, Tables, Logic, Fun, tables, tables_of}
+use Rattle.sched_parts.proofs.Walks.{WpFn-mono, Item, ‵, raw, ◌⊛◌, ◌$◌, ◌∵◌, !, qed, by, move, keep, drop, use1, join}
+use Rattle.sched_parts.proofs.Walks.{split, fsplit, fjoin, fpack, feq_i, suffices, done, agg, lit, no_more, and_then}
+use Rattle.sched_parts.proofs.Walks.{returns, enter, alloc_all, pass_all, free_all, look_at, get, sets, yes, Valss, Ptr}
+use Rattle.sched_parts.proofs.Walks.{RawPtr, null_ptr, ptr_val, plain, nothing, within, shape, to, triple_of, entered}
+use Rattle.sched_parts.proofs.Walks.{says, Stays, stay_dropped, walk_of, ends_at, Goes-dropped, walk_Meets}
+use Rattle.sched_parts.proofs.Walks.{handle_tells, None}
 use Rattle.std_heap.specs.contracts.Global as Heap
 use Rattle.sched_handle.proofs.AsBox.{E, null_word, null_typed}
 use Rattle.sched_handle.specs.contracts.handle.Handle as Handle
