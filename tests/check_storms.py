@@ -328,6 +328,11 @@ BAD = [
     "--limit throttle:999/1",
     "--limit throttle:1000/0",
     "--limit aws --open other.json",
+    "--limit aws --limit aws",
+    "--limit aws --limit aws --sweep rate=1,2",
+    "--limit aws --limit grpc:1 --compare other.json",
+    "--limit aws --limit inflight:1/1 --open other.json --compare other.json",
+    "--limit aws --limit aws --csv --compare other.json",
     "--open other.json",
     "--quota 1/1",
     "--quota 1/1/99",
@@ -411,6 +416,27 @@ tickets                  0             0
 slowest ms               -            11
 recovered ms         never         never
 """
+#: The same under two limits: one that has tokens enough, and one that allows no retry.
+CROSSED = """\
+                    a.json        a.json        b.json        b.json
+limit                  aws  inflight:0/0           aws  inflight:0/0
+requests                 1             1             1             1
+won                      0             0             1             0
+lost                     1             1             0             0
+denied                   0             0             0             1
+open                     0             0             0             0
+calls                    1             1             2             1
+for each              1.00          1.00          2.00          1.00
+most calls               1             1             2             1
+tickets                  0             0             1             0
+50 in 100 ms             -             -            11             -
+99 in 100 ms             -             -            11             -
+slowest ms               -             -            11             -
+recovered ms         never         never         never         never
+"""
+#: Limits under each of which two plans are played, with a plan of open times: the breaker is open for 300 ms each time.
+LIMITS = ["grpc:100/100", "breaker:5/1/1000", "inflight:3/200", "throttle:2000/60000"]
+OPEN = '{"spaced":300}'
 
 
 def looks_at_lines(program: List[str]) -> List[str]:
@@ -425,11 +451,37 @@ def looks_at_lines(program: List[str]) -> List[str]:
             (["--budget", "9", "b.json"], BARS + COMES_TO),
             (["--budget", "9", "--width", "72", "b.json"], NARROW + COMES_TO),
             (["a.json", "--compare", "b.json"], TABLE),
+            (["a.json", "--compare", "b.json", "--limit", "aws", "--limit", "inflight:0/0"], CROSSED),
         ]:
             done = subprocess.run([*storm, *words], capture_output=True, text=True, cwd=folder)
             if (done.returncode, done.stdout, done.stderr) != (0, wanted, ""):
                 wrong.append(f"{words}: status {done.returncode}: {done.stdout}{done.stderr}")
     return wrong
+
+
+def looks_at_limits(program: List[str]) -> List[str]:
+    """What is wrong with plans under several limits: each column is that of the storm under its limit alone."""
+    with tempfile.TemporaryDirectory() as folder:
+        (Path(folder) / "a.json").write_text(json.dumps(BACK_OFF))
+        (Path(folder) / "b.json").write_text('{"meet":[{"recurs":2},{"spaced":100}]}')
+        (Path(folder) / "open.json").write_text(OPEN)
+
+        def table(limits: List[str]) -> List[str]:
+            words = ["--rate", "80", "--capacity", "100", "--queue", "500", "a.json", "--compare", "b.json"]
+            words += [word for limit in limits for word in ("--limit", limit)]
+            opens = ["--open", "open.json"] if "breaker" in "".join(limits) else []
+            done = subprocess.run([*program, *words, *opens], capture_output=True, text=True, cwd=folder)
+            return (done.stdout + done.stderr).splitlines()
+
+        found, alone = table(LIMITS), [table([limit]) for limit in LIMITS]
+    wanted = []
+    for number, line in enumerate(alone[0]):
+        cells = [lines[number][at : at + 14].strip() for at in (12, 26) for lines in alone]
+        columns = [cell.rjust(max(12, len(limit))) for cell, limit in zip(cells, LIMITS * 2)]
+        wanted.append("  ".join([line[:12], *columns]))
+    wanted.insert(1, "  ".join(["limit".ljust(12), *(limit.rjust(12) for limit in LIMITS * 2)]))
+    is_right = found == wanted and len(found) == 15
+    return [] if is_right else ["\n".join(["several limits:", *found, "in place of", *wanted])]
 
 
 #: A call takes 9 ms, and each request comes after the one before is done. One that comes in the outage makes four.
@@ -580,7 +632,8 @@ def main() -> int:
     wrong = [line for program in programs for line in looks_at(program)]
     wrong += looks_at_numbers(programs[-1])
     if knows:
-        wrong += looks_at_words(programs[-1]) + looks_at_lines(programs[-1]) + looks_at_sweeps(programs[-1])
+        wrong += looks_at_words(programs[-1]) + looks_at_lines(programs[-1]) + looks_at_limits(programs[-1])
+        wrong += looks_at_sweeps(programs[-1])
         with Pool() as pool:
             wrong += filter(None, pool.imap_unordered(differs, [f"{seed}.{number}" for number in range(count)]))
     for line in wrong[:20]:

@@ -7,21 +7,22 @@ ghost use Rattle.sched_cli_storm.specs.StormPrinting.{PrintsStorm, IsRefusal};
 use crate::bars::push_bars;
 use crate::lines::push_lines;
 use crate::rows::{push_csv, push_json};
-use crate::side_by_side::push_table;
+use crate::side_by_side::{Column, push_table};
 use crate::sweep_rows::{push_sweep_csv, push_sweep_json};
 use crate::sweep_table::push_sweep;
 use crate::totals::push_words;
 use sched_cli_plan::{PrintFault, Sink, put_all, read_value};
-use sched_cli_storm_words::{Form, StormOptions, Sweep};
+use sched_cli_storm_words::{Form, Limited, StormOptions, Sweep};
 use sched_plan::{Plan, SharedPlan};
 use sched_plan_json::read_plan;
-use sched_storm::Report;
+use sched_storm::{Report, Totals};
 use sched_time::NoMemory;
 use std::alloc::Global;
 
 /// Plays the storm under the plan that the bytes spell, and writes what the options ask for. Where they ask for a
 /// sweep, it plays the storm with each value, and writes a line for each. Where they have further texts, it plays the
-/// same storm under the plan of each, and writes the totals side by side. Answers whether a storm was cut.
+/// same storm under the plan of each, and writes the totals side by side; where there are several limits, each plan
+/// under each. Answers whether a storm was cut.
 ///
 /// Refused as `NotJson`, `NotAPlan`, `OutOfRange`, `TooDeep`, `TooMany` and `NoMemory` with nothing written, and as
 /// `WriteFailed` with a front of the text written.
@@ -72,6 +73,9 @@ fn text_of(
 ) -> Result<(String, bool), NoMemory> {
     if let Some(sweep) = &options.sweep {
         return swept(alloc, plan, sweep, options);
+    }
+    if !options.limited.is_empty() {
+        return crossed(alloc, plan, others, options);
     }
     let report = played(alloc, options, plan)?;
     if !others.is_empty() {
@@ -134,7 +138,66 @@ fn compared(
         let report = played(alloc, options, plan)?;
         all.push(report.totals)?;
     }
+    let mut columns = Vec::new(alloc);
+    for name in &options.names {
+        columns.push(Column::new(alloc, name.as_str(), "")?)?;
+    }
     let mut text = String::new(alloc);
-    push_table(alloc, &mut text, &options.names, &all)?;
+    push_table(alloc, &mut text, &columns, &all)?;
     Ok((text, all.iter().any(|totals| totals.is_cut)))
+}
+
+// The totals of the storms under each plan and each of several limits, side by side.
+fn crossed(
+    alloc: Global,
+    plan: Plan,
+    others: Vec<Plan>,
+    options: &StormOptions,
+) -> Result<(String, bool), NoMemory> {
+    let mut all = Vec::new(alloc);
+    push_totals(alloc, &mut all, plan, &options.limited)?;
+    for plan in others {
+        push_totals(alloc, &mut all, plan, &options.limited)?;
+    }
+    let columns = crossed_columns(alloc, options)?;
+    let mut text = String::new(alloc);
+    push_table(alloc, &mut text, &columns, &all)?;
+    Ok((text, all.iter().any(|totals| totals.is_cut)))
+}
+
+// Adds the totals of the storms under a plan and each limit.
+fn push_totals(
+    alloc: Global,
+    all: &mut Vec<Totals>,
+    plan: Plan,
+    limits: &[Limited],
+) -> Result<(), NoMemory> {
+    let plan = SharedPlan::new(alloc, plan)?;
+    for limited in limits {
+        let report = limited.storm.play(alloc, plan.share()?)?;
+        all.push(report.totals)?;
+    }
+    Ok(())
+}
+
+// A column for each plan and each limit.
+fn crossed_columns(alloc: Global, options: &StormOptions) -> Result<Vec<Column>, NoMemory> {
+    let mut columns = Vec::new(alloc);
+    for name in &options.names {
+        push_columns(alloc, &mut columns, name.as_str(), &options.limited)?;
+    }
+    Ok(columns)
+}
+
+// Adds the columns of a plan.
+fn push_columns(
+    alloc: Global,
+    columns: &mut Vec<Column>,
+    name: &str,
+    limits: &[Limited],
+) -> Result<(), NoMemory> {
+    for limited in limits {
+        columns.push(Column::new(alloc, name, limited.word.as_str())?)?;
+    }
+    Ok(())
 }

@@ -26,26 +26,61 @@ const LABELS: [&str; 13] = [
 // As wide as the widest of these.
 const LABEL: usize = 12;
 
-/// Adds a line with the names, and a line for each of the totals.
+/// The head of a column: the plan, and the limit where there are several, or nothing.
+#[derive(Drop)]
+pub(crate) struct Column {
+    name: String,
+    limit: String,
+}
+
+impl Column {
+    pub(crate) fn new(alloc: Global, name: &str, limit: &str) -> Result<Column, NoMemory> {
+        Ok(Column {
+            name: String::from_str(alloc, name)?,
+            limit: String::from_str(alloc, limit)?,
+        })
+    }
+
+    // How wide it is.
+    fn width(&self) -> usize {
+        self.name.len().max(self.limit.len()).max(LABEL)
+    }
+}
+
+/// Adds a line with the names, one with the limits where there are several, and a line for each of the totals.
 pub(crate) fn push_table(
     alloc: Global,
     text: &mut String,
-    names: &[String],
+    columns: &[Column],
     all: &[Totals],
 ) -> Result<(), NoMemory> {
     push_left(text, "")?;
-    for name in names {
-        push_right(text, name.as_str(), LABEL)?;
+    for column in columns {
+        push_right(text, column.name.as_str(), column.width())?;
     }
     text.push('\n')?;
+    push_limits(text, columns)?;
     for (place, label) in LABELS.iter().enumerate() {
         push_left(text, label)?;
-        for (name, totals) in names.iter().zip(all) {
+        for (column, totals) in columns.iter().zip(all) {
             let cell = cell(alloc, totals, place)?;
-            push_right(text, cell.as_str(), name.len().max(LABEL))?;
+            push_right(text, cell.as_str(), column.width())?;
         }
         text.push('\n')?;
     }
+    Ok(())
+}
+
+// Adds a line with the limits, where there are several.
+fn push_limits(text: &mut String, columns: &[Column]) -> Result<(), NoMemory> {
+    if columns.iter().all(|column| column.limit.is_empty()) {
+        return Ok(());
+    }
+    push_left(text, "limit")?;
+    for column in columns {
+        push_right(text, column.limit.as_str(), column.width())?;
+    }
+    text.push('\n')?;
     Ok(())
 }
 

@@ -13,6 +13,7 @@ const STORM_EXAMPLES: &str = "Examples:
   zsched storm plans/back-off.json
   zsched storm --quota 10/10%/1s plans/back-off.json
   zsched storm --scenario herd --compare plans/three-times.json plans/back-off.json
+  zsched storm --limit aws --limit grpc:100/100 --compare plans/three-times.json plans/back-off.json
   zsched storm --sweep rate=200..1600/8 plans/back-off.json";
 
 const STORIES: [Row; 3] = [
@@ -27,7 +28,8 @@ const STORIES: [Row; 3] = [
         name: "compare",
         takes: Takes::Texts("FILE"),
         excludes: &[],
-        help: "Play the same storm under this plan too, and print the totals side by side; you can give it again",
+        help: "Play the same storm under this plan too, and print the totals side by side; you can give it again. \
+               With several limits each plan is played under each",
     },
     Row {
         name: "sweep",
@@ -110,18 +112,19 @@ const RETRIES: [Row; 5] = [
     },
     Row {
         name: "limit",
-        takes: Takes::Text("LIMIT"),
+        takes: Takes::Texts("LIMIT"),
         excludes: &["budget", "quota"],
         help: "Instead of a budget: a limit that requests ask before their first call too, as \
                bucket:CAPACITY/FLOOR/COST/LATE/DEBIT/CREDIT[+refund] (thousandths of a token; LATE is the cost after \
                a late call), grpc:TOKENS/RATIO, aws, inflight:LEAST/SHARE (thousandths), \
-               breaker:FAILURES/PROBES/DEADLINE or throttle:RATIO/PERIOD (thousandths, milliseconds)",
+               breaker:FAILURES/PROBES/DEADLINE or throttle:RATIO/PERIOD (thousandths, milliseconds); with --compare \
+               you can give it again",
     },
     Row {
         name: "open",
         takes: Takes::Text("FILE"),
         excludes: &[],
-        help: "The plan of a breaker's open times: its first wait is that of the first trip, and so on \
+        help: "The plan of the open times of breakers: its first wait is that of the first trip, and so on \
                [default: 30 s each]",
     },
     Row {

@@ -9,6 +9,7 @@ mod limits;
 mod numbers;
 mod options;
 mod rows;
+mod several;
 mod sweeps;
 
 pub use axes::Axis;
@@ -17,4 +18,5 @@ pub use faults::StormFault;
 pub use limits::BreakerWords;
 pub use options::{Form, StormOptions, storm_options};
 pub use rows::{Row, Takes, file_command, with_option, with_options};
+pub use several::Limited;
 pub use sweeps::{Sweep, Swept};

@@ -1,18 +1,14 @@
 //! What the options of the command ask for.
 use crate::faults::StormFault;
-use crate::limits::{BreakerWords, breaker_words_in, limit_in};
+use crate::limits::{BreakerWords, breaker_words_in};
 use crate::numbers::{brown_out_in, span_in};
+use crate::several::{Limited, draws_on, limited_in, opened, with_draws};
 use crate::sweeps::{Sweep, sweep_in};
 use clap::ArgMatches;
 use sched_limit::MAX_TRIPS;
-use sched_storm::{BrownOut, Draws, Limit, MAX_REQUESTS, Parameters, Span, Storm};
+use sched_storm::{BrownOut, Draws, MAX_REQUESTS, Parameters, Span, Storm};
 use sched_ticket_quota::Terms;
 use std::alloc::{AllocError, Global};
-
-const LIMIT_WANTED: &str =
-    "expected bucket:CAPACITY/FLOOR/COST/LATE/DEBIT/CREDIT (in thousandths of a token, with +refund or without), \
-     grpc:TOKENS/RATIO, aws, inflight:LEAST/SHARE, breaker:FAILURES/PROBES/DEADLINE or throttle:RATIO/PERIOD, \
-     such as grpc:100/100";
 
 const OPEN_WANTED: &str = "'--open <FILE>' is of '--limit breaker:..' alone";
 
@@ -52,9 +48,11 @@ pub struct StormOptions {
     pub form: Form,
     /// How wide a line with its bar is.
     pub width: u64,
-    /// The breaker of its limit, and the file of the plan of its open times, where there is one.
+    /// The breaker of its limit, and the file of the plan of the open times of breakers, where there is one.
     pub breaker: Option<BreakerWords>,
     pub open: Option<String>,
+    /// The storm under each limit, where there are several: the first is `storm`.
+    pub limited: Vec<Limited>,
     /// The files of the plans that it is played under, of which the first is the program's input.
     pub names: Vec<String>,
     /// The texts of the further files, in their order; none before they are read.
@@ -83,6 +81,7 @@ pub fn storm_options(
         form: form_in(options),
         width: number(options, "width", WIDTH),
         breaker: options.get_str("limit").and_then(breaker_words_in),
+        limited: limited_in(alloc, options, &storm)?,
         open: open(alloc, options)?,
         names: names(alloc, options)?,
         texts: Vec::new(alloc),
@@ -216,10 +215,7 @@ fn draws(
     quota: Option<Terms>,
 ) -> Result<Draws, StormFault> {
     if let Some(word) = options.get_str("limit") {
-        return match limit_in(word) {
-            Some(limit) => Ok(Draws::Limited(limit)),
-            None => Err(StormFault::value(alloc, "--limit <LIMIT>", word, LIMIT_WANTED)),
-        };
+        return draws_on(alloc, word);
     }
     match (quota, options.get_one::<u64>("budget")) {
         (Some(terms), _) => Ok(Draws::Quota(terms)),
@@ -228,49 +224,46 @@ fn draws(
     }
 }
 
-// The file of the plan of a breaker's open times, where one is named.
+// The file of the plan of the open times of breakers, where one is named.
 fn open(alloc: Global, options: &ArgMatches<'_>) -> Result<Option<String>, StormFault> {
     let Some(name) = options.get_str("open") else {
         return Ok(None);
     };
-    if options
-        .get_str("limit")
-        .and_then(breaker_words_in)
-        .is_none()
-    {
+    if !has_breaker(options) {
         return Err(StormFault::bad(alloc, OPEN_WANTED));
     }
     Ok(Some(String::from_str(alloc, name)?))
 }
 
+// Whether one of the limits is a breaker.
+fn has_breaker(options: &ArgMatches<'_>) -> bool {
+    if let Some(words) = options.get_strs("limit") {
+        for word in words {
+            if breaker_words_in(word).is_some() {
+                return true;
+            }
+        }
+    }
+    false
+}
+
 impl StormOptions {
-    /// The same, with a breaker that is open for these times, of which the first `last + 1` count.
+    /// The same, with breakers that are open for these times, of which the first `last + 1` count.
     pub fn with_open_times(self, times: [u64; MAX_TRIPS], last: u64) -> StormOptions {
-        let Some(breaker) = self.breaker.and_then(|words| words.breaker(times, last)) else {
-            return self;
-        };
-        let draws = Draws::Limited(Limit::Breaker(breaker));
         let mut options = self;
-        let storm = with_draws(&options.storm, &draws);
-        options.storm = storm;
-        if let Some(sweep) = &mut options.sweep {
-            for swept in &mut sweep.storms {
-                let storm = with_draws(&swept.storm, &draws);
-                swept.storm = storm;
+        for limited in &mut options.limited {
+            if let Some(draws) = opened(&limited.breaker, times, last) {
+                let storm = with_draws(&limited.storm, &draws);
+                limited.storm = storm;
+            }
+        }
+        if let Some(draws) = opened(&options.breaker, times, last) {
+            let storm = with_draws(&options.storm, &draws);
+            options.storm = storm;
+            if let Some(sweep) = &mut options.sweep {
+                sweep.draw_on(&draws);
             }
         }
         options
-    }
-}
-
-// The storm whose retries draw on this.
-fn with_draws(storm: &Storm, draws: &Draws) -> Storm {
-    let parameters = Parameters {
-        draws: *draws,
-        ..*storm.parameters()
-    };
-    match Storm::new(parameters) {
-        Some(storm) => storm,
-        None => *storm,
     }
 }

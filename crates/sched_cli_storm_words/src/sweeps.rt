@@ -2,7 +2,8 @@
 use crate::axes::Axis;
 use crate::faults::StormFault;
 use crate::numbers::number_in;
-use sched_storm::{Parameters, Storm};
+use crate::several::with_draws;
+use sched_storm::{Draws, Parameters, Storm};
 use std::alloc::{AllocError, Global};
 
 // The most values of a sweep.
@@ -38,6 +39,16 @@ pub struct Sweep {
     pub axis: Axis,
     /// A storm for each value, in the order of the values.
     pub storms: Vec<Swept>,
+}
+
+impl Sweep {
+    /// Makes the retries of its storms draw on this.
+    pub(crate) fn draw_on(&mut self, draws: &Draws) {
+        for swept in &mut self.storms {
+            let storm = with_draws(&swept.storm, draws);
+            swept.storm = storm;
+        }
+    }
 }
 
 /// The storms that a word asks for, with each value in the place of one of these parameters.

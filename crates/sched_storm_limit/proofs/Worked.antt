@@ -73,5 +73,6 @@ abbrev throttle : Draws
 throttle = Limited (limit.Throttle (record { ratio = 2000; period = 60000; start = 0; lasts = omega arith }))
 
 asks_nothing : ((admitting throttle 0 0 (state_at_first throttle 7)).0 ≡ true)
-    × ((admitting throttle 9 1 (succeeding throttle 8 0 (admitting throttle 0 0 (state_at_first throttle 7)).1)).0 ≡ true)
+    × ((admitting throttle 9 1 (succeeding throttle 8 0 (admitting throttle 0 0 (state_at_first throttle 7)).1)).0
+    ≡ true)
 asks_nothing = (refl, refl)
