@@ -1,6 +1,7 @@
 -- The laws of a throttle.
-use Rattle.std.proofs.Common.{◌≡◌, ℕ, ◌+◌, ◌-◌, ◌<◌, ◌≤◌, min, Bool, true, not, ltb, ◌==◌, ◌&&◌, ◌||◌, refl, sym, ap}
-use Rattle.std.proofs.Common.{◌∙◌, subst, arith, eq-eqb}
+use Rattle.std.proofs.Common.{◌≡◌, ℕ, ◌+◌, ◌-◌, ◌*◌, ◌/◌, ◌<◌, ◌≤◌, min, Bool, true, not, ltb, ◌==◌, ◌&&◌, ◌||◌, refl}
+use Rattle.std.proofs.Common.{◌∙◌, subst, arith, eq-eqb, sym, ap, zero, suc}
+use Rattle.std.proofs.lemmas.Nat.{div-mul-add}
 use Rattle.sched_limit_word.specs.declared.call.Call.{Call}
 use Rattle.sched_limit_word.specs.declared.call.Call.TheVariants.{Admit, Draw, Failed, Succeeded, Ended, Returned}
 use Rattle.sched_limit_word.specs.declared.call.Call.TheVariants.{Closed}
@@ -10,6 +11,21 @@ use Rattle.sched_limit.specs.Throttle.{throttle_next, window_at, asks_in, accept
 use Rattle.sched_limit.specs.Laws.{ClosedIsFinal, EachIsCounted, is_forward, is_counted, counts_as, accepts_as}
 use Rattle.sched_limit.specs.declared.throttle.Throttle.{Throttle}
 use Rattle.sched_limit.proofs.Cases.{by_eq, by_bool, or_left, or_right, and_both, each_is}
+
+-- a moment is in the window whose borders lie around it
+between : (p s g : ℕ) → s < g * p → g * p - s ≤ p → s / p + 1 ≡ g
+between p s zero before near = absurd (omega (arith, before))
+between p s (suc k) before near =
+    let split : s ≡ k * p + (s - k * p) = omega (arith, before, near) in
+    let rest : s - k * p < p = omega (arith, before, near) in
+    let quotient : s / p ≡ k = ap (λ (n : ℕ). n / p) split ∙ div-mul-add k p (s - k * p) rest in
+    omega (arith, quotient)
+
+pub is_window : (t : Throttle) (now g : ℕ) → now - t.start < g * t.period → g * t.period - (now - t.start) ≤ t.period
+    → g ≤ 8388607 → g ≡ window_at t now
+is_window t now g before near few =
+    let whole : (now - t.start) / t.period + 1 ≡ g = between t.period (now - t.start) g before near in
+    omega (arith, whole, few)
 
 -- a word that fits: at most 1 for closed, and counts of 20 bits
 record Fits (closed requests accepts : ℕ) : Type 0 where

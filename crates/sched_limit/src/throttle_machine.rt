@@ -8,7 +8,9 @@ use crate::refusal::Refusal;
 use crate::refuses::Refuses;
 use crate::throttle::Throttle;
 use crate::window;
-use crate::window::{LAST_WINDOW, MAX_COUNT, accepts_at, counted, is_open_to, requests_at};
+use crate::window::{
+    LAST_WINDOW, MAX_COUNT, accepts_at, counted, is_open_to, requests_at, window_of,
+};
 use sched_limit_word::{Call, Machine};
 use sched_time::{FAR, Moment};
 
@@ -22,19 +24,42 @@ impl Throttle {
         (now.get().saturating_sub(self.start) / self.period + 1).min(LAST_WINDOW)
     }
 
+    /// The same. Where it is the one that is guessed, nothing is divided.
+    #[inline(always)]
+    pub fn window_near(&self, now: Moment, guess: u64) -> u64
+        ensures window { result ≡ window_at self.now now }
+        ensures some { 0 < result }
+        ensures few { result < 8388608 }
+    {
+        let since = now.get().saturating_sub(self.start);
+        if let Some(end) = guess.checked_mul(self.period) {
+            if since < end && end - since <= self.period && guess <= LAST_WINDOW {
+                return guess;
+            }
+        }
+        self.window_at(now)
+    }
+
     /// Whether the word takes no counts of the window of this moment, since a later one has begun.
     pub fn is_late(&self, now: Moment, word: u64) -> bool
         ensures { result ≡ not (is_open_to (window_at self.now now) word) }
     {
-        !is_open_to(self.window_at(now), word)
+        !is_open_to(self.window_near(now, window_of(word)), word)
+    }
+
+    /// Whether the window before that of this moment is closed, by this word of it.
+    #[inline(always)]
+    pub fn has_closed(&self, now: Moment, word: u64) -> bool {
+        let next = window_of(word) + 1;
+        window::is_closed(word) && self.window_near(now, next) == next
     }
 
     /// A moment of the window that this word counts, or of the one after it where that is closed.
     pub fn moment_of(&self, word: u64) -> Moment {
         let ahead = if window::is_closed(word) {
-            window::window_of(word)
+            window_of(word)
         } else {
-            window::window_of(word).saturating_sub(1)
+            window_of(word).saturating_sub(1)
         };
         let millis = self.start.saturating_add(ahead.saturating_mul(self.period));
         let Some(moment) = Moment::new(millis.min(FAR)) else {
@@ -110,10 +135,11 @@ impl Machine for Throttle {
         0
     }
 
+    #[inline(always)]
     fn next(&self, call: Call, word: u64) -> u64 {
         match call {
             Call::Admit(now, _, _) => {
-                let window = self.window_at(now);
+                let window = self.window_near(now, window_of(word));
                 if is_open_to(window, word) {
                     asks_in(window, word)
                 } else {
@@ -121,7 +147,7 @@ impl Machine for Throttle {
                 }
             }
             Call::Succeeded(now, _, _) => {
-                let window = self.window_at(now);
+                let window = self.window_near(now, window_of(word));
                 if is_open_to(window, word) {
                     accepted_in(window, word)
                 } else {
@@ -129,7 +155,7 @@ impl Machine for Throttle {
                 }
             }
             Call::Closed(now) => {
-                let window = self.window_at(now) - 1;
+                let window = self.window_near(now, window_of(word) + 1) - 1;
                 if is_open_to(window, word) {
                     closed_in(window, word)
                 } else {
@@ -153,10 +179,11 @@ impl Refuses for Throttle {
 
     ghost worth = { λ t drawn. 0 };
 
+    #[inline(always)]
     fn refusal(&self, call: Call, word: u64) -> Option<Refusal> {
         match call {
             Call::Admit(now, random, before) => {
-                let window = self.window_at(now);
+                let window = self.window_near(now, window_of(word));
                 if !is_open_to(window, word) {
                     Some(Refusal::RacesLost)
                 } else if self.asks(window, random, before, word) {

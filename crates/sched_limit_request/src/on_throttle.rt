@@ -19,6 +19,8 @@ pub struct OnThrottle {
     even: Side,
     odd: Side,
     counted: bool,
+    /// The window of its latest call, by which the next one's is guessed.
+    latest: u64,
 }
 
 impl Model for OnThrottle {
@@ -49,6 +51,7 @@ impl OnThrottle {
             even,
             odd,
             counted: false,
+            latest: 0,
         })
     }
 
@@ -69,7 +72,8 @@ impl Asks for OnThrottle {
         if self.counted {
             return Err(Refusal::OutOfTurn);
         }
-        match ask(&mut self.even, &mut self.odd, now, random) {
+        self.latest = self.even.throttle().window_near(now, self.latest);
+        match ask(&mut self.even, &mut self.odd, now, random, self.latest) {
             Ok(()) => {
                 self.counted = true;
                 Ok(())
@@ -82,13 +86,15 @@ impl Asks for OnThrottle {
         if !self.counted {
             return Err(Refusal::OutOfTurn);
         }
-        ask(&mut self.even, &mut self.odd, now, random)
+        self.latest = self.even.throttle().window_near(now, self.latest);
+        ask(&mut self.even, &mut self.odd, now, random, self.latest)
     }
 
     fn failed(&mut self, _now: Moment) {}
 
     fn succeeded(&mut self, now: Moment) {
-        accept(&mut self.even, &mut self.odd, now);
+        self.latest = self.even.throttle().window_near(now, self.latest);
+        accept(&mut self.even, &mut self.odd, now, self.latest);
     }
 
     fn cancelled(&mut self) {}
@@ -104,12 +110,14 @@ impl Asks for OnThrottle {
             even,
             odd,
             counted: false,
+            latest: 0,
         })
     }
 }
 
-/// Asks in the window of this moment, or in a later one that has begun.
-fn ask(even: &mut Side, odd: &mut Side, now: Moment, random: u32) -> Result<(), Refusal>
+/// Asks in the window of this moment, which is guessed, or in a later one that has begun.
+#[inline(always)]
+fn ask(even: &mut Side, odd: &mut Side, now: Moment, random: u32, guess: u64) -> Result<(), Refusal>
     requires { odd.old.limit.machine ≡ even.old.limit.machine }
     ensures even { IsSameSide even.old even.new }
     ensures odd { IsSameSide odd.old odd.new }
@@ -117,7 +125,7 @@ fn ask(even: &mut Side, odd: &mut Side, now: Moment, random: u32) -> Result<(), 
 {
     let mut at = now;
     for _ in 0..MAX_TRIES {
-        match ask_at(even, odd, at, random) {
+        match ask_at(even, odd, at, random, guess) {
             Turn::Done(answer) => return answer,
             Turn::Later(moment) => at = moment,
         }
@@ -126,13 +134,14 @@ fn ask(even: &mut Side, odd: &mut Side, now: Moment, random: u32) -> Result<(), 
 }
 
 /// Closes the window before that of this moment, and asks in this one.
-fn ask_at(even: &mut Side, odd: &mut Side, at: Moment, random: u32) -> Turn
+#[inline(always)]
+fn ask_at(even: &mut Side, odd: &mut Side, at: Moment, random: u32, guess: u64) -> Turn
     requires { odd.old.limit.machine ≡ even.old.limit.machine }
     ensures even { IsSameSide even.old even.new }
     ensures odd { IsSameSide odd.old odd.new }
     ensures done { IsTurn even.old.limit.machine random result even.new.pass odd.new.pass }
 {
-    if even.throttle().window_at(at) % 2 == 0 {
+    if even.throttle().window_near(at, guess) % 2 == 0 {
         match odd.closed(at) {
             Ok(before) => even.counted(at, random, before),
             Err(RacesLost) => Turn::Done(Err(Refusal::RacesLost)),
@@ -145,14 +154,14 @@ fn ask_at(even: &mut Side, odd: &mut Side, at: Moment, random: u32) -> Turn
     }
 }
 
-/// Counts a success in the window of this moment, or in a later one that has begun.
-fn accept(even: &mut Side, odd: &mut Side, now: Moment)
+/// Counts a success in the window of this moment, which is guessed, or in a later one that has begun.
+fn accept(even: &mut Side, odd: &mut Side, now: Moment, guess: u64)
     ensures even { IsSameSide even.old even.new }
     ensures odd { IsSameSide odd.old odd.new }
 {
     let mut at = now;
     for _ in 0..MAX_TRIES {
-        match accept_at(even, odd, at) {
+        match accept_at(even, odd, at, guess) {
             None => return,
             Some(later) => at = later,
         }
@@ -161,11 +170,11 @@ fn accept(even: &mut Side, odd: &mut Side, now: Moment)
 
 /// Closes the window before that of this moment, and counts a success in this one. The moment of a later window, where
 /// that has begun.
-fn accept_at(even: &mut Side, odd: &mut Side, at: Moment) -> Option<Moment>
+fn accept_at(even: &mut Side, odd: &mut Side, at: Moment, guess: u64) -> Option<Moment>
     ensures even { IsSameSide even.old even.new }
     ensures odd { IsSameSide odd.old odd.new }
 {
-    if even.throttle().window_at(at) % 2 == 0 {
+    if even.throttle().window_near(at, guess) % 2 == 0 {
         let _ = odd.closed(at);
         even.accepted(at)
     } else {

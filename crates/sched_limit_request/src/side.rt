@@ -17,6 +17,8 @@ use std::sync::Arc;
 pub struct Side {
     pass: Pass,
     limit: Arc<Limit<Throttle>>,
+    /// The word that it closed a window with, where it has made no other call since.
+    closed: Option<u64>,
 }
 
 /// What came of a try: it is done, or a later window has begun at this moment.
@@ -27,6 +29,7 @@ pub enum Turn {
 }
 
 impl Model for Side {
+    ghost use Rattle.std.specs.Prelude.{◌≡◌, IfSome};
     ghost use Rattle.sched_limit_word.specs.Held.{IsOf};
     ghost use Rattle.sched_limit_request.specs.Sides.{OfSide};
 
@@ -34,7 +37,7 @@ impl Model for Side {
 
     ghost view = { λ s. record { pass = s.pass; limit = s.limit.value } };
 
-    ghost invariant = { λ s. IsOf s.limit.value s.pass };
+    ghost invariant = { λ s. IsOf s.limit.value s.pass × IfSome s.closed (λ word. s.pass.has.seen ≡ word) };
 }
 
 impl Side {
@@ -44,7 +47,11 @@ impl Side {
     {
         let (limit, pass) = Limit::new(alloc, throttle)?;
         match Arc::new(alloc, limit) {
-            Ok(limit) => Ok(Side { pass, limit }),
+            Ok(limit) => Ok(Side {
+                pass,
+                limit,
+                closed: None,
+            }),
             Err(_) => Err(NoMemory),
         }
     }
@@ -56,29 +63,38 @@ impl Side {
         self.limit.machine()
     }
 
-    /// Closes the window before that of this moment, and answers the word that it was closed with.
+    /// Closes the window before that of this moment, and answers the word that it was closed with. It is closed once.
+    #[inline(always)]
     pub fn closed(&mut self, at: Moment) -> Result<u64, RacesLost>
         ensures same { IsSameSide self.old self.new }
         ensures seen { IfOk result (λ word. self.new.pass.has.seen ≡ word) }
     {
+        if let Some(word) = self.closed {
+            if self.limit.machine().has_closed(at, word) {
+                return Ok(word);
+            }
+        }
+        self.closed = None;
         let found = self.pass.call(&*self.limit, Call::Closed(at), MAX_TRIES)?;
-        Ok(self.limit.machine().next(Call::Closed(at), found))
+        let word = self.limit.machine().next(Call::Closed(at), found);
+        self.closed = Some(word);
+        Ok(word)
     }
 
     /// Asks in the window of this moment, by the word that the one before was closed with.
+    #[inline(always)]
     pub fn counted(&mut self, at: Moment, random: u32, before: u64) -> Turn
         ensures same { IsSameSide self.old self.new }
         ensures done { CountsHere self.old.limit.machine (Call.Admit at random before) result self.new.pass }
     {
+        self.closed = None;
         let call = Call::Admit(at, random, before);
         let Ok(found) = self.pass.call(&*self.limit, call, MAX_TRIES) else {
             return Turn::Done(Err(Refusal::RacesLost));
         };
         let throttle = self.limit.machine();
-        if throttle.is_late(at, found) {
-            return Turn::Later(throttle.moment_of(found));
-        }
         match throttle.refusal(Call::Admit(at, random, before), found) {
+            Some(Refusal::RacesLost) => Turn::Later(throttle.moment_of(found)),
             Some(why) => Turn::Done(Err(why)),
             None => Turn::Done(Ok(())),
         }
@@ -88,6 +104,7 @@ impl Side {
     pub fn accepted(&mut self, at: Moment) -> Option<Moment>
         ensures same { IsSameSide self.old self.new }
     {
+        self.closed = None;
         let call = Call::Succeeded(at, 0, 0);
         let Ok(found) = self.pass.call(&*self.limit, call, u64::MAX) else {
             return None;
@@ -109,8 +126,13 @@ impl Side {
         let Ok(limit) = Arc::try_clone(&self.limit) else {
             return Err(SplitFault::NoMemory);
         };
+        self.closed = None;
         match self.pass.split(&*self.limit) {
-            Ok(pass) => Ok(Side { pass, limit }),
+            Ok(pass) => Ok(Side {
+                pass,
+                limit,
+                closed: None,
+            }),
             Err(_) => Err(SplitFault::TooManyPasses),
         }
     }
