@@ -6,6 +6,7 @@ use sched_handle::{Handle, Kind, Status};
 use std::alloc::Global;
 
 // Joins what a handle of this kind draws by into a pass, and leaves that handle empty.
+#[inline(always)]
 pub(crate) fn join_into(alloc: Global, kind: Kind, from: &mut Handle, pass: &mut Handle) -> u32
     requires { AreOfOne pass.old.held from.old.held }
     ensures { JoinsHeld kind from.old.held pass.old.held result from.new.held pass.new.held }
@@ -31,7 +32,7 @@ pub(crate) fn join_into(alloc: Global, kind: Kind, from: &mut Handle, pass: &mut
         pass.put(to);
         return Status::DrawsElsewhere.code();
     }
-    to.join(Box::into_inner(held));
+    to.join(held);
     pass.put(to);
     0
 }

@@ -5,6 +5,7 @@ use Rattle.sched_plan.specs.Schedule.{Schedule}
 use Rattle.sched_plan.specs.Answer.{answer}
 use Rattle.sched_plan.specs.declared.history.Event.{Event}
 use Rattle.sched_step.specs.Progress.{Progress, fits}
+use Rattle.sched_step.specs.StateOf.{state_of}
 use Rattle.sched_step_flat.specs.Words.{width_of}
 use Rattle.sched_step_flat.specs.Record.{has_record, record_after}
 use Rattle.sched_driver_stepper.specs.Standing.{Standing, words_after, tree_after}
@@ -51,3 +52,7 @@ pub record IsStart (s : Schedule) (start : Option (List ℕ)) : Type 0 where
 pub record KeptSteps (s : Schedule) (h : List Event) (kept : Kept) (decision : Decision) : Type 0 where
   pub after : IsKeptAfter s h kept
   pub decided : decision ≡ (answer s h).decision
+
+-- what a step by the tree gives where this is the history with the step's event
+abbrev pub TreeSteps : Schedule → List Event → Progress → Decision → Type 0
+TreeSteps s h tree decision = (tree ≡ state_of s h) × (decision ≡ (answer s h).decision)

@@ -1,4 +1,4 @@
-ghost use Rattle.std.specs.Prelude.{◌≡◌, [], IfOk};
+ghost use Rattle.std.specs.Prelude.{◌≡◌, [], IfOk, IfSome};
 ghost use Rattle.sched_driver_stepper.specs.Standing.{standing_after};
 
 use crate::kept::Kept;
@@ -79,7 +79,6 @@ impl Compiled {
 
     /// A stepper of the plan before its first event. It takes memory only for a record of more than 8 words, and for
     /// a plan that has none.
-    #[inline(always)]
     pub fn stepper(&self, alloc: Global) -> Result<Stepper, NoMemory>
         ensures { IfOk result (λ stepper. stepper ≡ standing_after self.now []) }
     {
@@ -91,5 +90,22 @@ impl Compiled {
             }
             None => Stepper::of_shared(alloc, plan),
         }
+    }
+
+    /// The same where the plan has a record. `None` where it has none, and where there is no memory.
+    #[inline(always)]
+    pub fn stepper_by_record(&self) -> Option<Stepper>
+        ensures { IfSome result (λ stepper. stepper ≡ standing_after self.now []) }
+    {
+        let Some(start) = &self.start else {
+            return None;
+        };
+        let Ok(record) = start.copied() else {
+            return None;
+        };
+        let Ok(plan) = self.plan.share() else {
+            return None;
+        };
+        Some(Stepper::unstepped(plan, Kept::Flat(record)))
     }
 }

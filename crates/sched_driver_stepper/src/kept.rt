@@ -1,8 +1,9 @@
-ghost use Rattle.std.specs.Prelude.{◌≡◌, ℕ, ◌≤◌, List, [], ◌∷◌, ◌++◌, IfOk, IfErr};
+ghost use Rattle.std.specs.Prelude.{◌≡◌, ℕ, ◌≤◌, List, [], ◌∷◌, ◌++◌, IfOk, IfErr, IsTrue};
 ghost use Rattle.sched_time.specs.declared.numbers.TheConstants.{FAR};
 ghost use Rattle.sched_plan.specs.declared.history.Event.{Event};
-ghost use Rattle.sched_step.specs.StateOf.{event_of};
-ghost use Rattle.sched_driver_stepper.specs.Kept.{IsKeptAfter, IsFirstKept, KeptFits, KeptSteps};
+ghost use Rattle.sched_step.specs.Progress.{fits};
+ghost use Rattle.sched_step.specs.StateOf.{state_of, event_of};
+ghost use Rattle.sched_driver_stepper.specs.Kept.{IsKeptAfter, IsFirstKept, KeptFits, KeptSteps, TreeSteps};
 
 use sched_plan::{Plan, Val};
 use sched_step::{State, initial};
@@ -50,7 +51,7 @@ impl Kept {
     {
         match self {
             Kept::Flat(record) => Ok(record.advance(plan, tick, input)),
-            Kept::Tree(state) => Ok(state.advance(alloc, plan, tick, input)?.decision),
+            Kept::Tree(state) => advance_tree(state, alloc, plan, tick, input),
         }
     }
 
@@ -65,4 +66,25 @@ impl Kept {
             Kept::Tree(state) => state.renew(plan),
         }
     }
+}
+
+// Steps the plan by its tree.
+#[cold]
+#[inline(never)]
+fn advance_tree(
+    state: &mut State,
+    alloc: Global,
+    plan: &Plan,
+    tick: &Tick,
+    input: &Val,
+) -> Result<Decision, NoMemory>
+    requires { IsTrue (fits plan.now state.old tick.now.now) }
+    ensures law { (h : List Event) → state.old ≡ state_of plan.now h → IfOk result
+        (λ d. TreeSteps plan.now (h ++ event_of tick.entry.now input.now ∷ []) state.new d) }
+    ensures fits { IfOk result
+        (λ _. (later : ℕ) → tick.entry.now.now ≤ later → IsTrue (fits plan.now state.new later)) }
+    ensures shape { IfOk result (λ _. IsTrue (fits plan.now state.new FAR)) }
+    ensures unchanged { IfErr result (λ _. state.new ≡ state.old) }
+{
+    Ok(state.advance(alloc, plan, tick, input)?.decision)
 }

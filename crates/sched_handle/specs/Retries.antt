@@ -110,11 +110,14 @@ pub record IsUnbegun (plan : Schedule) (deadline : Option ℕ) (m : Hosted) : Ty
 abbrev pub IsFresh : Schedule → Option ℕ → Drawing → Held → Type 0
 IsFresh plan deadline d v = (m : Hosted) × (v ≡ Retry m) × (m.drawing ≡ d) × IsUnbegun plan deadline m
 
+-- a retry of this plan is made, and draws by what is split off this, or none for this reason
+abbrev pub Begins : Option ℕ → Schedule → Drawing → Result (Box Held Global) Status → Drawing → Type 0
+Begins deadline plan d (Ok b) e = (part : Drawing) × Parted d part e × IsFresh plan deadline part b.value
+Begins deadline plan d (Err s) e = NoSplit d s e
+
 -- a retry of a policy is made with a pass that is split off, which has no ticket
 abbrev pub PassRetries : Option ℕ → Schedule → Drawing → Result (Box Held Global) Status → Held → Type 0
-PassRetries deadline plan d (Ok b) v =
-    (e part : Drawing) × (v ≡ Pass e) × Parted d part e × IsFresh plan deadline part b.value
-PassRetries deadline plan d (Err s) v = (e : Drawing) × (v ≡ Pass e) × NoSplit d s e
+PassRetries deadline plan d r v = (e : Drawing) × (v ≡ Pass e) × Begins deadline plan d r e
 
 -- with what is no pass, a retry is refused for this reason
 abbrev pub OtherRetries : Held → Result (Box Held Global) Status → Held → Type 0

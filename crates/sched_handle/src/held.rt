@@ -1,6 +1,7 @@
 //! What a handle holds.
 ghost use Rattle.std.specs.Prelude.{◌≡◌, IfOk, IfErr};
 ghost use Rattle.sched_handle.specs.Held.{kind_of};
+ghost use Rattle.sched_handle.specs.declared.held.Held.TheVariants as what;
 ghost use Rattle.sched_handle.specs.declared.status.Status.TheVariants as status;
 
 use crate::status::Status;
@@ -9,6 +10,7 @@ use sched_run_machine::{Machine, Until};
 use sched_ticket_draws::Drawing;
 use sched_ticket_lease::Leased;
 use std::alloc::Global;
+use std::mem;
 
 /// What a handle holds.
 #[derive(Drop)]
@@ -61,12 +63,19 @@ impl Held {
         }
     }
 
-    /// The same in the place of what is in this block.
+    /// The same in the place of the room in this block, which needs no drop.
     #[inline(always)]
     pub(crate) fn within(self, mut room: Box<Held>) -> Box<Held>
+        requires { room.value ≡ what.Room }
         ensures { result.value ≡ self }
     {
-        *room = self;
+        match mem::replace(&mut *room, self) {
+            Held::Room => {}
+            Held::Policy(_) => unreachable!(),
+            Held::Pass(_) => unreachable!(),
+            Held::Retry(_) => unreachable!(),
+            Held::Leased(_) => unreachable!(),
+        }
         room
     }
 }

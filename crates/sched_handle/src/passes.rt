@@ -179,19 +179,31 @@ impl Held {
 
     /// Joins what another pass or a retry draws by into this pass. A retry ends so.
     #[inline(always)]
-    pub fn join(&mut self, other: Held)
-        requires alike { draw_alike (drawing_of self.old) (drawing_of other) ≡ true }
-        requires one { DrawOnOne (drawing_of self.old) (drawing_of other) }
-        ensures { Joins (drawing_of self.old) (drawing_of other) self.new }
+    pub fn join(&mut self, other: Box<Held>)
+        requires alike { draw_alike (drawing_of self.old) (drawing_of other.value) ≡ true }
+        requires one { DrawOnOne (drawing_of self.old) (drawing_of other.value) }
+        ensures { Joins (drawing_of self.old) (drawing_of other.value) self.new }
     {
-        let other = other.into_drawing();
         if let Held::Pass(pass) = self {
-            let this = mem::replace(pass, Drawing::Unlimited(Unlimited::new()));
-            *pass = this.join(other);
+            let other = Box::into_inner(other);
+            pass.take_in(other.into_drawing());
             return;
         }
-        let this = mem::replace(self, Held::Room).into_drawing();
-        *self = Held::Pass(this.join(other));
+        self.become_pass(other);
+    }
+
+    // The same of a retry, which becomes a pass.
+    #[cold]
+    #[inline(never)]
+    fn become_pass(&mut self, other: Box<Held>)
+        requires alike { draw_alike (drawing_of self.old) (drawing_of other.value) ≡ true }
+        requires one { DrawOnOne (drawing_of self.old) (drawing_of other.value) }
+        ensures { Joins (drawing_of self.old) (drawing_of other.value) self.new }
+    {
+        let mut this = mem::replace(self, Held::Room).into_drawing();
+        let other = Box::into_inner(other);
+        this.take_in(other.into_drawing());
+        *self = Held::Pass(this);
     }
 
     // What a pass or a retry draws by.
@@ -242,10 +254,12 @@ impl Held {
 }
 
 // A pass that is split off this one, and room for what is to hold it.
+#[inline(always)]
 #[tactic(auto, using(crate::proofs::Splits::no_room))]
 pub(crate) fn split_off(alloc: Global, pass: &mut Drawing) -> Result<(Drawing, Box<Held>), Status>
     ensures ok { IfOk result (λ part. Parted pass.old part.0 pass.new) }
     ensures err { IfErr result (λ status. NoSplit pass.old status pass.new) }
+    ensures room { IfOk result (λ part. part.1.value ≡ what.Room) }
 {
     let room = Held::Room.boxed(alloc)?;
     let part = drawing::split(pass)?;

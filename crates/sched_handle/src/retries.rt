@@ -1,7 +1,7 @@
 //! Calls on retries.
 ghost use Rattle.std.specs.Prelude.{◌≡◌, [], IfErr};
 ghost use Rattle.sched_driver_stepper.specs.Standing.{standing_after};
-ghost use Rattle.sched_handle.specs.Retries.{IsFresh, Retries};
+ghost use Rattle.sched_handle.specs.Retries.{IsFresh, Begins, Retries};
 ghost use Rattle.sched_handle.specs.Replies.{answer_in};
 ghost use Rattle.sched_handle.specs.Retries.{IsPoll, RetryPolls, Polls, Rans, Shows, Cancels};
 ghost use Rattle.sched_handle.specs.Retries.{reply_to, how_number, left_number};
@@ -10,7 +10,7 @@ use crate::held::Held;
 use crate::passes::split_off;
 use crate::replies::Reply;
 use crate::status::Status;
-use sched_driver_stepper::Stepper;
+use sched_driver_stepper::{Compiled, Stepper};
 use sched_effect::Ran;
 use sched_run_machine::{Machine, Next, Until};
 use sched_task::{How, RunFault};
@@ -21,6 +21,7 @@ use std::alloc::Global;
 impl Held {
     /// A retry that has not begun, of the policy, with a pass that is split off. Past the deadline, where there is one,
     /// it begins no run but the first.
+    #[inline(always)]
     pub fn retry(
         alloc: Global,
         policy: &Held,
@@ -31,11 +32,10 @@ impl Held {
     {
         let plan = policy.policy()?;
         let drawing = pass.pass_mut()?;
-        let Ok(stepper) = plan.stepper(alloc) else {
-            return Err(Status::NoMemory);
-        };
-        let (part, room) = split_off(alloc, drawing)?;
-        Ok(fresh(stepper, deadline, part).within(room))
+        match plan.stepper_by_record() {
+            Some(stepper) => begun(alloc, stepper, deadline, drawing),
+            None => begun_by_tree(alloc, plan, deadline, drawing),
+        }
     }
 
     /// Ends the run under way as it is reported, where one is, and begins one where one may begin. What the retry is at
@@ -100,6 +100,39 @@ impl Held {
             Held::Pass(_) => Err(Status::WrongKind),
             Held::Leased(_) => Err(Status::WrongKind),
         }
+    }
+}
+
+// A retry that has not begun, by this stepper, with a pass that is split off this one.
+#[inline(always)]
+fn begun(
+    alloc: Global,
+    stepper: Stepper,
+    deadline: Option<Moment>,
+    pass: &mut Drawing,
+) -> Result<Box<Held>, Status>
+    requires { stepper ≡ standing_after stepper.plan [] }
+    ensures { Begins deadline stepper.plan pass.old result pass.new }
+{
+    let (part, room) = split_off(alloc, pass)?;
+    Ok(fresh(stepper, deadline, part).within(room))
+}
+
+// The same by a stepper of this plan, which has no record, or there is no memory.
+#[cold]
+#[inline(never)]
+#[tactic(auto, using(crate::proofs::Splits::no_room))]
+fn begun_by_tree(
+    alloc: Global,
+    plan: &Compiled,
+    deadline: Option<Moment>,
+    pass: &mut Drawing,
+) -> Result<Box<Held>, Status>
+    ensures { Begins deadline plan.now pass.old result pass.new }
+{
+    match plan.stepper(alloc) {
+        Ok(stepper) => begun(alloc, stepper, deadline, pass),
+        Err(_) => Err(Status::NoMemory),
     }
 }
 

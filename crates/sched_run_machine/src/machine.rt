@@ -159,6 +159,7 @@ impl<R: Drives, D: Draws, A: Aims> Machine<R, D, A> {
     /// A success ends a retry, and a failure a repeat. Another run steps the schedule; where that goes on, a retry
     /// draws a ticket, and with one it waits for the start planned, as a repeat does. A refused step ends either as
     /// `Broken`. What it draws by is told first how the run went, and last, where it is over, that its request is.
+    #[inline]
     pub fn report(&mut self, alloc: Global, tick: &Tick, ran: Ran) -> bool
         ensures heard { result ≡ is_told self.old }
         ensures told { result ≡ true →
@@ -209,6 +210,7 @@ impl<R: Drives, D: Draws, A: Aims> Machine<R, D, A> {
     }
 
     /// Whether a poll leaves it as it is: it is over, or waits for a later moment.
+    #[inline(always)]
     pub fn stays(&self, tick: &Tick) -> bool
         ensures looks { Looks R.driving (A.kind R.driving.keeps) D.grants self.now tick.entry.now result }
         ensures unended { result ≡ false → self.now.over ≡ None }
@@ -227,6 +229,7 @@ impl<R: Drives, D: Draws, A: Aims> Machine<R, D, A> {
     }
 
     /// The moment that it waits for, or `None` where it waits for none.
+    #[inline(always)]
     pub fn due(&self) -> Option<Moment>
         ensures { (v : Retrying D) → IsMachineOf R.driving (A.kind R.driving.keeps) D.grants self.now v →
             result ≡ waits_for v.past }

@@ -174,6 +174,19 @@ impl Pass {
         ensures joined { result.has ≡ joined_view self.has other.has }
         ensures sound { IsSound result.has }
     {
+        self.take_in(other, budget);
+        self
+    }
+
+    /// Joins another pass into this one.
+    #[inline(always)]
+    pub fn take_in(&mut self, other: Pass, budget: &Budget)
+        requires this { IsOf budget.now self.old }
+        requires that { IsOf budget.now other }
+        ensures of { IsOf budget.now self.new }
+        ensures joined { self.new.has ≡ joined_view self.old.has other.has }
+        ensures sound { IsSound self.new.has }
+    {
         let Pass {
             seat,
             tickets,
@@ -187,7 +200,6 @@ impl Pass {
         self.weight += weight;
         self.refused_splits += refused_splits;
         self.refused |= refused;
-        self
     }
 
     /// Makes the limit of a rising budget the greater of itself and `to`, and answers it. It waits for nobody.

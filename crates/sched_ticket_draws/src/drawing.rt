@@ -34,25 +34,26 @@ impl Drawing {
         }
     }
 
-    /// One pass with what both have.
-    pub fn join(self, other: Drawing) -> Drawing
-        requires like { are_like self other ≡ true }
-        requires one { OfOne self other }
-        ensures { Joined self other result }
+    /// Joins what the other has into this one.
+    #[inline(always)]
+    pub fn take_in(&mut self, other: Drawing)
+        requires like { are_like self.old other ≡ true }
+        requires one { OfOne self.old other }
+        ensures { Joined self.old other self.new }
     {
         match self {
             Drawing::Budget(pass) => match other {
-                Drawing::Budget(other) => Drawing::Budget(pass.join(other)),
+                Drawing::Budget(other) => pass.take_in(other),
                 Drawing::Quota(_) => unreachable!(),
                 Drawing::Unlimited(_) => unreachable!(),
             },
             Drawing::Quota(pass) => match other {
-                Drawing::Quota(other) => Drawing::Quota(pass.join(other)),
+                Drawing::Quota(other) => pass.take_in(other),
                 Drawing::Budget(_) => unreachable!(),
                 Drawing::Unlimited(_) => unreachable!(),
             },
             Drawing::Unlimited(pass) => match other {
-                Drawing::Unlimited(other) => Drawing::Unlimited(pass.join(other)),
+                Drawing::Unlimited(other) => pass.take_in(other),
                 Drawing::Budget(_) => unreachable!(),
                 Drawing::Quota(_) => unreachable!(),
             },

@@ -74,16 +74,15 @@ impl<B: RefersTo<Budget>> OnBudget<B> {
         Ok(OnBudget { pass, budget })
     }
 
-    /// One value with what both have. It is refused a ticket where either was.
-    pub fn join(self, other: OnBudget<B>) -> OnBudget<B>
-        requires { other.budget ≡ self.budget }
-        ensures budget { result.budget ≡ self.budget }
-        ensures joined { result.pass.has ≡ joined_view self.pass.has other.pass.has }
-        ensures sound { IsSound result.pass.has }
+    /// Joins what the other has into this one, which is then refused a ticket where either was.
+    #[inline(always)]
+    pub fn take_in(&mut self, other: OnBudget<B>)
+        requires { other.budget ≡ self.old.budget }
+        ensures budget { self.new.budget ≡ self.old.budget }
+        ensures joined { self.new.pass.has ≡ joined_view self.old.pass.has other.pass.has }
+        ensures sound { IsSound self.new.pass.has }
     {
-        let OnBudget { pass, budget } = self;
-        let pass = pass.join(other.pass, budget.target());
-        OnBudget { pass, budget }
+        self.pass.take_in(other.pass, self.budget.target());
     }
 
     /// Makes the limit of a rising budget the greater of itself and `to`, and answers it.

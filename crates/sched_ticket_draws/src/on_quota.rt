@@ -139,16 +139,16 @@ impl<Q: RefersTo<Quota>> OnQuota<Q> {
         Ok(OnQuota { pass, quota })
     }
 
-    /// One value with what both have. It may hand back the latest ticket of the other, where that may, or else its own.
-    pub fn join(self, other: OnQuota<Q>) -> OnQuota<Q>
-        requires { other.quota ≡ self.quota }
-        ensures quota { result.quota ≡ self.quota }
-        ensures joined { Joined self.pass other.pass result.pass }
-        ensures sound { IsSound result.pass.has }
+    /// Joins what the other has into this one, which may then hand back the latest ticket of the other, where that may,
+    /// or else its own.
+    #[inline(always)]
+    pub fn take_in(&mut self, other: OnQuota<Q>)
+        requires { other.quota ≡ self.old.quota }
+        ensures quota { self.new.quota ≡ self.old.quota }
+        ensures joined { Joined self.old.pass other.pass self.new.pass }
+        ensures sound { IsSound self.new.pass.has }
     {
-        let OnQuota { pass, quota } = self;
-        let pass = pass.join(other.pass, quota.target());
-        OnQuota { pass, quota }
+        self.pass.take_in(other.pass, self.quota.target());
     }
 
     /// The number of tickets given out, where this pass has all parts of the quota, which ends with it. Otherwise it is

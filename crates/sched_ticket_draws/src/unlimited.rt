@@ -28,13 +28,13 @@ impl Unlimited {
         Unlimited { granted: 0 }
     }
 
-    /// What was granted as many draws as both, or 18446744073709551615 where that is less.
-    pub fn join(self, other: Unlimited) -> Unlimited
-        ensures { result ≡ min (self + other) 18446744073709551615 }
+    /// Joins the other into this one, which then was granted as many draws as both, or 18446744073709551615 where that
+    /// is less.
+    #[inline(always)]
+    pub fn take_in(&mut self, other: Unlimited)
+        ensures { self.new ≡ min (self.old + other) 18446744073709551615 }
     {
-        Unlimited {
-            granted: self.granted.saturating_add(other.granted),
-        }
+        self.granted = self.granted.saturating_add(other.granted);
     }
 }
 

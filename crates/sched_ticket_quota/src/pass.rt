@@ -28,6 +28,7 @@ use crate::view::View;
 use sched_ticket::parts::{ALL_PARTS, given};
 use sched_time::{FAR, Moment};
 use std::marker::Model;
+use std::mem;
 
 pub(crate) type Seat = atomic_table::Seat<u8, View>;
 
@@ -249,28 +250,42 @@ impl Pass {
     }
 
     /// One pass with what both have. It may hand back the latest ticket of the other, where that may, or else its own.
-    pub fn join(self, other: Pass, quota: &Quota) -> Pass
+    pub fn join(mut self, other: Pass, quota: &Quota) -> Pass
         requires this { IsOf quota.now self }
         requires that { IsOf quota.now other }
         ensures of { IsOf quota.now result }
         ensures joined { Joined self other result }
         ensures sound { IsSound result.has }
     {
+        self.take_in(other, quota);
+        self
+    }
+
+    /// Joins another pass into this one, as `join` does.
+    #[inline(always)]
+    pub fn take_in(&mut self, other: Pass, quota: &Quota)
+        requires this { IsOf quota.now self.old }
+        requires that { IsOf quota.now other }
+        ensures of { IsOf quota.now self.new }
+        ensures joined { Joined self.old other self.new }
+        ensures sound { IsSound self.new.has }
+    {
         if other.latest.is_some() {
-            other.with(self, quota)
+            let this = mem::replace(self, other);
+            self.take_rest(this, quota);
         } else {
-            self.with(other, quota)
+            self.take_rest(other, quota);
         }
     }
 
-    /// One pass with what both have, of which it may hand back its own latest ticket.
-    fn with(mut self, other: Pass, quota: &Quota) -> Pass
-        requires this { IsOf quota.now self }
+    /// Joins another pass into this one, which may then hand back its own latest ticket.
+    fn take_rest(&mut self, other: Pass, quota: &Quota)
+        requires this { IsOf quota.now self.old }
         requires that { IsOf quota.now other }
-        ensures of { IsOf quota.now result }
-        ensures joined { result.has ≡ joined_view self.has other.has }
-        ensures latest { result.latest ≡ self.latest }
-        ensures sound { IsSound result.has }
+        ensures of { IsOf quota.now self.new }
+        ensures joined { self.new.has ≡ joined_view self.old.has other.has }
+        ensures latest { self.new.latest ≡ self.old.latest }
+        ensures sound { IsSound self.new.has }
     {
         let Pass {
             seat,
@@ -284,7 +299,6 @@ impl Pass {
         self.granted += granted;
         self.weight += weight;
         self.told = self.told.max(told);
-        self
     }
 
     /// The number of tickets that were given out, where this pass is the whole: it has all parts of the quota.

@@ -11,14 +11,14 @@ join-requires-clause-one c =
     let one : DrawOnOne (drawing_of c.in-Some-take.to.value) (drawing_of c.in-Some.held.value) =
     c.requires c.in-Some-take.to.value c.in-Some.held.value (sym c.in-Some-take.ensures.held)
     (sym c.in-Some.ensures.held) in
-    rw (c.deref_mut.ensures.value, c.into_inner.ensures) one
+    rw c.deref_mut.ensures.value one
 
 pub returns : goal.returns
 returns c =
     let from = c.in-Some.held.value in
     let into = c.in-Some-take.to.value in
     let joins : Joins (drawing_of into) (drawing_of from) c.join.new.self =
-    rw (← c.deref_mut.ensures.value, ← c.into_inner.ensures) c.join.ensures in
+    rw (← c.deref_mut.ensures.value) c.join.ensures in
     let is_kind : kind_of from ≡ c.args.kind = first_of (cc, search rules, grind (arith, common_steps)) in
     let is_pass : kind_of into ≡ kind.Pass = first_of (cc, search rules, grind (arith, common_steps)) in
     let alike : draw_alike (drawing_of into) (drawing_of from) ≡ true =

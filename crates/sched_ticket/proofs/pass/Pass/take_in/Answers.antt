@@ -5,7 +5,7 @@ use Rattle.atomic_table.specs.Table.{step}
 use Rattle.sched_ticket.specs.Steps.{Sat}
 use Rattle.sched_ticket.specs.Held.{Name, Held}
 use Rattle.sched_ticket.proofs.Moves.{joins_ok, learns_ok}
-use Rattle.sched_ticket.proofs.pass.Pass.join.Goals as goal
+use Rattle.sched_ticket.proofs.pass.Pass.take_in.Goals as goal
 
 pub join_seat-requires : goal.join_seat-requires
 join_seat-requires c =

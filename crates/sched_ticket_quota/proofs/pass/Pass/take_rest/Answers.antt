@@ -7,7 +7,7 @@ use Rattle.sched_ticket_quota.specs.Steps.{Sat, IsSound}
 use Rattle.sched_ticket_quota.proofs.Moves.{learns_ok}
 use Rattle.sched_ticket_quota.proofs.Known.{joined_known}
 use Rattle.sched_ticket_quota.proofs.Parts.{joins_ok}
-use Rattle.sched_ticket_quota.proofs.pass.Pass.with.Goals as goal
+use Rattle.sched_ticket_quota.proofs.pass.Pass.take_rest.Goals as goal
 
 pub join_seat-requires : goal.join_seat-requires
 join_seat-requires c =
@@ -36,4 +36,5 @@ invariant_of-self c =
     let learnt = c.load.ensures.2 in
     joined_known c.self.inside.seat.me c.other.inside.seat.me c.load.new.seat.me _ _ _ _ _ _ _ _ _ _ _ _ _
     c.self.invariant c.other.invariant
-    (learnt.0 ∙ c.join_seat.ensures.2) (subst (λ (m : Sat). IsSound m.0) (sym learnt.0) learnt.1) c.max.ensures
+    (learnt.0 ∙ c.join_seat.ensures.2) (subst (λ (m : Sat). IsSound m.0) (sym learnt.0) learnt.1)
+    c.max-self-inside.ensures
