@@ -1,6 +1,7 @@
 ghost use Rattle.std.specs.Prelude.{◌≡◌, ◌+◌, ◌-◌, ◌*◌, ◌/◌, ◌≤◌};
 ghost use Rattle.sched_time.specs.Capped.{capped};
 ghost use Rattle.sched_time.specs.declared.starts.Decision.{Decision};
+ghost use Rattle.sched_plan.specs.Delays.{jittered};
 ghost use Rattle.sched_plan.specs.Sequences.{decorrelated_after};
 
 use sched_time::{Decision, FAR, Interval, Millis, Moment};
@@ -36,6 +37,22 @@ pub(crate) fn scaled(number: u64, thousandths: u64) -> u64
     ensures { result ≡ capped (number * thousandths / 1000) }
 {
     at_most_far(u128::from(number) * u128::from(thousandths) / 1000)
+}
+
+/// The delay in the ratio that a random word picks between two bounds in thousandths, rounded down.
+#[inline(always)]
+#[tactic(auto, using(sched_plan::proofs::DelayLaws::jitter_weight))]
+pub(crate) fn jittered(least: u64, most: u64, word: u32, delay: u64) -> u64
+    requires order { least ≤ most }
+    requires small { most ≤ 10000 }
+    ensures { result ≡ jittered least most word delay }
+{
+    let up = u64::from(word);
+    let weight = least * (4294967296 - up) + most * up;
+    match delay.checked_mul(weight) {
+        Some(product) => (product / 4294967296000).min(FAR),
+        None => at_most_far(u128::from(delay) * u128::from(weight) / 4294967296000),
+    }
 }
 
 /// The delay that follows the one before in decorrelated jitter, rounded down.

@@ -1,7 +1,7 @@
-ghost use Rattle.std.specs.Prelude.{◌≡◌, if◌then◌else◌, length, slice_index, IsTrue};
+ghost use Rattle.std.specs.Prelude.{◌≡◌, ◌≤◌, if◌then◌else◌, length, slice_index, IsTrue};
 ghost use Rattle.sched_time.specs.declared.starts.Decision.{Decision};
 ghost use Rattle.sched_plan.specs.Changes.{goes_past, moved_decision};
-ghost use Rattle.sched_plan.specs.Delays.{added_out};
+ghost use Rattle.sched_plan.specs.Delays.{added_out, jittered};
 ghost use Rattle.sched_plan.specs.Outputs.{number_of};
 ghost use Rattle.sched_plan.specs.Schedule.{one_in_range};
 ghost use Rattle.sched_step.specs.StateOf.{first_kept};
@@ -12,11 +12,11 @@ ghost use Rattle.sched_step_flat.specs.FlatStep.{answer_of, cued, decision_gated
 
 use crate::cues::{Cue, Reply};
 use crate::moments::{is_over, moment_or, now_word, round_word, time_between, word_or};
-use crate::numbers::{go_after, sum};
+use crate::numbers::{go_after, jittered, sum};
 use crate::parts::{Part, if_whole};
 use crate::puts::put_one;
 use sched_plan::{Fold, One, Side, Test};
-use sched_step::changes::{add, cap, compare, jitter, set};
+use sched_step::changes::{add, cap, compare, set};
 use sched_time::{Decision, Millis, Moment};
 
 /// Whether the plan under a node of this word begins anew at an event at `now`.
@@ -143,7 +143,7 @@ pub(crate) fn reply(node: &One, part: Part, word: u64, cue: &Cue, under: &Reply)
         },
         One::Jitter { lane, least, most } => Reply {
             number,
-            decision: jitter(lane, least, most, &cue.tick, decision),
+            decision: jitter(least, most, cue.tick.words[lane], now, decision),
         },
         One::Within(length) => {
             let is_past = length.get() <= time_between(moment_or(word, now), now);
@@ -176,6 +176,22 @@ fn gate(want: bool, test: Test, bound: Millis, number: Option<u64>, decision: De
         decision
     } else {
         Decision::Done
+    }
+}
+
+/// Going on after the delay in the ratio that this random word picks.
+#[inline(always)]
+pub(crate) fn jitter(least: u64, most: u64, word: u32, now: Moment, decision: Decision) -> Decision
+    requires order { least ≤ most }
+    requires small { most ≤ 10000 }
+    ensures { result ≡ moved_decision (jittered least most word) now decision }
+{
+    match decision {
+        Decision::Go(interval) => {
+            let delay = time_between(now.get(), interval.start());
+            go_after(now, jittered(least, most, word, delay))
+        }
+        Decision::Done => Decision::Done,
     }
 }
 
