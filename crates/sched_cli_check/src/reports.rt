@@ -5,6 +5,7 @@ ghost use Rattle.sched_cli_check.specs.Reporting.{IsReport, Reports, ReportsPlan
 ghost use Rattle.sched_plan_hint.specs.Faults.{told_text};
 
 use crate::jobs_faults::tell_jobs_fault;
+use crate::readers::push_reader;
 use sched_plan::Plan;
 use sched_plan_bound::most_goes;
 use sched_plan_check::{PlanChecked, check_plan};
@@ -64,7 +65,8 @@ fn report_plan(alloc: Global, value: &Value) -> Result<Report, NoMemory>
     let checked = check_plan(alloc, value)?;
     match &checked {
         PlanChecked::Plan(plan) => {
-            let text = plan_line(alloc, plan)?;
+            let mut text = plan_line(alloc, plan)?;
+            push_reader(alloc, &mut text, plan, value)?;
             Ok(Report::Read(text))
         }
         PlanChecked::Fault(found) => {
