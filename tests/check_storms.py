@@ -85,6 +85,54 @@ WORKED = [
         {"lost": 1, "calls": 2, "hundredths": 200, "most_calls": 1, "most_from": 0, "p50": None, "recovered": None},
     ),
     Case(
+        "calls go to two replicas in turn: of five the first does three",
+        {"recurs": 0},
+        {"rate": 5, "together": 5, "seconds": 1, "replicas": 2, "outage": NONE},
+        [[0, 5, 5, 0, 5, 0, 0, 0, 0]],
+        {"p50": 2, "p99": 3, "slowest": 3},
+    ),
+    Case(
+        "each replica has its queue",
+        {"recurs": 0},
+        {"rate": 5, "together": 5, "seconds": 1, "queue": 1, "replicas": 2, "outage": NONE},
+        [[0, 5, 2, 0, 2, 0, 3, 0, 0]],
+        {"slowest": 1},
+    ),
+    Case(
+        "what stands at each of two replicas is rounded down: one and a half call and half a one are one",
+        {"recurs": 0},
+        {"rate": 3, "together": 3, "seconds": 1, "capacity": 10, "window": 50, "replicas": 2, "outage": NONE},
+        [
+            [0, 3, 3, 0, 0, 0, 0, 0, 1],
+            [50, 0, 0, 0, 0, 0, 0, 0, 1],
+            [100, 0, 0, 0, 2, 0, 0, 0, 0],
+            [150, 0, 0, 0, 0, 0, 0, 0, 0],
+            [200, 0, 0, 0, 1, 0, 0, 0, 0],
+        ],
+        {"p50": 100, "p99": 200},
+    ),
+    Case(
+        "one of two replicas is down: every second call is refused",
+        {"recurs": 0},
+        {"rate": 4, "seconds": 1, "replicas": 2, "outage": "0..1000", "down": 1},
+        [[0, 4, 2, 0, 2, 2, 0, 0, 0]],
+        {"won": 2, "lost": 2},
+    ),
+    Case(
+        "two of three are down: the second retry comes to the third",
+        {"recurs": 2},
+        {"rate": 3, "together": 3, "seconds": 1, "replicas": 3, "outage": "0..1000", "down": 2},
+        [[0, 3, 3, 6, 3, 6, 0, 0, 0]],
+        {"won": 3, "calls": 9, "p50": 2, "p99": 3},
+    ),
+    Case(
+        "where nothing is said all replicas are down",
+        {"recurs": 0},
+        {"rate": 4, "seconds": 1, "replicas": 2, "outage": "0..1000"},
+        [[0, 4, 0, 0, 0, 4, 0, 0, 0]],
+        {"lost": 4},
+    ),
+    Case(
         "an outage of no length refuses nothing, and has its end",
         {"recurs": 0},
         {"rate": 2, "seconds": 1, "window": 500, "outage": "500..500"},
@@ -182,7 +230,7 @@ WORKED = [
 ]
 
 BACK_OFF = {"cap": [10_000, {"exponential": [100, 2]}]}
-NO_RETRY, THREE = {"recurs": 0}, {"recurs": 3}
+NO_RETRY, ONE, THREE = {"recurs": 0}, {"recurs": 1}, {"recurs": 3}
 EIGHT = {"meet": [{"recurs": 8}, BACK_OFF]}
 FULL = {"meet": [{"recurs": 8}, {"jitter": [0, 0, 1000, BACK_OFF]}]}
 HALF = {"meet": [{"recurs": 8}, {"jitter": [0, 500, 1000, BACK_OFF]}]}
@@ -197,6 +245,8 @@ HERD = {
     "outage": NONE,
 }
 BROWN_OUT = {"outage": NONE, "slow": "10000..20000@50"}
+#: One of two replicas is down for ten seconds.
+HALF_DOWN = {"capacity": 500, "replicas": 2, "down": 1}
 
 #: A tenth of the first storm, under each limit: how many are won, denied and lost, the calls, the tickets and when it
 #: has recovered.
@@ -224,6 +274,11 @@ KNOWN: List[Tuple[Any, Dict[str, Any], Dict[str, Any]]] = [
     (FULL, HERD, {"won": 9885}),
     (HALF, HERD, {"won": 10_000}),
     (THREE, BROWN_OUT, {"recovered": None}),
+    (NO_RETRY, {**HALF_DOWN, "rate": 400}, {"lost": 2000, "recovered": 20_000}),
+    (ONE, {**HALF_DOWN, "rate": 400}, {"won": 24_000, "calls": 28_000, "recovered": 20_000}),
+    (NO_RETRY, HALF_DOWN, {"lost": 4000, "recovered": 20_000}),
+    (ONE, HALF_DOWN, {"won": 10_113, "calls": 87_200, "recovered": None}),
+    (ONE, {**HALF_DOWN, **TENTH}, {"won": 44_450, "denied": 3550, "recovered": 20_000}),
     *((FULL, {**SMALL, **limit}, dict(zip(SMALL_TOTALS, numbers))) for limit, numbers in SMALL_NUMBERS),
 ]
 #: Where no number is known: that it comes back.
@@ -304,6 +359,11 @@ BAD = [
     "--capacity 0",
     "--patience 0",
     "--queue 1048577",
+    "--replicas 0",
+    "--replicas 5",
+    "--down 0",
+    "--down 2",
+    "--replicas 2 --down 3",
     "--window 0",
     "--window 1",
     "--until 7200001",
@@ -570,6 +630,10 @@ def some_storm(rng: random.Random) -> Tuple[Any, Dict[str, Any]]:
     options["patience"] = rng.choice([1, 5, 60, 500, 3000])
     options["queue"] = rng.choice([0, 1, 2, 30, 5000])
     options["outage"] = _span(rng, seconds)
+    if rng.random() < 0.4:
+        options["replicas"] = rng.choice([1, 2, 3, 4])
+        if rng.random() < 0.7:
+            options["down"] = rng.randint(1, options["replicas"])
     options["window"] = rng.choice([1, 97, 250, 1000, 60_000])
     if rng.random() < 0.5:
         options["slow"] = f"{_span(rng, seconds)}@{rng.choice([1, 10, 50, 99, 100])}"

@@ -1316,6 +1316,9 @@ static void parameters_out_of_range(hikebox_policy *policy) {
     refuses(calls, 0);
     refuses(calls, UINT64_C(4294967297));
     refuses(draws_on, 7);
+    refuses(replicas, 0);
+    refuses(replicas, 5);
+    refuses(down, 2);
     storm.draws_on = HIKEBOX_ON_BUDGET;
     refuses(limit, HIKEBOX_MAX_TICKETS + 1);
     storm.draws_on = HIKEBOX_ON_QUOTA;
@@ -1375,6 +1378,19 @@ static int storms(void) {
     herd.until = 61000;
     totals = plays(eight, &herd, 24);
     holds(totals.requests == 10000 && totals.won == 3700 && totals.lost == 6300);
+
+    // Four requests at one moment, on two replicas of which the first is down: a retry at once comes to the other. All of
+    // them are down if nothing is said.
+    hikebox_storm half = one;
+    half.rate = half.together = 4;
+    half.replicas = 2;
+    half.outage_to = 1000;
+    half.down = 1;
+    totals = plays("{\"recurs\":1}", &half, 1);
+    holds(totals.won == 4 && totals.calls == 8 && totals.p50 == 2 && totals.slowest == 4);
+    half.down = 0;
+    totals = plays("{\"recurs\":1}", &half, 1);
+    holds(totals.lost == 4 && totals.calls == 8 && windows_told[0].refused == 8);
 
     hikebox_storm cut = one;
     cut.outage_to = 10;

@@ -406,6 +406,7 @@ wants 3 '' 'zsched: input too long\n' storm
 bad "invalid value '0' for '--rate <N>': 0 is not in 1..=1000000" storm --rate 0
 bad "'--rate <N>' times '--seconds <S>' is more than 1048576 requests" storm --rate 17477
 bad "'--until <M>' has more than 65536 times '--window <M>'" storm --window 1
+bad "'--down <N>' is more than '--replicas <N>'" storm --down 2
 spelt='expected milliseconds, such as 10000..20000; FROM is at most TO, and TO at most 3600000'
 for span in 5..1 5 .. a..b 0..3600001 -1..5; do
   bad "invalid value '$span' for '--outage <FROM..TO>': $spelt" storm --outage="$span"

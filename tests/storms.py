@@ -41,7 +41,10 @@ class Storm:
     capacity: int = 1000
     patience: int = 500
     queue: int = 5000
+    replicas: int = 1
     outage: Tuple[int, int] = (10_000, 20_000)
+    #: How many replicas refuse calls in the outage; None for all.
+    down: Optional[int] = None
     slow: Optional[Tuple[int, int, int]] = None
     window: int = 1000
     until: Optional[int] = None
@@ -63,17 +66,18 @@ class Storm:
         return request // self.together * self.together * 1000 // self.rate
 
     def can_be_done(self, moment: int) -> int:
-        """The units of work that the peer can have done by a moment."""
+        """The units of work that a replica can have done by a moment."""
         begins, ends, percent = self.slow or (0, 0, 100)
         slowly = max(0, min(moment, ends) - begins)
         return self.capacity * 100 * (moment - slowly) + self.capacity * percent * slowly
 
 
-class Peer:
-    """One queue, first come first served."""
+class Replica:
+    """One queue of the peer, first come first served."""
 
-    def __init__(self, storm: Storm) -> None:
+    def __init__(self, storm: Storm, number: int) -> None:
         self.storm = storm
+        self.is_down = storm.down is None or number < storm.down
         #: The unit at which the work taken so far is done.
         self.busy = 0
 
@@ -85,7 +89,7 @@ class Peer:
         """When a call that comes at this moment ends, and how."""
         storm = self.storm
         begins, ends = storm.outage
-        if begins <= moment < ends:
+        if self.is_down and begins <= moment < ends:
             return moment, REFUSED
         ahead = self.ahead(moment)
         if ahead > 0 if storm.queue == 0 else ahead >= storm.queue * CALL:
@@ -362,7 +366,7 @@ class Course:
 
     def __init__(self, storm: Storm) -> None:
         self.storm = storm
-        self.peer = Peer(storm)
+        self.replicas = [Replica(storm, number) for number in range(storm.replicas)]
         self.tickets = Tickets(storm)
         self.limit = limit_of(storm)
         self.granted = 0
@@ -371,8 +375,8 @@ class Course:
         self.calls: List[Call] = []
         #: The calls that ended: when, and how.
         self.ended: List[Tuple[int, int]] = []
-        #: After each call that was taken: its moment, and the peer's `busy`.
-        self.taken: List[Tuple[int, int]] = []
+        #: After each call that was taken: its moment, its replica, and the `busy` of that.
+        self.taken: List[Tuple[int, int, int]] = []
         self.last_moment = 0
         self.is_cut = False
         #: What is pending, by moment and request: a beginning (None), or how a call ends.
@@ -405,11 +409,13 @@ class Course:
         if not is_retry:
             self.requests[request] = Request(moment)
             self.tickets.count(moment)
+        number = len(self.calls) % self.storm.replicas
+        replica = self.replicas[number]
         self.calls.append(Call(moment, is_retry))
-        before = self.peer.busy
-        ends, how = self.peer.call(moment)
-        if self.peer.busy != before:
-            self.taken.append((moment, self.peer.busy))
+        before = replica.busy
+        ends, how = replica.call(moment)
+        if replica.busy != before:
+            self.taken.append((moment, number, replica.busy))
         self._put(ends, request, how)
 
     def _end(self, moment: int, number: int, how: int) -> None:
@@ -450,16 +456,16 @@ def rows_of(course: Course) -> List[Dict[str, int]]:
         rows[call.at // window]["retries"] += call.is_retry
     for moment, how in course.ended:
         rows[moment // window][_COLUMNS[how]] += 1
-    busy = 0
-    taken = iter([*course.taken, (2**63, 0)])
-    at, units = next(taken)
+    busy = [0] * course.storm.replicas
+    taken = iter([*course.taken, (2**63, 0, 0)])
+    at, replica, units = next(taken)
     for index, row in enumerate(rows):
         row["from"] = index * window
         end = row["from"] + window
         while at < end:
-            busy = units
-            at, units = next(taken)
-        row["waiting"] = max(0, busy - course.storm.can_be_done(end)) // CALL
+            busy[replica] = units
+            at, replica, units = next(taken)
+        row["waiting"] = sum(max(0, unit - course.storm.can_be_done(end)) // CALL for unit in busy)
     return rows
 
 
@@ -550,6 +556,8 @@ NUMBERS = (
     "capacity",
     "patience",
     "queue",
+    "replicas",
+    "down",
     "window",
     "until",
     "calls",

@@ -58,9 +58,11 @@ case $state in
           '--rate[requests a second]:number:' \
           '--together[requests that come at one moment]:number:' \
           '--seconds[for how many seconds requests come]:number:' \
-          '--capacity[calls that the peer can do in a second]:number:' \
+          '--capacity[calls that each replica of the peer can do in a second]:number:' \
           '--patience[when a client gives a call up]:milliseconds:' \
-          '--queue[calls of work that may stand at the peer]:number:' \
+          '--queue[calls of work that may stand at each replica of the peer]:number:' \
+          '--replicas[how many replicas the peer is]:number:' \
+          '--down[how many replicas refuse calls in the outage]:number:' \
           '--window[how long a line of the report is]:milliseconds:' \
           '--until[the moment after which nothing is played]:milliseconds:' \
           '--calls[stop before the call after so many]:number:' \

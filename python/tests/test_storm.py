@@ -26,6 +26,7 @@ from hikebox.limits.kinds import times_of
 from hikebox.storms.code import in_command, in_python, in_rust, in_scenario
 from hikebox.storms.limits import LIMIT_WANTED, limit_of
 from hikebox.storms.parameters import SCENARIOS, Parameters, Slow, Span
+from hikebox.storms.texts import setting
 from hikebox.errors import BudgetError
 from hikebox.budgets.terms import Terms
 from hikebox.storm import play
@@ -141,6 +142,26 @@ def test_a_storm_under_a_limit_is_spelt_as_a_command_in_python_and_in_rust(word:
     assert shown["lines"][0]["limit"] == word
 
 
+def test_one_of_two_replicas_is_down() -> None:
+    half: Dict[str, Any] = {"capacity": 500, "replicas": 2, "down": 1}
+    lost = [storm(recurs(retries), rate=rate, **half).totals.lost for rate in (400, 800) for retries in (0, 1)]
+    assert lost == [2000, 0, 4000, 37_887]
+    one = Parameters(capacity=500, replicas=2, down=1)
+    assert "a peer of 2 replicas that each do 500 calls a second, 1 of them away from 10 s to 20 s;" in setting(one)
+    assert one.weather() == [(10_000, 20_000, "1 of 2 replicas away", "away")]
+    assert Parameters(replicas=2).weather() == [(10_000, 20_000, "peer away", "away")]
+    assert Parameters(capacity=500, replicas=2, slow=Slow(0, 9, 50)).capacity_at(8) == 500
+
+
+def test_replicas_are_spelt_as_a_command_in_python_in_rust_and_in_a_scenario() -> None:
+    parameters = Parameters(replicas=3, down=2, seconds=1)
+    assert "--replicas 3 --down 2 " in in_command(FULL, parameters)
+    assert "replicas=3, down=2" in in_python(FULL, parameters)
+    assert ".replicas(3)" in in_rust(FULL, parameters) and ".down(2)" in in_rust(FULL, parameters)
+    told = json.loads(in_scenario([play(FULL, parameters)]))["storm"]
+    assert (told["replicas"], told["down"]) == (3, 2)
+
+
 def test_a_policy_is_as_for_the_other_calls() -> None:
     assert storm('{"recurs":1}', seconds=1) == storm({"recurs": 1}, seconds=1) == storm(recurs(1), seconds=1)
 
@@ -167,6 +188,11 @@ WRONG: List[Tuple[Dict[str, Any], str]] = [
     ({"patience": 0}, "patience: expected 1 to 3600000 ms, got 0"),
     ({"patience": -1}, "patience: expected 0 to 4611686018427387903 milliseconds, got -1"),
     ({"queue": -1}, "queue: expected 0 to 1048576, got -1"),
+    ({"replicas": 0}, "replicas: expected 1 to 4, got 0"),
+    ({"replicas": 5}, "replicas: expected 1 to 4, got 5"),
+    ({"down": 2}, "down: expected 1 to 1, got 2"),
+    ({"down": 3, "replicas": 2}, "down: expected 1 to 2, got 3"),
+    ({"down": 0}, "down: expected 1 to 4, got 0"),
     ({"outage": (2, 1)}, "outage: it ends at 1000 ms, before it begins at 2000 ms"),
     ({"outage": (0, 3601)}, "outage: expected 0 to 3600000 ms, got 3601000"),
     ({"slow": (0, 1, 50)}, "slow: expected a share of the capacity from 0.01 to 1, got 50"),
@@ -552,7 +578,8 @@ def test_the_options_begin_with_the_story() -> None:
     parser = argparse.ArgumentParser()
     add_storm_options(parser)
     given = parser.parse_args(["--scenario", "herd", "--queue", "7", "--budget", "5", "--quota", "1/0.5%/100ms"])
-    assert parameters_of(given, SCENARIOS[given.scenario]) == Parameters(10_000, 10_000, 1, 1000, 1000, 7, Span(0, 0))
+    herd = Parameters(10_000, 10_000, 1, 1000, 1000, queue=7, outage=Span(0, 0))
+    assert parameters_of(given, SCENARIOS[given.scenario]) == herd
     assert limits_of(given) == [5, Terms(1, 5, 100)]
     brown = parser.parse_args(["--scenario", "brown-out", "--quota", "1/0.5%/100ms", "--without"])
     assert parameters_of(brown, SCENARIOS[brown.scenario]) == Parameters(

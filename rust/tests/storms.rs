@@ -50,7 +50,7 @@ fn zsched(form: &str, options: &str, policy: &Policy) -> String {
 fn a_storm_is_what_the_program_prints() {
     let three = policy(Schedule::recurs(3));
     let spaced = policy(Schedule::recurs(2) & Schedule::spaced(millis(10)));
-    let cases: [(Storm, &Policy, &str); 8] = [
+    let cases: [(Storm, &Policy, &str); 10] = [
         (Storm::new(&three).seconds(15), &three, "--seconds 15"),
         (Storm::new(&full()).rate(90).seconds(12).seed(7), &full(), "--rate 90 --seconds 12 --words 7"),
         (
@@ -75,6 +75,12 @@ fn a_storm_is_what_the_program_prints() {
             &three,
             "--seconds 1 --rate 1 --queue 0 --patience 1",
         ),
+        (
+            Storm::new(&three).rate(100).seconds(12).capacity(60).replicas(2).down(1),
+            &three,
+            "--rate 100 --seconds 12 --capacity 60 --replicas 2 --down 1",
+        ),
+        (Storm::new(&three).rate(100).seconds(12).replicas(3), &three, "--rate 100 --seconds 12 --replicas 3"),
     ];
     for (storm, policy, options) in cases {
         let report = storm.play().unwrap();
@@ -143,6 +149,17 @@ fn one_request_by_hand() {
     );
 }
 
+/// Calls go to two replicas in turn, so that a retry at once comes to the one that is not down.
+#[test]
+fn one_of_two_replicas_is_down_by_hand() {
+    let four = |retries| {
+        let policy = policy(Schedule::recurs(retries));
+        let storm = Storm::new(&policy).rate(4).together(4).seconds(1).outage(Duration::ZERO..SECOND).replicas(2);
+        (storm.clone().play().unwrap().totals.won, storm.down(1).play().unwrap().totals.won)
+    };
+    assert_eq!((four(0), four(1)), ((0, 2), (0, 4)));
+}
+
 #[test]
 fn none_is_won_and_the_storm_is_cut() {
     let forever = policy(Schedule::forever());
@@ -166,6 +183,9 @@ fn what_is_out_of_range_is_named() {
         (told(storm().capacity(0)), "capacity: expected 1 to 1000000, got 0"),
         (told(storm().patience(Duration::from_micros(999))), "patience: expected 1 to 3600000, got 0"),
         (told(storm().queue(1_048_577)), "queue: expected 0 to 1048576, got 1048577"),
+        (told(storm().replicas(5)), "replicas: expected 1 to 4, got 5"),
+        (told(storm().replicas(2).down(3)), "down: expected 1 to 2, got 3"),
+        (told(storm().down(0)), "down: expected 1 to 1, got 0"),
         (told(storm().window(Duration::ZERO)), "window: expected 1 to 3600000, got 0"),
         (told(storm().until(Duration::MAX)), "until: expected 0 to 7200000, got 4611686018427387903"),
         (told(storm().calls(0)), "calls: expected 1 to 4294967296, got 0"),

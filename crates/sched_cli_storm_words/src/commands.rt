@@ -1,7 +1,9 @@
 //! The command, as `clap` takes it. No option has a default here, so that what is given stands over a scenario.
 use crate::rows::{Row, Takes, file_command, with_options};
 use clap::Command;
-use sched_storm::{MAX_CALLS, MAX_EACH, MAX_MILLIS, MAX_REQUESTS, MAX_SECONDS, MAX_UNTIL};
+use sched_storm::{
+    MAX_CALLS, MAX_EACH, MAX_MILLIS, MAX_REPLICAS, MAX_REQUESTS, MAX_SECONDS, MAX_UNTIL,
+};
 use std::alloc::{AllocError, Global};
 
 // The widths of a line with its bar.
@@ -63,12 +65,12 @@ const REQUESTS: [Row; 3] = [
     },
 ];
 
-const PEER: [Row; 5] = [
+const PEER: [Row; 7] = [
     Row {
         name: "capacity",
         takes: Takes::Number("N", 1, MAX_EACH),
         excludes: &[],
-        help: "Calls that the peer serves in a second, from 1 to 1000000 [default: 1000]",
+        help: "Calls that each replica of the peer serves in a second, from 1 to 1000000 [default: 1000]",
     },
     Row {
         name: "patience",
@@ -80,13 +82,25 @@ const PEER: [Row; 5] = [
         name: "queue",
         takes: Takes::Number("N", 0, MAX_REQUESTS),
         excludes: &[],
-        help: "Calls that can wait at the peer, from 0 to 1048576 [default: 5000]",
+        help: "Calls that can wait at each replica of the peer, from 0 to 1048576 [default: 5000]",
+    },
+    Row {
+        name: "replicas",
+        takes: Takes::Number("N", 1, MAX_REPLICAS),
+        excludes: &[],
+        help: "How many replicas the peer is, from 1 to 4; calls go to them in turn [default: 1]",
     },
     Row {
         name: "outage",
         takes: Takes::Text("FROM..TO"),
         excludes: &[],
         help: "When the peer refuses all calls, in milliseconds up to 3600000; 0..0 for never [default: 10000..20000]",
+    },
+    Row {
+        name: "down",
+        takes: Takes::Number("N", 1, MAX_REPLICAS),
+        excludes: &[],
+        help: "How many replicas refuse calls in the outage, from 1 to --replicas [default: all]",
     },
     Row {
         name: "slow",

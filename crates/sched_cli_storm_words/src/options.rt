@@ -104,6 +104,8 @@ fn names(alloc: Global, options: &ArgMatches<'_>) -> Result<Vec<String>, AllocEr
 fn too_many(parameters: &Parameters) -> &'static str {
     if parameters.rate.saturating_mul(parameters.seconds) > MAX_REQUESTS {
         "'--rate <N>' times '--seconds <S>' is more than 1048576 requests"
+    } else if parameters.down > parameters.replicas {
+        "'--down <N>' is more than '--replicas <N>'"
     } else {
         "'--until <M>' has more than 65536 times '--window <M>'"
     }
@@ -129,6 +131,7 @@ fn parameters(
 ) -> Result<Parameters, StormFault> {
     let base = scenario(alloc, options)?;
     let seconds = number(options, "seconds", base.seconds);
+    let replicas = number(options, "replicas", base.replicas);
     Ok(Parameters {
         rate: number(options, "rate", base.rate),
         together: number(options, "together", base.together),
@@ -136,7 +139,9 @@ fn parameters(
         capacity: number(options, "capacity", base.capacity),
         patience: number(options, "patience", base.patience),
         queue: number(options, "queue", base.queue),
+        replicas,
         outage: outage(alloc, options, base.outage)?,
+        down: number(options, "down", replicas),
         slow: slow(alloc, options, base.slow)?,
         window: number(options, "window", base.window),
         until: number(

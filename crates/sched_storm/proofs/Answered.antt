@@ -32,6 +32,7 @@ use Rattle.sched_storm.specs.Tickets.{draw_at}
 use Rattle.sched_storm.specs.Drivers.{input_of, with_failure, DriverStands}
 use Rattle.sched_storm.specs.Plays.{Stage, begins, retries, succeeds, fails, Shared, words_of, if_by, ending, moment_at}
 use Rattle.sched_storm.specs.Plays.{coming, ended, drawing, going_on, failing, with_request, arriving, playing}
+use Rattle.sched_storm.specs.Plays.{with_call}
 use Rattle.sched_storm.specs.Turns.{kind_of, kind_after, turn_for, turn_if, turn_by, next_drawn, next_at, asking}
 use Rattle.sched_storm.specs.Turns.{ending_by}
 use Rattle.sched_storm.specs.Course.{shared_of, slot_of, Drives, HasAnswered}
@@ -98,17 +99,18 @@ module _ (old new : Course) (t r : ℕ) (h : List Event) (what : Happening) (s :
     (next : Option Turn) (made : Peer)
     (m : Moment) where
   coming_so : kind ≡ kind_after c.how → next ≡ turn_by old.storm.until c.ends r kind →
-      shared_of new ≡ record s { busy = c.busy } → new.calls ≡ old.calls + cond (is_call what) 1 0 →
+      shared_of new ≡ with_call old.storm c s → new.calls ≡ old.calls + cond (is_call what) 1 0 →
       ((ms : List Moment) → AreTold made ms old.tally → AreTold made (ms ++ m ∷ []) new.tally) →
       made ≡ peer_of old.storm →
-      m ≡ record { at = t; what = what; busy = c.busy } → t ≤ c.ends → DriverStands old.plan (slot_of new r) h →
+      m ≡ moment_at t what (shared_of new) → t ≤ c.ends → DriverStands old.plan (slot_of new r) h →
       last_moment h ≤ t →
       HasAnswered (coming old.storm s t h what c) t r old new next
   coming_so kind_is next_is shared calls told made_is m_is later stands order = record {
     next_is = next_is ∙ (ap (turn_by old.storm.until c.ends r) (kind_is ∙ kind_ends c.how h)
         ∙ by_turn old.storm.until c.ends r (ending c.how h) (nat_le c.ends old.storm.until));
     shared_is = shared;
-    told = λ peer ms is was. told_so peer made m _ old.tally new.tally told (made_is ∙ sym is) m_is ms was;
+    told = λ peer ms is was. told_so peer made m _ old.tally new.tally told (made_is ∙ sym is)
+        (m_is ∙ ap (moment_at t what) shared) ms was;
     drives = λ d at.
         (let is = by_is old.storm.until c.ends (ending c.how h) d (nat_le c.ends old.storm.until) at in
         subst (λ (x : Due Stage). Drives old.plan (slot_of new r) x.at x.what) is
@@ -122,9 +124,9 @@ module _ (old new : Course) (t r : ℕ) (h : List Event) (what : Happening) (s :
 
   pub coming_answered : (is : Called) → c ≡ is → kind ≡ kind_after c.how →
       next ≡ turn_by old.storm.until c.ends r kind →
-      shared_of new ≡ record s { busy = c.busy } → new.calls ≡ old.calls + cond (is_call what) 1 0 →
+      shared_of new ≡ with_call old.storm c s → new.calls ≡ old.calls + cond (is_call what) 1 0 →
       ((ms : List Moment) → AreTold made ms old.tally → AreTold made (ms ++ m ∷ []) new.tally) →
-      made ≡ peer_of old.storm → m ≡ record { at = t; what = what; busy = c.busy } → t ≤ c.ends →
+      made ≡ peer_of old.storm → m ≡ moment_at t what (shared_of new) → t ≤ c.ends →
       DriverStands old.plan (slot_of new r) h →
       last_moment h ≤ t → HasAnswered (coming old.storm s t h what is) t r old new next
   coming_answered is same kind_is next_is shared calls told made_is m_is later stands order =
@@ -176,6 +178,7 @@ module _ (old new : Course) (t r : ℕ) (limit : LimitState) (next : Option Turn
 pub record Gives (old new : Course) (t r : ℕ) (failure : Failure) (h : List Event) (s : Shared) (limit : LimitState)
     (n : Next) : Type 0 where
   pub busy : new.busy ≡ s.busy
+  pub begun : new.calls ≡ s.calls
   pub words : words_of new.words ≡ s.words
   pub drawn : new.drawn ≡ n.drawn
   pub limit_is : state_of new.limit ≡ ending_by old.storm n.then r limit
@@ -194,10 +197,11 @@ module _ (old new : Course) (t r : ℕ) (failure : Failure) (h : List Event) whe
       shared_of new ≡ after s limit n
   shared_given s limit n g =
       let busy = g.busy in
+      let begun = g.begun in
       let words = g.words in
       let drawn = g.drawn in
       let stands = g.limit_is in
-      λ i. record { busy = busy i; words = words i; drawn = drawn i; limit = stands i }
+      λ i. record { busy = busy i; calls = begun i; words = words i; drawn = drawn i; limit = stands i }
 
   drawn_answered : (s : Shared) (limit : LimitState) (start : ℕ) (granted : Bool) (drawn : Drawn) → t ≤ start →
       (n : Next) →

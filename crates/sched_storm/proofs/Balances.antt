@@ -70,7 +70,7 @@ module _ (P : Answer Stage Shared Moment → Type 0) (p : Parameters) (r t : ℕ
 module _ (P : Answer Stage Shared Moment → Type 0) (p : Parameters) (r t : ℕ) where
   on_arrival : (comes : (s : Shared) (c : Called) → P (coming p s t [] happening.Request c))
       (denied : (s : Shared) → P (arriving p s t false)) (s : Shared) (b : Bool) → P (arriving p s t b)
-  on_arrival comes denied s true = comes s (called p s.busy t)
+  on_arrival comes denied s true = comes s (called p s.calls s.busy t)
   on_arrival comes denied s false = denied s
 
   pub by_arrival : (comes : (s : Shared) (c : Called) → P (coming p s t [] happening.Request c))
@@ -136,7 +136,7 @@ ends_step p plan s r t begins =
     by_arrival (λ (a : Answer Stage Shared Moment). weighed is_end a.next ≤ cond (is_call a.told.what) 1 0) p r t
     (λ s c. weight_call is_end 1 (omega arith) (λ f h. omega arith) p.until c.ends c.how []) (λ s. omega arith) plan s
 ends_step p plan s r t (retries h) =
-    let c = called p s.busy t in weight_call is_end 1 (omega arith) (λ f h. omega arith) p.until c.ends c.how h
+    let c = called p s.calls s.busy t in weight_call is_end 1 (omega arith) (λ f h. omega arith) p.until c.ends c.how h
 ends_step p plan s r t succeeds = omega arith
 ends_step p plan s r t (fails f h) =
     by_failure (λ (a : Answer Stage Shared Moment). weighed is_end a.next ≤ cond (is_call a.told.what) 1 0) p r t f
@@ -221,7 +221,8 @@ granted_step p plan s r t begins =
     by_arrival (λ (a : Answer Stage Shared Moment). weighed is_again a.next ≤ cond (is_granted a.told.what) 1 0) p r t
     (λ s c. weight_call is_again 0 (omega arith) (λ f h. omega arith) p.until c.ends c.how []) (λ s. omega arith) plan s
 granted_step p plan s r t (retries h) =
-    let c = called p s.busy t in weight_call is_again 0 (omega arith) (λ f h. omega arith) p.until c.ends c.how h
+    let c = called p s.calls s.busy t in
+    weight_call is_again 0 (omega arith) (λ f h. omega arith) p.until c.ends c.how h
 granted_step p plan s r t succeeds = omega arith
 granted_step p plan s r t (fails fault h) =
     by_failure (λ (a : Answer Stage Shared Moment). weighed is_again a.next ≤ cond
@@ -270,7 +271,7 @@ over_step : (p : Parameters) (plan : Schedule) (s : Shared) (r t : ℕ) (what : 
     let next = (playing p plan s r t what).next in
     weighed goes_on next + is_over what next ≤ goes_on what + comes what
 over_step p plan s r t begins = let k = going_or_none (playing p plan s r t begins).next in omega arith
-over_step p plan s r t (retries h) = let c = called p s.busy t in
+over_step p plan s r t (retries h) = let c = called p s.calls s.busy t in
     let k = weight_call goes_on 1 (omega arith) (λ f h. omega arith) p.until c.ends c.how h in omega arith
 over_step p plan s r t succeeds = omega arith
 over_step p plan s r t (fails f h) = let k = going_or_none (playing p plan s r t (fails f h)).next in omega arith
@@ -321,7 +322,7 @@ comes_step : (p : Parameters) (plan : Schedule) (s : Shared) (r t : ℕ) (what :
     weighed comes (playing p plan s r t what).next + comes what ≤ comes what
 comes_step p plan s r t begins =
     let k = weight_arrival comes 0 (omega arith) (λ f h. omega arith) p plan s r t in omega arith
-comes_step p plan s r t (retries h) = let c = called p s.busy t in
+comes_step p plan s r t (retries h) = let c = called p s.calls s.busy t in
     let k = weight_call comes 0 (omega arith) (λ f h. omega arith) p.until c.ends c.how h in omega arith
 comes_step p plan s r t succeeds = omega arith
 comes_step p plan s r t (fails f h) = let k = weight_failure comes 0 (λ h. omega arith) p plan s r t f h in omega arith

@@ -4,11 +4,13 @@ use Rattle.std.proofs.Common.{Some, None, refl, sym, ◌∙◌, ap, subst, arith
 use Rattle.rand_xoshiro.specs.Xoshiro128.{of_seed}
 use Rattle.rand_xoshiro.specs.SplitMix64.{splitmix_seed}
 use Rattle.sched_storm_trace.specs.Trace.{Due}
+use Rattle.sched_storm_report.specs.Peer.{none_busy}
 use Rattle.sched_storm_report.specs.Told.{AreTold}
 use Rattle.sched_storm_report.specs.declared.peer.Peer.{Peer}
 use Rattle.sched_storm_limit.specs.Limits.{state_at_first}
 use Rattle.sched_storm_limit.specs.States.{state_of}
 use Rattle.sched_storm.specs.Parameters.{AreInRange, all_requests, comes_at}
+use Rattle.sched_storm.specs.Calls.{AreFew}
 use Rattle.sched_storm.specs.Tickets.{none_drawn, asked_of, given_of}
 use Rattle.sched_storm.specs.Drivers.{DriverStands}
 use Rattle.sched_storm.specs.Plays.{Stage, begins, Shared, words_of, start_at, first}
@@ -16,6 +18,7 @@ use Rattle.sched_storm.specs.Keys.{Holds}
 use Rattle.sched_storm.specs.Course.{shared_of, slot_of, Drives, IsNear, Stands}
 use Rattle.sched_storm.specs.declared.course.Course.{Course}
 use Rattle.sched_storm.specs.declared.tickets.Drawn.{Drawn}
+use Rattle.sched_storm.proofs.Called.{few_none}
 use Rattle.sched_storm.proofs.Taken.{ComesBy, comes_by}
 
 no_more : (a : ℕ) → a ≤ a
@@ -28,7 +31,7 @@ pub record HasNothing (c : Course) : Type 0 where
   pub requests : c.requests ≡ 0
   pub comes : c.comes ≡ comes_at c.storm 0
   pub calls : c.calls ≡ 0
-  pub busy : c.busy ≡ 0
+  pub busy : c.busy ≡ none_busy
   pub drawn : c.drawn ≡ none_drawn
   pub limit : state_of c.limit ≡ state_at_first c.storm.draws c.storm.words
   pub slots : c.drivers.slots.items ≡ []
@@ -44,10 +47,12 @@ module _ (c : Course) (h : HasNothing c) where
   shared_is =
       let words = h.words in
       let busy = h.busy in
+      let calls = h.calls in
       let drawn = h.drawn in
       let limit = h.limit in
       λ i. record {
         busy = sym busy i;
+        calls = sym calls i;
         words = words_of (sym words i);
         drawn = sym drawn i;
         limit = sym limit i;
@@ -95,7 +100,7 @@ module _ (c : Course) (h : HasNothing c) where
     slots = h.slots_len ∙ sym h.requests;
     calls = h.calls;
     few_calls = (let calls = h.calls in omega arith);
-    busy = (let busy = h.busy in omega arith);
+    busy = subst (λ b. AreFew b) (sym h.busy) few_none;
     asked = (let asked = ap asked_of h.drawn in let requests = h.requests in omega arith);
     given = (let given = ap given_of h.drawn in omega arith);
     said = h.said;

@@ -4,10 +4,10 @@ use Rattle.std.proofs.Common.{ap, subst, inl, inr, arith, leb-true, leb-false, l
 use Rattle.std.proofs.lemmas.Bool.{cases_lt}
 use Rattle.std.specs.Prelude.{nat_le, nat_lt, MatchBool}
 use Rattle.sched_storm.proofs.Peer.{done_rises}
-use Rattle.sched_storm_report.specs.Peer.{is_in}
+use Rattle.sched_storm_report.specs.Peer.{none_busy}
 use Rattle.sched_storm_report.specs.declared.moments.Failure.TheVariants.{Refused, Shed, Late}
 use Rattle.sched_storm.specs.Calls.{can_be_done, ahead, is_full, busy_with, IsDoneAt, Fails, IsTaken, IsCalled}
-use Rattle.sched_storm.specs.Calls.{done_from, taken, called}
+use Rattle.sched_storm.specs.Calls.{done_from, taken, is_away, called_at, AreFew}
 use Rattle.sched_storm.specs.declared.parameters.Parameters.{Parameters}
 use Rattle.sched_storm.specs.declared.calls.CallEnd.TheVariants.{Succeeded, Failed}
 use Rattle.sched_storm.specs.declared.calls.Called.{Called}
@@ -80,6 +80,11 @@ away_if p busy t c true f h = h
 away_if p busy t c false f h = full_if p busy t c f h
 
 -- the relation has one answer
-pub called_is : (p : Parameters) (busy t : ℕ) (c : Called) → IsCalled p busy t c → c ≡ called p busy t
-unfolding called
-called_is p busy t c h = away_if p busy t c (is_in p.outage t) (is_full p (ahead p busy t)) h
+pub called_is : (p : Parameters) (replica busy t : ℕ) (c : Called) → IsCalled p replica busy t c →
+    c ≡ called_at p replica busy t
+unfolding called_at
+called_is p replica busy t c h = away_if p busy t c (is_away p replica t) (is_full p (ahead p busy t)) h
+
+-- before the first call no replica has work
+pub few_none : AreFew none_busy
+few_none = record { first = omega arith; second = omega arith; third = omega arith; fourth = omega arith }

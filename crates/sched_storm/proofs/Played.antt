@@ -116,7 +116,7 @@ due_on p s r t failure h (Some start) d e =
 due_arriving : (p : Parameters) (s : Shared) (t : ℕ) (d : Due Stage) (b : Bool) →
     (arriving p s t b).next ≡ Some d → IsDueNext p.until d
 due_arriving p s t d true e =
-    let c = called p s.busy t in due_if p.until c.ends (ending c.how []) d (ends_later c.how []) e
+    let c = called p s.calls s.busy t in due_if p.until c.ends (ending c.how []) d (ends_later c.how []) e
 due_arriving p s t d false e = none_due p.until d e
 
 pub due_next : (p : Parameters) (plan : Schedule) (s : Shared) (r t : ℕ) (what : Stage) (d : Due Stage) →
@@ -125,7 +125,7 @@ due_next p plan s r t begins d e =
     let asked = limits.admitting p.draws t r s.limit in
     due_arriving p (with_request p t (record s { limit = asked.1 })) t d asked.0 e
 due_next p plan s r t (retries h) d e =
-    let c = called p s.busy t in due_if p.until c.ends (ending c.how h) d (ends_later c.how h) e
+    let c = called p s.calls s.busy t in due_if p.until c.ends (ending c.how h) d (ends_later c.how h) e
 due_next p plan s r t succeeds d e = none_due p.until d e
 due_next p plan s r t (fails failure before) d e =
     let words = next_four s.words in

@@ -13,6 +13,7 @@ use Rattle.sched_storm_report.specs.declared.moments.Moment.{Moment}
 use Rattle.sched_storm_report.specs.declared.peer.Peer.{Peer}
 use Rattle.sched_storm_limit.specs.States.{state_of}
 use Rattle.sched_storm.specs.Parameters.{AreInRange, all_requests, comes_at, peer_of}
+use Rattle.sched_storm.specs.Calls.{AreFew}
 use Rattle.sched_storm.specs.Tickets.{asked_of, given_of}
 use Rattle.sched_storm.specs.Drivers.{DriverStands, MayFail}
 use Rattle.sched_storm.specs.Plays.{Stage, begins, retries, succeeds, fails, Shared, words_of, start_at, first}
@@ -27,7 +28,13 @@ use Rattle.sched_storm.specs.declared.turns.Turn.{Turn}
 use Rattle.sched_storm.specs.declared.course.Course.{Course}
 
 abbrev pub shared_of : Course → Shared
-shared_of c = record { busy = c.busy; words = words_of c.words; drawn = c.drawn; limit = state_of c.limit }
+shared_of c = record {
+  busy = c.busy;
+  calls = c.calls;
+  words = words_of c.words;
+  drawn = c.drawn;
+  limit = state_of c.limit;
+}
 
 -- the driver of a request, where it has one
 abbrev pub slot_of : Course → ℕ → Option (Box Standing Global)
@@ -49,7 +56,7 @@ pub record IsReady (c : Course) (t r : ℕ) : Type 0 where
   pub slots : vec_len c.drivers.slots ≡ c.requests
   pub requests : c.requests ≤ 1048576
   pub calls : c.calls ≤ 4294967296
-  pub busy : c.busy ≤ 900000000000000
+  pub busy : AreFew c.busy
   pub asked : asked_of c.drawn ≤ 1048576
   pub given : given_of c.drawn ≤ 1099511627776
   pub told : c.tally.from ≤ t
@@ -76,7 +83,7 @@ pub record Rests (t r : ℕ) (old new : Course) : Type 0 where
   pub agenda : new.agenda ≡ old.agenda
   pub slots : vec_len new.drivers.slots ≡ new.requests
   pub others : (q : ℕ) → q ≢ r → slot_of new q ≡ slot_of old q
-  pub busy : new.busy ≤ 900000000000000
+  pub busy : AreFew new.busy
   pub window : new.tally.window ≡ old.tally.window
   pub from : new.tally.from ≤ t
   pub said : new.tally.said ≡ old.tally.said + 1
@@ -173,7 +180,7 @@ pub record Stands (c : Course) (hand : Option Turn) : Type 0 where
   pub slots : vec_len c.drivers.slots ≡ c.requests
   pub calls : c.calls ≡ calls_of c.storm c.plan events
   pub few_calls : c.calls ≤ c.storm.calls
-  pub busy : c.busy ≤ 900000000000000
+  pub busy : AreFew c.busy
   pub asked : asked_of c.drawn ≡ c.requests
   pub given : given_of c.drawn ≤ length events
   pub said : c.tally.said ≡ length events

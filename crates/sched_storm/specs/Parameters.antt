@@ -6,7 +6,7 @@ use Rattle.sched_storm_report.specs.declared.peer.Peer.{Peer}
 use Rattle.sched_storm_limit.specs.Ranges.{AreDraws}
 use Rattle.sched_storm.specs.declared.parameters.Parameters.{Parameters}
 
--- the peer that the calls come to
+-- the peer that the calls come to, as each of its replicas works
 abbrev pub peer_of : Parameters → Peer
 peer_of p = record { capacity = p.capacity; slow = p.slow }
 
@@ -41,7 +41,11 @@ pub record PeerIsInRange (p : Parameters) : Type 0 where
   pub one : 1 ≤ p.patience
   pub patience : p.patience ≤ 3600000
   pub queue : p.queue ≤ 1048576
+  pub replica : 1 ≤ p.replicas
+  pub replicas : p.replicas ≤ 4
   pub outage : IsSpan p.outage
+  pub away : 1 ≤ p.down
+  pub down : p.down ≤ p.replicas
   pub slow : IsSlow p.slow
 
 pub record ReportIsInRange (p : Parameters) : Type 0 where

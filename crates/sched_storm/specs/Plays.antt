@@ -16,12 +16,14 @@ use Rattle.sched_storm_report.specs.declared.moments.Failure.TheVariants.{Late}
 use Rattle.sched_storm_report.specs.declared.moments.Then.{Then}
 use Rattle.sched_storm_report.specs.declared.moments.Then.TheVariants.{Lost, Denied, Waits}
 use Rattle.sched_storm_report.specs.declared.moments.Happening.{Happening}
+use Rattle.sched_storm_report.specs.Peer.{none_busy}
 use Rattle.sched_storm_report.specs.declared.moments.Happening.TheVariants as happening
 use Rattle.sched_storm_report.specs.declared.moments.Moment.{Moment}
+use Rattle.sched_storm_report.specs.declared.peer.Busy.{Busy}
 use Rattle.sched_storm_limit.specs.Limits as limits
 use Rattle.sched_storm_limit.specs.Limits.{LimitState, state_at_first}
 use Rattle.sched_storm.specs.Parameters.{all_requests, comes_at}
-use Rattle.sched_storm.specs.Calls.{called}
+use Rattle.sched_storm.specs.Calls.{called, busy_after}
 use Rattle.sched_storm.specs.Tickets.{none_drawn, counted, draw_at}
 use Rattle.sched_storm.specs.Drivers.{input_of, with_failure}
 use Rattle.sched_storm.specs.declared.parameters.Parameters.{Parameters}
@@ -38,10 +40,11 @@ pub data Stage : Type 0 where
   succeeds : Stage
   fails : Failure → List Event → Stage
 
--- what the requests share: the unit at which the peer is done with all work that it has taken, the random words to
--- come, the tickets, and the limit with what each request holds of it
+-- what the requests share: what the peer's replicas have taken, how many calls began, the random words to come, the
+-- tickets, and the limit with what each request holds of it
 pub record Shared : Type 0 where
-  pub busy : ℕ
+  pub busy : Busy
+  pub calls : ℕ
   pub words : Stream
   pub drawn : Drawn
   pub limit : LimitState
@@ -53,7 +56,8 @@ words_of state = stream_of (steps_u32 plus_plus) state
 -- before the first event
 abbrev pub start_at : Parameters → Shared
 start_at p = record {
-  busy = 0;
+  busy = none_busy;
+  calls = 0;
   words = words_of (of_seed (splitmix_seed 16 p.words));
   drawn = none_drawn;
   limit = state_at_first p.draws p.words;
@@ -75,9 +79,13 @@ ending (Failed failure) h = fails failure h
 abbrev pub moment_at : ℕ → Happening → Shared → Moment
 moment_at t what s = record { at = t; what = what; busy = s.busy }
 
+-- a call is taken, or not, and counted
+abbrev pub with_call : Parameters → Called → Shared → Shared
+with_call p c s = record s { busy = busy_after p s.calls c s.busy; calls = s.calls + 1 }
+
 -- A call comes to the peer.
 abbrev pub coming : Parameters → Shared → ℕ → List Event → Happening → Called → Answer Stage Shared Moment
-coming p s t h what c = let after = record s { busy = c.busy } in
+coming p s t h what c = let after = with_call p c s in
     record { next = if_by p.until c.ends (ending c.how h); shared = after; told = moment_at t what after }
 
 -- a call failed, and its request is over: nothing is due of it any more
@@ -121,14 +129,14 @@ abbrev pub with_request : Parameters → ℕ → Shared → Shared
 with_request p t s = record s { drawn = counted p.draws t s.drawn }
 
 abbrev pub arriving : Parameters → Shared → ℕ → Bool → Answer Stage Shared Moment
-arriving p s t true = coming p s t [] happening.Request (called p s.busy t)
+arriving p s t true = coming p s t [] happening.Request (called p s.calls s.busy t)
 arriving p s t false = record { next = None; shared = s; told = moment_at t happening.Refused s }
 
 -- What becomes of a request where something is due of it at a moment.
 abbrev pub playing : Parameters → Schedule → Shared → ℕ → ℕ → Stage → Answer Stage Shared Moment
 playing p plan s r t begins = let asked = limits.admitting p.draws t r s.limit in
     arriving p (with_request p t (record s { limit = asked.1 })) t asked.0
-playing p plan s r t (retries h) = coming p s t h happening.Retry (called p s.busy t)
+playing p plan s r t (retries h) = coming p s t h happening.Retry (called p s.calls s.busy t)
 playing p plan s r t succeeds = record {
   next = None;
   shared = record s { limit = limits.succeeding p.draws t r s.limit };

@@ -1,9 +1,10 @@
-//! The peer that is called: when it does what, and what becomes of a call.
+//! The peer that is called: when its replicas do what, and what becomes of a call.
 ghost use Rattle.std.specs.Prelude.{◌≡◌, ◌+◌, ◌*◌, ◌<◌, ◌≤◌, false};
-ghost use Rattle.sched_storm.specs.Calls.{can_be_done, ahead, is_full, IsDoneAt, IsTaken, IsCalled, called};
+ghost use Rattle.sched_storm.specs.Calls.{can_be_done, ahead, is_full, IsDoneAt, IsTaken, IsCalled};
+ghost use Rattle.sched_storm.specs.Calls.{replica_of, is_away, called_at, called, busy_after, AreFew};
 
 use crate::storm::Storm;
-use sched_storm_report::{CALL, Failure};
+use sched_storm_report::{Busy, CALL, Failure};
 
 /// How a call ends.
 #[derive(Clone, Copy, Debug, PartialEq, Eq)]
@@ -14,7 +15,8 @@ pub(crate) enum CallEnd {
     Failed(Failure),
 }
 
-/// What becomes of a call: the unit at which all work that was taken is then done, when the call ends, and how.
+/// What becomes of a call: the unit at which all work that its replica has taken is then done, when the call ends, and
+/// how.
 #[derive(Clone, Copy, Debug, PartialEq, Eq)]
 pub(crate) struct Called {
     pub(crate) busy: u64,
@@ -23,7 +25,7 @@ pub(crate) struct Called {
 }
 
 impl Storm {
-    /// The units of work that the peer can have done by this moment.
+    /// The units of work that a replica can have done by this moment.
     pub(crate) fn can_be_done(&self, at: u64) -> u64
         requires { at ≤ 10800000 }
         ensures value { result ≡ can_be_done self.now at }
@@ -32,17 +34,39 @@ impl Storm {
         self.peer().can_be_done(at)
     }
 
-    /// What becomes of a call that comes at this moment, where all work taken so far is done at the unit `busy`.
-    pub(crate) fn call(&self, busy: u64, at: u64) -> Called
+    /// What becomes of the storm's call of this number, from 0, that comes at this moment: it goes to its replica.
+    pub(crate) fn call(&self, calls: u64, busy: &mut Busy, at: u64) -> Called
+        requires at { at ≤ self.now.until }
+        requires busy { AreFew busy.old }
+        ensures value { result ≡ called self.now calls busy.old at }
+        ensures busy { busy.new ≡ busy_after self.now calls result busy.old }
+        ensures few { AreFew busy.new }
+        ensures order { at ≤ result.ends }
+    {
+        let replica = self.replica_of(calls);
+        let called = self.call_at(replica, busy.at(replica), at);
+        busy.set(replica, called.busy);
+        called
+    }
+
+    // The replica that the call of this number goes to.
+    fn replica_of(&self, calls: u64) -> u64
+        ensures { result ≡ replica_of self.now calls }
+    {
+        calls % self.parameters().replicas
+    }
+
+    // What becomes of a call that comes to a replica at this moment, where all work that it has taken is done at the
+    // unit `busy`.
+    fn call_at(&self, replica: u64, busy: u64, at: u64) -> Called
         requires at { at ≤ self.now.until }
         requires busy { busy ≤ 900000000000000 }
-        ensures called { IsCalled self.now busy at result }
-        ensures value { result ≡ called self.now busy at }
+        ensures called { IsCalled self.now replica busy at result }
+        ensures value { result ≡ called_at self.now replica busy at }
         ensures busy { result.busy ≤ 900000000000000 }
         ensures order { at ≤ result.ends }
     {
-        let parameters = self.parameters();
-        if parameters.outage.has(at) {
+        if self.is_away(replica, at) {
             return Called {
                 busy,
                 ends: at,
@@ -57,6 +81,14 @@ impl Storm {
             };
         }
         self.take(busy, at)
+    }
+
+    // Whether the replica refuses all calls at this moment.
+    fn is_away(&self, replica: u64, at: u64) -> bool
+        ensures { result ≡ is_away self.now replica at }
+    {
+        let parameters = self.parameters();
+        parameters.outage.has(at) && replica < parameters.down
     }
 
     // Whether as much work stands ahead of a call as the queue may have.

@@ -23,7 +23,7 @@ use rand_core::SeedableRng;
 use rand_xoshiro::Xoshiro128PlusPlus;
 use sched_driver_stepper::Compiled;
 use sched_storm_limit::Stand;
-use sched_storm_report::{Ends, Failure, Happening, Moment, Report, Tally};
+use sched_storm_report::{Busy, Ends, Failure, Happening, Moment, Report, Tally};
 use sched_task::four_words;
 use sched_time::NoMemory;
 use std::alloc::Global;
@@ -40,8 +40,8 @@ pub(crate) struct Course {
     comes: u64,
     /// How many calls began.
     calls: u64,
-    /// The unit at which the peer is done with all work that it has taken.
-    busy: u64,
+    /// What the peer's replicas have taken.
+    busy: Busy,
     drawn: Drawn,
     limit: Stand,
     drivers: Drivers,
@@ -66,7 +66,7 @@ impl Course {
             requests: 0,
             comes: storm.comes_at(0),
             calls: 0,
-            busy: 0,
+            busy: Busy::NONE,
             drawn: Drawn::NONE,
             limit: Stand::new(alloc, storm.draws(), parameters.words),
             drivers: Drivers::new(alloc),
@@ -252,9 +252,8 @@ impl Course {
             )?;
             return Ok(None);
         }
+        let called = self.storm.call(self.calls, &mut self.busy, turn.at);
         self.calls += 1;
-        let called = self.storm.call(self.busy, turn.at);
-        self.busy = called.busy;
         self.tally.tell(
             &self.storm.peer(),
             moment_of(turn.at, Happening::Request, self.busy),
@@ -278,9 +277,8 @@ impl Course {
         ensures storm { self.new.storm ≡ self.old.storm }
         ensures plan { self.new.plan ≡ self.old.plan }
     {
+        let called = self.storm.call(self.calls, &mut self.busy, turn.at);
         self.calls += 1;
-        let called = self.storm.call(self.busy, turn.at);
-        self.busy = called.busy;
         self.tally.tell(
             &self.storm.peer(),
             moment_of(turn.at, Happening::Retry, self.busy),
@@ -353,7 +351,7 @@ impl Course {
     }
 }
 
-fn moment_of(at: u64, what: Happening, busy: u64) -> Moment
+fn moment_of(at: u64, what: Happening, busy: Busy) -> Moment
     ensures { result ≡ record { at = at; what = what; busy = busy } }
 {
     Moment { at, what, busy }

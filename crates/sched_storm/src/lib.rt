@@ -22,5 +22,6 @@ pub use parameters::Parameters;
 pub use sched_storm_limit::{Draws, Limit};
 pub use sched_storm_report::{BrownOut, Counts, Failure, Report, Span, Totals, Window};
 pub use storm::{
-    MAX_CALLS, MAX_EACH, MAX_MILLIS, MAX_REQUESTS, MAX_SECONDS, MAX_UNTIL, MAX_WINDOWS, Storm,
+    MAX_CALLS, MAX_EACH, MAX_MILLIS, MAX_REPLICAS, MAX_REQUESTS, MAX_SECONDS, MAX_UNTIL,
+    MAX_WINDOWS, Storm,
 };

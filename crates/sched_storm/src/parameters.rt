@@ -11,14 +11,18 @@ pub struct Parameters {
     pub together: u64,
     /// For how many seconds requests come, from 1 to 3,600; `rate` times `seconds` is at most 1,048,576.
     pub seconds: u64,
-    /// Calls that the peer can do in a second, from 1 to 1,000,000.
+    /// Calls that each replica of the peer can do in a second, from 1 to 1,000,000.
     pub capacity: u64,
     /// After how long a client gives a call up, from 1 to 3,600,000.
     pub patience: u64,
-    /// Calls of work that may stand at the peer, at most 1,048,576.
+    /// Calls of work that may stand at each replica, at most 1,048,576.
     pub queue: u64,
-    /// When the peer refuses all calls; it ends at 3,600,000 at the latest.
+    /// How many replicas the peer is, from 1 to 4: calls go to them in turn.
+    pub replicas: u64,
+    /// When replicas refuse all calls; it ends at 3,600,000 at the latest.
     pub outage: Span,
+    /// How many replicas do in the outage, the first ones, from 1 to `replicas`.
+    pub down: u64,
     /// When the peer works slowly, at 1 to 100 per cent; it ends at 3,600,000 at the latest.
     pub slow: Option<BrownOut>,
     /// How long a window of the report is, from 1 to 3,600,000; `until / window` is at most 65,536.
@@ -43,10 +47,12 @@ impl Default for Parameters {
             capacity: 1000,
             patience: 500,
             queue: 5000,
+            replicas: 1,
             outage: Span {
                 from: 10000,
                 to: 20000,
             },
+            down: 1,
             slow: None,
             window: 1000,
             until: 120000,

@@ -19,6 +19,9 @@ pub const MAX_SECONDS: u64 = 3600;
 /// The most requests, and the longest queue.
 pub const MAX_REQUESTS: u64 = 1048576;
 
+/// The most replicas of a peer.
+pub const MAX_REPLICAS: u64 = 4;
+
 /// The longest patience and window, and the latest end of an outage and of a brown-out, in milliseconds.
 pub const MAX_MILLIS: u64 = 3600000;
 
@@ -154,7 +157,11 @@ fn is_peer(p: &Parameters) -> bool
         && 1 <= p.patience
         && p.patience <= MAX_MILLIS
         && p.queue <= MAX_REQUESTS
+        && 1 <= p.replicas
+        && p.replicas <= MAX_REPLICAS
         && is_span(p.outage)
+        && 1 <= p.down
+        && p.down <= p.replicas
         && is_slow(p.slow)
 }
 

@@ -16,6 +16,10 @@ use Rattle.sched_storm_call.specs.declared.records.StormGiven.{StormGiven}
 use Rattle.sched_storm_call.specs.declared.records.WindowTold.{WindowTold}
 use Rattle.sched_storm_call.specs.declared.records.TotalsTold.{TotalsTold}
 
+-- in the outage all replicas are down, where C does not tell how many
+abbrev pub down_of : StormGiven → ℕ
+down_of g = if g.down == 0 then g.replicas else g.down
+
 -- a brown-out is given by its percentage
 abbrev pub slow_of : StormGiven → Option BrownOut
 slow_of g = if g.slow_percent == 0 then None
@@ -53,7 +57,9 @@ parameters_of g draws = record {
   capacity = g.capacity;
   patience = g.patience;
   queue = g.queue;
+  replicas = g.replicas;
   outage = record { from = g.outage_from; to = g.outage_to };
+  down = down_of g;
   slow = slow_of g;
   window = g.window;
   until = g.until;

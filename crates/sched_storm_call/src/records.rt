@@ -1,7 +1,7 @@
 //! What C gives of a storm, and what it is told.
 ghost use Rattle.std.specs.Prelude.{◌≡◌, ◌≤◌, ◌↔◌, IsTrue, IsSome, IfSome};
 ghost use Rattle.sched_storm_call.specs.Told.{IsGiven, HasItsBrownOut, IsBreakerGiven, IsThrottleGiven, AreDrawsGiven};
-ghost use Rattle.sched_storm_call.specs.Told.{AreDrawsOf, IsOf, slow_of, parameters_of, room_of, window_told};
+ghost use Rattle.sched_storm_call.specs.Told.{AreDrawsOf, IsOf, down_of, slow_of, parameters_of, room_of, window_told};
 ghost use Rattle.sched_storm_call.specs.Told.{totals_told};
 
 use sched_limit::{Breaker, Bucket, InFlight, Throttle};
@@ -47,6 +47,8 @@ pub struct StormGiven {
     pub ratio: u64,
     pub open_count: u64,
     pub open_times: [u64; 64],
+    pub replicas: u64,
+    pub down: u64,
 }
 
 /// The parameters of a storm, after the size in bytes that C gives of this struct.
@@ -58,7 +60,7 @@ pub struct SizedStorm {
 }
 
 /// The size of it.
-pub(crate) const STORM_SIZE: usize = 784;
+pub(crate) const STORM_SIZE: usize = 800;
 
 /// A window of a storm.
 #[repr(C)]
@@ -131,16 +133,29 @@ impl StormGiven {
             capacity: self.capacity,
             patience: self.patience,
             queue: self.queue,
+            replicas: self.replicas,
             outage: Span {
                 from: self.outage_from,
                 to: self.outage_to,
             },
+            down: self.down(),
             slow: self.slow(),
             window: self.window,
             until: self.until,
             calls: self.calls,
             words: self.words,
             draws,
+        }
+    }
+
+    // How many replicas refuse calls in the outage: all, where none is told.
+    fn down(&self) -> u64
+        ensures { result ≡ down_of self.now }
+    {
+        if self.down == 0 {
+            self.replicas
+        } else {
+            self.down
         }
     }
 

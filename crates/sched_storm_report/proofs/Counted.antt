@@ -14,6 +14,7 @@ use Rattle.sched_storm_report.specs.declared.moments.Then.TheVariants.{Lost, Den
 use Rattle.sched_storm_report.specs.declared.moments.Happening.{Happening}
 use Rattle.sched_storm_report.specs.declared.moments.Happening.TheVariants.{Request, Retry, Won, Failed, Refused}
 use Rattle.sched_storm_report.specs.declared.moments.Moment.{Moment}
+use Rattle.sched_storm_report.specs.declared.peer.Busy.{Busy}
 use Rattle.sched_storm_report.specs.declared.counts.Counts.{Counts}
 use Rattle.sched_storm_report.specs.declared.counts.Score.{Score}
 
@@ -100,7 +101,7 @@ shown here c d Refused requests won retries succeeded refused shed late =
     (omega arith)
 
 -- A moment that passes the test counts as what it is, and a request that is won counts where it began.
-pub counts_here : (here : ℕ → Bool) (told : List Moment) (at : ℕ) (what : Happening) (busy : ℕ) → here at ≡ true →
+pub counts_here : (here : ℕ → Bool) (told : List Moment) (at : ℕ) (what : Happening) (busy : Busy) → here at ≡ true →
     counts_where here (told ++ record { at = at; what = what; busy = busy } ∷ []) ≡
     with_happening what (credited here what (counts_where here told))
 counts_here here told at what busy passes = let m : Moment = record { at = at; what = what; busy = busy } in
@@ -130,7 +131,8 @@ out_shown here c d (Failed failure next) requests won retries succeeded refused 
 out_shown here c d Refused requests won retries succeeded refused shed late =
     same_counts d c requests (omega arith) retries succeeded refused shed late
 
-pub counts_elsewhere : (here : ℕ → Bool) (told : List Moment) (at : ℕ) (what : Happening) (busy : ℕ) → here at ≡ false →
+pub counts_elsewhere : (here : ℕ → Bool) (told : List Moment) (at : ℕ) (what : Happening) (busy : Busy) →
+    here at ≡ false →
     counts_where here (told ++ record {
       at = at;
       what = what;
@@ -165,7 +167,7 @@ grown (Failed failure Waits) s t all calls lost denied granted =
 grown Refused s t all calls lost denied granted = same_score t (score_after Refused s) all (omega arith)
     (omega arith) denied (omega arith)
 
-pub score_more : (told : List Moment) (at : ℕ) (what : Happening) (busy : ℕ) →
+pub score_more : (told : List Moment) (at : ℕ) (what : Happening) (busy : Busy) →
     score_of (told ++ record { at = at; what = what; busy = busy } ∷ []) ≡
     score_after what (record (score_of told) { all = credited always what (counts_where always told) })
 score_more told at what busy = let m : Moment = record { at = at; what = what; busy = busy } in

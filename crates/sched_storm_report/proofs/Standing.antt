@@ -13,7 +13,7 @@ use Rattle.std.proofs.lemmas.List.Elements.{All-head, All-tail, All-weaker, All-
 use Rattle.sched_storm_report.specs.Counts.{no_counts, with_happening, score_after}
 use Rattle.sched_storm_report.specs.Moments.{is_won_from, is_in_window, counts_where, always, time_at, times_of, latest}
 use Rattle.sched_storm_report.specs.Moments.{busy_by}
-use Rattle.sched_storm_report.specs.Peer.{waiting_at}
+use Rattle.sched_storm_report.specs.Peer.{none_busy, waiting_at}
 use Rattle.sched_storm_report.specs.Report.{window_of, windows_of}
 use Rattle.sched_storm_report.specs.Told.{HasBegun, IsBefore, Stands, AreTold, credited, IsNext}
 use Rattle.sched_storm_report.proofs.Sums.{in_line_more}
@@ -22,6 +22,7 @@ use Rattle.sched_storm_report.specs.declared.moments.Happening.{Happening}
 use Rattle.sched_storm_report.specs.declared.moments.Happening.TheVariants.{Request, Retry, Won, Failed, Refused}
 use Rattle.sched_storm_report.specs.declared.moments.Moment.{Moment}
 use Rattle.sched_storm_report.specs.declared.counts.Score.{Score}
+use Rattle.sched_storm_report.specs.declared.peer.Busy.{Busy}
 use Rattle.sched_storm_report.specs.declared.peer.Peer.{Peer}
 use Rattle.sched_storm_report.specs.declared.tally.Tally.{Tally}
 use Rattle.sched_storm_report.specs.declared.tally.Window.{Window}
@@ -59,7 +60,7 @@ outside window n end some far m is = record {
 }
 
 -- the work that was taken before a moment is that before any later one, where nothing is told between
-busy_later : (end later busy : ℕ) (told : List Moment) → end ≤ later → All (IsBefore end) told →
+busy_later : (end later : ℕ) (busy : Busy) (told : List Moment) → end ≤ later → All (IsBefore end) told →
     busy_by later busy told ≡ busy_by end busy told
 busy_later end later busy [] far before = refl
 busy_later end later busy (m ∷ ms) far before =
@@ -71,7 +72,7 @@ busy_later end later busy (m ∷ ms) far before =
     ∙ (busy_later end later m.busy ms far (All-tail (IsBefore end) m ms before)
     ∙ sym (ap (λ (b : Bool). busy_by end (if b then m.busy else busy) ms) here))
 
-busy_push : (end busy : ℕ) (told : List Moment) (m : Moment) →
+busy_push : (end : ℕ) (busy : Busy) (told : List Moment) (m : Moment) →
     busy_by end busy (told ++ m ∷ []) ≡ (if nat_lt m.at end then m.busy else busy_by end busy told)
 busy_push end busy [] m = refl
 busy_push end busy (x ∷ xs) m = busy_push end (if nat_lt x.at end then x.busy else busy) xs m
@@ -97,7 +98,7 @@ module _ (peer : Peer) (told : List Moment) (old : Tally) (s : Stands peer told 
       same_window w (window_of peer old.window told n) (from ∙ sym first)
       (counts ∙ (s.here ∙ ap (λ k. counts_where (is_in_window old.window k) told) (sym last)))
       (waiting ∙ (ap (λ b. waiting_at peer b (old.from + old.window)) s.busy
-      ∙ ap (λ e. waiting_at peer (busy_by e 0 told) e) (sym end)))
+      ∙ ap (λ e. waiting_at peer (busy_by e none_busy told) e) (sym end)))
 
 -- A window ends: it is one of the windows, and nothing is counted in the next.
 module _ (peer : Peer) (told : List Moment) (old new : Tally) (w : Window) (s : Stands peer told old) where
@@ -133,7 +134,7 @@ module _ (peer : Peer) (told : List Moment) (old new : Tally) (w : Window) (s : 
             (outside new.window next end (let e = window in omega arith) starts) told s.before));
         score = score ∙ s.score;
         times = times ∙ s.times;
-        busy = busy ∙ (s.busy ∙ sym (busy_later end (new.from + new.window) 0 told later s.before));
+        busy = busy ∙ (s.busy ∙ sym (busy_later end (new.from + new.window) none_busy told later s.before));
       }
 
 -- A window that is over changes only where a request is won that began in it.
@@ -146,8 +147,8 @@ ended_before : (peer : Peer) (told : List Moment) (m : Moment) (window n : ℕ) 
     ≡ window_of peer window (told ++ m ∷ []) n
 ended_before peer told m window n some past =
     let end : ℕ = n * window + window in
-    let busy : busy_by end 0 told ≡ busy_by end 0 (told ++ m ∷ []) = sym (busy_push end 0 told m
-    ∙ ap (λ (b : Bool). if b then m.busy else busy_by end 0 told) (le-ltb m.at end past)) in
+    let busy : busy_by end none_busy told ≡ busy_by end none_busy (told ++ m ∷ []) = sym (busy_push end none_busy told m
+    ∙ ap (λ (b : Bool). if b then m.busy else busy_by end none_busy told) (le-ltb m.at end past)) in
     same_window _ (window_of peer window (told ++ m ∷ []) n) refl
     (sym (counts_elsewhere (is_in_window window n) told m.at m.what m.busy (after_window window n m.at some past)))
     (ap (λ b. waiting_at peer b end) busy)
@@ -198,8 +199,8 @@ module _ (peer : Peer) (told : List Moment) (m : Moment) (old new : Tally) (s : 
               ∙ sym (score_more told m.at m.what m.busy));
           times = next.times
               ∙ (ap (λ ts. ts ++ option_to_list (time_at m.at m.what)) s.times ∙ sym (times_more told m));
-          busy = next.busy ∙ sym (busy_push (new.from + new.window) 0 told m
-              ∙ ap (λ (b : Bool). if b then m.busy else busy_by (new.from + new.window) 0 told)
+          busy = next.busy ∙ sym (busy_push (new.from + new.window) none_busy told m
+              ∙ ap (λ (b : Bool). if b then m.busy else busy_by (new.from + new.window) none_busy told)
               (lt-ltb m.at (new.from + new.window) first.before));
         };
         latest_is = ap (λ t. t / new.window) (latest_push 0 told m)

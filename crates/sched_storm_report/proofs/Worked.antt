@@ -1,6 +1,7 @@
 -- Worked reports, computed with the definitions alone.
 use Rattle.std.specs.Prelude.{◌≡◌, ℕ, true, false, List, [], ◌∷◌, Some, None, refl}
 use Rattle.sched_storm_report.specs.Counts.{no_counts}
+use Rattle.sched_storm_report.specs.Peer.{none_busy}
 use Rattle.sched_storm_report.specs.Moments.{score_of, times_of}
 use Rattle.sched_storm_report.specs.Report.{windows_of, in_order, totals_of}
 use Rattle.sched_storm_report.specs.declared.moments.Failure.TheVariants as failed
@@ -9,14 +10,15 @@ use Rattle.sched_storm_report.specs.declared.moments.Happening.{Happening}
 use Rattle.sched_storm_report.specs.declared.moments.Happening.TheVariants.{Request, Retry, Won, Failed, Refused}
 use Rattle.sched_storm_report.specs.declared.moments.Moment.{Moment}
 use Rattle.sched_storm_report.specs.declared.counts.Counts.{Counts}
+use Rattle.sched_storm_report.specs.declared.peer.Busy.{Busy}
 use Rattle.sched_storm_report.specs.declared.peer.Peer.{Peer}
 use Rattle.sched_storm_report.specs.declared.report.Ends.{Ends}
 use Rattle.sched_storm_report.specs.declared.report.Totals.{Totals}
 use Rattle.sched_storm_report.specs.declared.tally.Window.{Window}
 
--- what happens at a moment, and the unit at which the peer is then done
+-- what happens at a moment, and the unit at which a peer of one replica is then done
 abbrev moment : ℕ → Happening → ℕ → Moment
-moment at what busy = record { at = at; what = what; busy = busy }
+moment at what busy = record { at = at; what = what; busy = record none_busy { first = busy } }
 
 -- requests, won, retries, succeeded, refused, shed and late
 abbrev counts : ℕ → ℕ → ℕ → ℕ → ℕ → ℕ → ℕ → Counts
@@ -155,3 +157,17 @@ totals_of_nothing : totals slow_peer (record { trouble = 0; draws = true; is_cut
   is_cut = false;
 }
 totals_of_nothing = refl
+
+-- Three requests at one moment on two replicas: at 5 ms one and a half call stand at the first and half a one at the
+-- second, each rounded down.
+abbrev of_two : ℕ → ℕ → Busy
+of_two one other = record none_busy { first = one; second = other }
+
+abbrev on_two_replicas : List Moment
+on_two_replicas =
+    record { at = 0; what = Request; busy = of_two 100000 0 } ∷
+    record { at = 0; what = Request; busy = of_two 100000 100000 } ∷
+    record { at = 0; what = Request; busy = of_two 200000 100000 } ∷ []
+
+windows_on_two : windows_of slow_peer 5 on_two_replicas ≡ window 0 (counts 3 0 0 0 0 0 0) 1 ∷ []
+windows_on_two = refl

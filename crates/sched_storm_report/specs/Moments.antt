@@ -8,6 +8,7 @@ use Rattle.sched_storm_report.specs.declared.moments.Happening.TheVariants.{Requ
 use Rattle.sched_storm_report.specs.declared.moments.Moment.{Moment}
 use Rattle.sched_storm_report.specs.declared.counts.Counts.{Counts}
 use Rattle.sched_storm_report.specs.declared.counts.Score.{Score}
+use Rattle.sched_storm_report.specs.declared.peer.Busy.{Busy}
 
 -- What happens: a request comes, a call begins or ends, a request is lost or denied, a retry is granted.
 abbrev pub is_request : Happening → Bool
@@ -99,7 +100,7 @@ abbrev pub latest : ℕ → List Moment → ℕ
 latest at [] = at
 latest at (m ∷ ms) = latest m.at ms
 
--- the unit at which all work is done that was taken before a moment
-abbrev pub busy_by : ℕ → ℕ → List Moment → ℕ
+-- what the peer's replicas had taken before a moment
+abbrev pub busy_by : ℕ → Busy → List Moment → Busy
 busy_by end busy [] = busy
 busy_by end busy (m ∷ ms) = busy_by end (if nat_lt m.at end then m.busy else busy) ms

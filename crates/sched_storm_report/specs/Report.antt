@@ -4,7 +4,7 @@ use Rattle.std.specs.Prelude.{if◌then◌else◌}
 use Rattle.std.specs.Prelude.{List, [], ◌∷◌, length, map, slice_get, Option, Some, None}
 use Rattle.std.specs.Int.{div_ceil}
 use Rattle.std.specs.List.{range_with_len}
-use Rattle.sched_storm_report.specs.Peer.{waiting_at}
+use Rattle.sched_storm_report.specs.Peer.{none_busy, waiting_at}
 use Rattle.sched_storm_report.specs.Counts.{calls_in}
 use Rattle.sched_storm_report.specs.Moments.{counts_where, is_in_window, score_of, times_of, latest, busy_by}
 use Rattle.sched_storm_report.specs.declared.moments.Moment.{Moment}
@@ -21,7 +21,7 @@ abbrev pub window_of : Peer → ℕ → List Moment → ℕ → Window
 window_of peer window told n = let end = n * window + window in record {
   from = n * window;
   counts = counts_where (is_in_window window n) told;
-  waiting = waiting_at peer (busy_by end 0 told) end;
+  waiting = waiting_at peer (busy_by end none_busy told) end;
 }
 
 -- the windows from 0 to that of the last moment

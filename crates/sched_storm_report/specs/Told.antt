@@ -4,6 +4,7 @@ use Rattle.std.specs.Prelude.{slice_index_or, vec_len, option_to_list}
 use Rattle.sched_storm_report.specs.Counts.{with_happening, with_won, score_after}
 use Rattle.sched_storm_report.specs.Moments.{counts_where, is_in_window, always, score_of, time_at, times_of, latest}
 use Rattle.sched_storm_report.specs.Moments.{busy_by}
+use Rattle.sched_storm_report.specs.Peer.{none_busy}
 use Rattle.sched_storm_report.specs.Report.{window_of}
 use Rattle.sched_storm_report.specs.declared.counts.Counts.{Counts}
 use Rattle.sched_storm_report.specs.declared.moments.Happening.{Happening}
@@ -32,7 +33,7 @@ pub record Stands (peer : Peer) (told : List Moment) (t : Tally) : Type 0 where
   pub here : t.here ≡ counts_where (is_in_window t.window (vec_len t.windows)) told
   pub score : t.score ≡ score_of told
   pub times : t.took.items ≡ times_of told
-  pub busy : t.busy ≡ busy_by (t.from + t.window) 0 told
+  pub busy : t.busy ≡ busy_by (t.from + t.window) none_busy told
 
 -- The tally was told these moments, the last of them in the window that is not over.
 pub record AreTold (peer : Peer) (told : List Moment) (t : Tally) : Type 0 where

@@ -12,6 +12,6 @@ mod tally;
 
 pub use counts::Counts;
 pub use moments::{Failure, Happening, Moment, Then};
-pub use peer::{BrownOut, CALL, Peer, Span};
+pub use peer::{BrownOut, Busy, CALL, Peer, Span};
 pub use report::{Ends, Report, Totals};
 pub use tally::{Tally, Window};

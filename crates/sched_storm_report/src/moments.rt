@@ -1,4 +1,5 @@
 //! What happens in a storm.
+use crate::peer::Busy;
 
 /// Why a call failed.
 #[derive(Clone, Copy, Debug, PartialEq, Eq)]
@@ -52,6 +53,6 @@ pub struct Moment {
     pub at: u64,
     /// What happens.
     pub what: Happening,
-    /// The unit at which the peer is done with all work that it has taken, this moment's included.
-    pub busy: u64,
+    /// What the peer's replicas have taken, this moment's included.
+    pub busy: Busy,
 }

@@ -1,5 +1,5 @@
-//! The peer that is called: how much of its work it can have done by when.
-ghost use Rattle.std.specs.Prelude.{◌≡◌, ◌*◌, ◌≤◌};
+//! The peer that is called: how much of its work a replica of it can have done by when, and what it has taken.
+ghost use Rattle.std.specs.Prelude.{◌≡◌, ◌-◌, ◌*◌, ◌/◌, ◌≤◌};
 ghost use Rattle.sched_storm_report.specs.Peer.{IsPeer, IsSlow, work_by, can_be_done, waiting_at};
 
 /// The units of work of a call.
@@ -31,17 +31,64 @@ pub struct BrownOut {
     pub percent: u64,
 }
 
-/// A peer that does so many calls a second, except in a brown-out.
+/// What the replicas of a peer have taken: the unit at which each is done with all of it. A replica that the peer does
+/// not have takes nothing.
+#[derive(Clone, Copy, Debug, PartialEq, Eq)]
+pub struct Busy {
+    pub first: u64,
+    pub second: u64,
+    pub third: u64,
+    pub fourth: u64,
+}
+
+impl Busy {
+    ghost use Rattle.std.specs.Prelude.{◌≡◌};
+    ghost use Rattle.sched_storm_report.specs.Peer.{busy_at, with_busy};
+
+    /// No work.
+    pub const NONE: Busy = Busy {
+        first: 0,
+        second: 0,
+        third: 0,
+        fourth: 0,
+    };
+
+    /// The unit at which the replica of this number, from 0, is done.
+    pub fn at(&self, replica: u64) -> u64
+        ensures { result ≡ busy_at replica self.now }
+    {
+        match replica {
+            0 => self.first,
+            1 => self.second,
+            2 => self.third,
+            _ => self.fourth,
+        }
+    }
+
+    /// The replica of this number is done at this unit.
+    pub fn set(&mut self, replica: u64, unit: u64)
+        ensures { self.new ≡ with_busy replica unit self.old }
+    {
+        match replica {
+            0 => self.first = unit,
+            1 => self.second = unit,
+            2 => self.third = unit,
+            _ => self.fourth = unit,
+        }
+    }
+}
+
+/// A peer each of whose replicas does so many calls a second, except in a brown-out.
 #[derive(Clone, Copy, Debug, PartialEq, Eq)]
 pub struct Peer {
-    /// Calls that it can do in a second, at most 1,000,000.
+    /// Calls that a replica can do in a second, at most 1,000,000.
     pub capacity: u64,
     /// When it works slowly, at 1 to 100 per cent; it ends at 3,600,000 at the latest.
     pub slow: Option<BrownOut>,
 }
 
 impl Peer {
-    /// The units of work that the peer can have done by this moment.
+    /// The units of work that a replica can have done by this moment.
     pub fn can_be_done(&self, at: u64) -> u64
         requires peer { IsPeer self.now }
         requires at { at ≤ 10800000 }
@@ -51,15 +98,26 @@ impl Peer {
         self.capacity * work_by(self.slow, at)
     }
 
-    /// The calls of work that stand at the peer at this moment, rounded down. It is done with all that it has taken at
-    /// the unit `busy`.
-    pub fn waiting_at(&self, busy: u64, at: u64) -> u64
+    /// The calls of work that stand at its replicas at this moment, those of each rounded down.
+    pub fn waiting_at(&self, busy: &Busy, at: u64) -> u64
         requires peer { IsPeer self.now }
         requires at { at ≤ 10800000 }
-        ensures { result ≡ waiting_at self.now busy at }
+        ensures { result ≡ waiting_at self.now busy.now at }
     {
-        busy.saturating_sub(self.can_be_done(at)) / CALL
+        let done = self.can_be_done(at);
+        standing(busy.first, done)
+            + standing(busy.second, done)
+            + standing(busy.third, done)
+            + standing(busy.fourth, done)
     }
+}
+
+// The calls of work that stand at a replica, rounded down, where it is done with all at the unit `busy`.
+fn standing(busy: u64, done: u64) -> u64
+    ensures value { result ≡ (busy - done) / 100000 }
+    ensures few { result ≤ 184467440737095 }
+{
+    busy.saturating_sub(done) / CALL
 }
 
 // The units that a peer of one call a second can have done by this moment.

@@ -5,7 +5,7 @@ ghost use Rattle.sched_storm_report.specs.Peer.{IsPeer, waiting_at};
 
 use crate::counts::{Counts, Score};
 use crate::moments::{Happening, Moment};
-use crate::peer::Peer;
+use crate::peer::{Busy, Peer};
 use sched_time::NoMemory;
 use std::alloc::Global;
 
@@ -16,7 +16,7 @@ pub struct Window {
     pub from: u64,
     /// What began and ended in it.
     pub counts: Counts,
-    /// The calls of work that stand at the peer at its end, rounded down.
+    /// The calls of work that stand at the peer's replicas at its end, those of each rounded down.
     pub waiting: u64,
 }
 
@@ -34,8 +34,8 @@ pub struct Tally {
     /// How long each request took that was won.
     pub(crate) took: Vec<u32>,
     pub(crate) score: Score,
-    /// The unit at which the peer is done with all work that it has taken.
-    pub(crate) busy: u64,
+    /// What the peer's replicas have taken.
+    pub(crate) busy: Busy,
     /// How many moments were told.
     pub(crate) said: u64,
     ghost some: { 1 ≤ window },
@@ -69,7 +69,7 @@ impl Tally {
             from: 0,
             took: Vec::new(alloc),
             score: Score::NONE,
-            busy: 0,
+            busy: Busy::NONE,
             said: 0,
         }
     }
@@ -138,7 +138,7 @@ impl Tally {
         Window {
             from: self.from,
             counts: self.here,
-            waiting: peer.waiting_at(self.busy, self.from + self.window),
+            waiting: peer.waiting_at(&self.busy, self.from + self.window),
         }
     }
 

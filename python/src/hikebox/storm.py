@@ -39,7 +39,7 @@ class StormRow(NamedTuple):
     shed: int
     #: The calls that their clients gave up.
     late: int
-    #: The calls in the peer's queue at the end of the window.
+    #: The calls in the queues of the peer at the end of the window.
     waiting: int
 
 
@@ -145,7 +145,9 @@ def storm(
     capacity: int = 1000,
     patience: Duration = 0.5,
     queue: int = 5000,
+    replicas: int = 1,
     outage: Optional[Tuple[Duration, Duration]] = (10, 20),
+    down: Optional[int] = None,
     slow: Optional[Tuple[Duration, Duration, float]] = None,
     window: Duration = 1,
     until: Optional[Duration] = None,
@@ -161,10 +163,14 @@ def storm(
     `capacity`, `queue`
         How many calls the peer does in a second, one after another, and how many may wait in its queue. It sheds the
         others.
+    `replicas`
+        How many replicas the peer is, from 1 to 4. Each has the capacity and the queue; calls go to them in turn.
     `patience`
         How long a client waits for a call before it gives up. The peer does the call all the same.
     `outage`
         When the peer refuses all calls: from when to when, or None for no outage.
+    `down`
+        How many replicas refuse calls in the outage. None is all of them.
     `slow`
         A brown-out: from when to when the peer works at a share of its capacity, such as `(10, 20, 0.5)`.
     `window`
@@ -200,7 +206,9 @@ def storm(
         capacity=_whole("capacity", capacity),
         patience=_time("patience", patience),
         queue=_whole("queue", queue),
+        replicas=_whole("replicas", replicas),
         outage=Span(0, 0) if outage is None else Span(*(_time("outage", end) for end in _parts("outage", outage, 2))),
+        down=None if down is None else _whole("down", down),
         slow=None if slow is None else _slow(slow),
         window=_time("window", window),
         until=None if until is None else _time("until", until),

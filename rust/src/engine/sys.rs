@@ -189,6 +189,8 @@ pub(crate) struct Storm {
     pub(crate) ratio: u64,
     pub(crate) open_count: u64,
     pub(crate) open_times: [u64; 64],
+    pub(crate) replicas: u64,
+    pub(crate) down: u64,
 }
 
 #[repr(C)]

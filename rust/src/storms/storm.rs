@@ -44,6 +44,8 @@ pub struct Storm {
     pub(super) policy: Policy,
     pub(super) parameters: engine::Storm,
     until: Option<u64>,
+    /// How many replicas are away in the outage; `None` for all.
+    down: Option<u64>,
     /// Whether there is a brown-out.
     is_slow: bool,
     /// Why what the retries draw on is no budget, or no quota.
@@ -131,8 +133,10 @@ impl Storm {
             ratio: 0,
             open_count: 0,
             open_times: [0; 64],
+            replicas: 1,
+            down: 0,
         };
-        Self { policy: policy.clone(), parameters, until: None, is_slow: false, fault: None }
+        Self { policy: policy.clone(), parameters, until: None, down: None, is_slow: false, fault: None }
     }
 
     /// A herd: 10,000 clients lose one connection at one moment, and the peer takes 500 at a time.
@@ -165,7 +169,7 @@ impl Storm {
         self
     }
 
-    /// The number of calls that the peer can do in a second: 1 to 1,000,000.
+    /// The number of calls that the peer, or each of its replicas, can do in a second: 1 to 1,000,000.
     pub fn capacity(mut self, calls: u64) -> Self {
         self.parameters.capacity = calls;
         self
@@ -178,9 +182,22 @@ impl Storm {
         self
     }
 
-    /// The number of calls that can wait at the peer: 0 to 1,048,576. It sheds further ones.
+    /// The number of calls that can wait at the peer, or at each of its replicas: 0 to 1,048,576. It sheds further ones.
     pub fn queue(mut self, calls: u64) -> Self {
         self.parameters.queue = calls;
+        self
+    }
+
+    /// The number of replicas that the peer is: 1 to 4. Each has the capacity and the queue, and calls go to them in
+    /// turn.
+    pub fn replicas(mut self, replicas: u64) -> Self {
+        self.parameters.replicas = replicas;
+        self
+    }
+
+    /// The number of replicas that refuse calls in the outage: 1 to the number of replicas, and by default all.
+    pub fn down(mut self, replicas: u64) -> Self {
+        self.down = Some(replicas);
         self
     }
 
@@ -291,13 +308,16 @@ impl Storm {
     /// The parameters, where all are within their ranges.
     pub(super) fn checked(&self) -> Result<engine::Storm, StormError> {
         let until = self.until.unwrap_or_else(|| self.parameters.seconds.saturating_mul(1000).saturating_add(60_000));
-        let storm = engine::Storm { until, ..self.parameters };
+        let down = self.down.unwrap_or(self.parameters.replicas);
+        let storm = engine::Storm { until, down, ..self.parameters };
         within("rate", storm.rate, 1, 1_000_000)?;
         within("together", storm.together, 1, 1_000_000)?;
         within("seconds", storm.seconds, 1, 3600)?;
         within("capacity", storm.capacity, 1, 1_000_000)?;
         within("patience", storm.patience, 1, HOUR)?;
         within("queue", storm.queue, 0, 1_048_576)?;
+        within("replicas", storm.replicas, 1, 4)?;
+        within("down", storm.down, 1, storm.replicas)?;
         within("window", storm.window, 1, HOUR)?;
         within("until", storm.until, 0, 2 * HOUR)?;
         within("calls", storm.calls, 1, 1 << 32)?;

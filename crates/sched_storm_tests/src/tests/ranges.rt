@@ -56,6 +56,28 @@ fn peers(rt: HostRuntime) {
 }
 
 #[test]
+fn replicas(rt: HostRuntime) {
+    let good = Parameters::default();
+    for (replicas, down, want) in [
+        (1, 1, true),
+        (4, 1, true),
+        (4, 4, true),
+        (0, 0, false),
+        (0, 1, false),
+        (1, 0, false),
+        (2, 3, false),
+        (5, 1, false),
+    ] {
+        let parameters = Parameters {
+            replicas,
+            down,
+            ..good
+        };
+        fits(&rt, parameters, want);
+    }
+}
+
+#[test]
 fn reports(rt: HostRuntime) {
     let good = Parameters::default();
     for (window, until, calls, want) in [

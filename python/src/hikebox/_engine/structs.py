@@ -94,6 +94,7 @@ class Storm(_Sized):
             "bucket_credit bucket_refund cost late_cost least failures probes deadline ratio open_count"
         ),
         ("open_times", c_uint64 * 64),
+        *_numbers("replicas down"),
     ]
 
 

@@ -16,6 +16,8 @@ const CONTROLS = [
   { name: "slow", part: 2, label: "Capacity in the brown-out, %", least: 1, step: 1, most: 100 },
   { name: "patience", label: "Patience of the clients, ms", least: 1, most: 60000 },
   { name: "queue", label: "Queue of the peer, calls", least: 0, most: 100000 },
+  { name: "replicas", label: "Replicas of the peer, each with this capacity and queue", least: 1, step: 1, most: 4 },
+  { name: "down", label: "Replicas away in the outage", least: 1, step: 1, most: 4 },
   { name: "together", label: "Requests at one moment", least: 1, most: 20000 },
   { name: "seconds", label: "Requests come for, s", least: 1, most: 600 },
   { name: "window", label: "Window of the picture, ms", least: 1, most: 60000 },
@@ -54,7 +56,9 @@ const story = () => known.stories[state.story];
 
 function whole(name) {
   if (name in state.storm) return state.storm[name];
-  return name === "until" ? whole("seconds") * 1000 + 60000 : story().storm[name];
+  if (name === "until") return whole("seconds") * 1000 + 60000;
+  const told = story().storm[name];
+  return name === "down" && told === null ? whole("replicas") : told;
 }
 
 function valueOf(control) {
@@ -155,6 +159,7 @@ function stormAsked() {
   for (const name of new Set(CONTROLS.map((control) => control.name))) storm[name] = whole(name);
   if (storm.slow && storm.slow[0] === storm.slow[1]) storm.slow = null;
   if (!("until" in state.storm)) storm.until = null;
+  if (!("down" in state.storm)) storm.down = story().storm.down;
   return storm;
 }
 

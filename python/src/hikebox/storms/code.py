@@ -21,7 +21,7 @@ if TYPE_CHECKING:
 
 __all__ = ["in_command", "in_python", "in_rust", "in_scenario"]
 
-_COUNTS = ("rate", "together", "seconds", "capacity", "queue", "calls")
+_COUNTS = ("rate", "together", "seconds", "capacity", "queue", "replicas", "down", "calls")
 _TIMES = ("patience", "window", "until")
 _PLAIN = Parameters()
 

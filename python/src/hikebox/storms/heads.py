@@ -15,7 +15,7 @@ if TYPE_CHECKING:
 __all__ = ["Heads", "heads_of", "names_of"]
 
 #: The parameters that a title names where they differ, with their names there.
-_NAMED = ("rate", "together", "seconds", "capacity", "patience", "queue", "outage", "slow", "words")
+_NAMED = ("rate", "together", "seconds", "capacity", "patience", "queue", "replicas", "outage", "away", "slow", "words")
 
 
 class Heads(NamedTuple):

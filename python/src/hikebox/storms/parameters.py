@@ -25,6 +25,8 @@ RANGES: Dict[str, Tuple[int, int]] = {
     "capacity": (1, 1_000_000),
     "patience": (1, _HOUR),
     "queue": (0, 1_048_576),
+    "replicas": (1, 4),
+    "down": (1, 4),
     "window": (1, _HOUR),
     "until": (0, 2 * _HOUR),
     "calls": (1, 2**32),
@@ -61,8 +63,12 @@ class Parameters(NamedTuple):
     seconds: int = 60
     capacity: int = 1000
     patience: int = 500
+    #: Calls that may wait at a replica; `capacity` is what a replica does, too.
     queue: int = 5000
+    replicas: int = 1
     outage: Span = Span(10_000, 20_000)
+    #: How many replicas refuse calls in the outage; None for all.
+    down: Optional[int] = None
     slow: Optional[Slow] = None
     window: int = 1000
     until: Optional[int] = None
@@ -81,10 +87,20 @@ class Parameters(NamedTuple):
         """The moment from which on the peer is well again."""
         return max(self.outage.ends, self.slow.ends if self.slow else 0)
 
+    @property
+    def away(self) -> int:
+        """How many replicas refuse calls in the outage."""
+        return self.replicas if self.down is None else self.down
+
+    @property
+    def whole_capacity(self) -> int:
+        """The calls a second that all replicas can do."""
+        return self.capacity * self.replicas
+
     def capacity_at(self, moment: int) -> float:
-        """The calls a second that the peer can do at a moment."""
-        slow = self.slow
-        return self.capacity * slow.percent / 100 if slow and slow.begins <= moment < slow.ends else self.capacity
+        """The same at a moment."""
+        slow, whole = self.slow, self.whole_capacity
+        return whole * slow.percent / 100 if slow and slow.begins <= moment < slow.ends else whole
 
     @property
     def denies_first_calls(self) -> bool:
@@ -93,7 +109,8 @@ class Parameters(NamedTuple):
 
     def weather(self) -> List[Tuple[int, int, str, str]]:
         """The brown-out and the outage, where there are such: from when to when, in words, and their paint."""
-        spans = [(self.outage.begins, self.outage.ends, "peer away", "away")]
+        away = "peer away" if self.away == self.replicas else f"{self.away} of {self.replicas} replicas away"
+        spans = [(self.outage.begins, self.outage.ends, away, "away")]
         if self.slow is not None:
             spans.insert(0, (self.slow.begins, self.slow.ends, f"peer at {self.slow.percent} %", "shade"))
         return [span for span in spans if span[0] < span[1]]
@@ -102,8 +119,9 @@ class Parameters(NamedTuple):
         """The same, where all are within their ranges; otherwise a `StormError` names the first that is not."""
         for name in RANGES:
             number = getattr(self, name)
-            if name != "until" or number is not None:
+            if number is not None:
                 _look_at(name, number, *RANGES[name])
+        _look_at("down", self.away, 1, self.replicas)
         if self.rate * self.seconds > MAX_REQUESTS:
             asked = f"{self.rate} a second for {self.seconds} s are {self.rate * self.seconds} requests"
             raise StormError("rate", f"{asked}, and a storm has at most {MAX_REQUESTS}")
@@ -121,8 +139,8 @@ class Parameters(NamedTuple):
 
     def for_engine(self) -> Storm:
         """The same as the engine takes them."""
-        numbers: Dict[str, Any] = {name: getattr(self, name) for name in RANGES if name != "until"}
-        made = Storm(until=self.last, period=1, **numbers)
+        numbers: Dict[str, Any] = {name: getattr(self, name) for name in RANGES if name not in ("until", "down")}
+        made = Storm(until=self.last, down=self.away, period=1, **numbers)
         made.outage_from, made.outage_to = self.outage
         if self.slow is not None:
             made.slow_from, made.slow_to, made.slow_percent = self.slow
@@ -139,7 +157,7 @@ class Parameters(NamedTuple):
 #: What the three stories change.
 SCENARIOS: Dict[str, Parameters] = {
     "outage": Parameters(),
-    "herd": Parameters(10_000, 10_000, 1, 1000, 1000, 500, Span(0, 0)),
+    "herd": Parameters(10_000, 10_000, 1, 1000, 1000, 500, outage=Span(0, 0)),
     "brown-out": Parameters(outage=Span(0, 0), slow=Slow(10_000, 20_000, 50)),
 }
 

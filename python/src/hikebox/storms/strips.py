@@ -102,7 +102,7 @@ def _rates(storm: Storm, counts: Sequence[int], grain: int) -> List[float]:
 def _loads(storm: Storm, parts: Sequence[Tuple[str, Count]], grain: int) -> List[float]:
     """The calls of these parts a second, as multiples of the capacity."""
     sums = _grouped([sum(count(row) for _, count in parts) for row in storm.rows], grain)
-    return [rate / storm.parameters.capacity for rate in _rates(storm, sums, grain)]
+    return [rate / storm.parameters.whole_capacity for rate in _rates(storm, sums, grain)]
 
 
 class Strips:
@@ -222,7 +222,7 @@ class Strips:
         parameters = self.storm.parameters
         slow = parameters.slow
         turns = [slow.begins, slow.ends] if slow is not None and slow.begins < slow.ends else []
-        tall = scale / parameters.capacity
+        tall = scale / parameters.whole_capacity
         drawn = f"M{self.left:.1f} {bottom - tall * parameters.capacity_at(0):.1f}"
         for turn in turns:
             drawn += f"H{self._x(turn):.1f}V{bottom - tall * parameters.capacity_at(turn):.1f}"

@@ -82,9 +82,12 @@ def setting(parameters: Parameters) -> str:
     if parameters.together > 1:
         come += f", {parameters.together:,} at a time"
     peer = f"a peer that does {parameters.capacity:,} calls a second"
+    if parameters.replicas > 1:
+        peer = f"a peer of {parameters.replicas} replicas that each do {parameters.capacity:,} calls a second"
     outage, slow = parameters.outage, parameters.slow
     if outage.begins < outage.ends:
-        peer += f", is away from {_time(outage.begins)} to {_time(outage.ends)}"
+        which = f", {parameters.away} of them away" if parameters.away < parameters.replicas else ", is away"
+        peer += f"{which} from {_time(outage.begins)} to {_time(outage.ends)}"
     if slow is not None and slow.begins < slow.ends:
         peer += f", works at {slow.percent} % from {_time(slow.begins)} to {_time(slow.ends)}"
     return f"{come} on {peer}; each call is given up after {_time(parameters.patience)}"
@@ -94,7 +97,8 @@ def brief_setting(parameters: Parameters) -> str:
     """The same in a line, without the outage and the brown-out."""
     times = f"{parameters.together:,} at a time, " if parameters.together > 1 else ""
     come = f"{parameters.rate:,} requests/s for {parameters.seconds:,} s, {times}"
-    peer = f"capacity {parameters.capacity:,} calls/s, queue {parameters.queue:,}"
+    each = f"{parameters.replicas} replicas, each of " if parameters.replicas > 1 else ""
+    peer = f"{each}capacity {parameters.capacity:,} calls/s, queue {parameters.queue:,}"
     return f"{come}{peer}, patience {_time(parameters.patience)}"
 
 

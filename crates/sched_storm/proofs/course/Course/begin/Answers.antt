@@ -7,7 +7,7 @@ use Rattle.sched_storm_report.specs.declared.moments.Happening.TheVariants as ha
 use Rattle.sched_storm_limit.specs.Limits.{LimitState}
 use Rattle.sched_storm_limit.specs.States.{state_of}
 use Rattle.sched_storm.specs.Drivers.{DriverStands}
-use Rattle.sched_storm.specs.Plays.{Shared, with_request}
+use Rattle.sched_storm.specs.Plays.{Shared, with_request, with_call}
 use Rattle.sched_storm.specs.Course.{shared_of}
 use Rattle.sched_storm.proofs.Answered.{coming_answered, denied_answered, arrived_so, denied_so}
 use Rattle.sched_storm.proofs.course.Course.begin.Goals as goal
@@ -32,8 +32,8 @@ returns-clause-answered c =
     (coming_answered old _ t r [] happening.Request s c.call-called.result c.after.result
     c.turn_by.result
     c.peer-2.result c.moment_of-2.result _ c.call-called.ensures.value c.after.ensures c.turn_by.ensures
-    (ap (λ x. let after : Shared = record s { busy = c.call-called.result.busy; drawn = x } in after)
-    c.count-self.ensures.value) refl
+    (λ i. let counted : Shared = record s { drawn = c.count-self.ensures.value i } in
+    record (with_call old.storm c.call-called.result counted) { busy = c.call-called.ensures.busy i }) refl
     c.in_ok-tell-2.ensures.told c.peer-2.ensures.value c.moment_of-2.ensures c.call-called.ensures.order stands
     (omega arith))
 

@@ -26,6 +26,7 @@ returns-clause-answered c = λ h k.
     answers.planned answers.later c.tell_failed.ensures c.in_ok-is_granted.ensures c.next-after.ensures
     (record {
       busy = refl;
+      begun = refl;
       words = refl;
       drawn = refl;
       limit_is = c.in_ok-tell_ended.ensures;
