@@ -29,6 +29,7 @@ STRUCTS = {
     "bucket": "BucketTerms",
     "breaker": "BreakerTerms",
     "usage": "Used",
+    "phase": "Phase",
     "storm": "Storm",
     "window": "Window",
     "totals": "Totals",
@@ -51,7 +52,7 @@ def rust_type(declared):
     """The type in Rust of a field that C declares so."""
     array = re.fullmatch(r"(\w+) \w+\[(\d+)\]", declared)
     if array:
-        return f"[{NUMBERS[array[1]]}; {array[2]}]"
+        return f"[{NUMBERS.get(array[1]) or STRUCTS[array[1].removeprefix('hikebox_')]}; {array[2]}]"
     const, name, stars = re.fullmatch(r"(const )?(\w+) (\**)\w+", declared).groups()
     named = NUMBERS.get(name) or STRUCTS.get(name.removeprefix("hikebox_"), "Raw")
     return f"*{'const' if const else 'mut'} {named}" if stars else named

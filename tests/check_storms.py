@@ -229,6 +229,62 @@ WORKED = [
     ),
 ]
 
+WORKED += [
+    Case(
+        "rates: two a second until 1 s, ten until 1.5 s, none until 2 s, then four",
+        {"recurs": 0},
+        # 0 and 500; 1000, 1100, .. 1400; 2000, 2250, 2500 and 2750.
+        {"rate": 4, "rates": "0..1000@2,1000..1500@10,1500..2000@0", "seconds": 3, "window": 500, "outage": NONE},
+        [
+            [0, 1, 1, 0, 1, 0, 0, 0, 0],
+            [500, 1, 1, 0, 1, 0, 0, 0, 0],
+            [1000, 5, 5, 0, 5, 0, 0, 0, 0],
+            [1500, 0, 0, 0, 0, 0, 0, 0, 0],
+            [2000, 2, 2, 0, 2, 0, 0, 0, 0],
+            [2500, 2, 2, 0, 2, 0, 0, 0, 0],
+        ],
+        {"requests": 11, "won": 11, "most_calls": 5, "most_from": 1000, "recovered": 0},
+    ),
+    Case(
+        "rates: a span between two at the storm's rate, which changes within a request",
+        {"recurs": 0},
+        # 0 and 500. By 625 1,250 thousandths came: the third is 750 more, which take 187 ms at four a second. By 875
+        # 2,250 came: the fourth is 750 more, which take 375 ms at two a second, and the fifth comes at 1750.
+        {"rate": 2, "rates": "625..875@4", "seconds": 2, "window": 250, "outage": "812..813"},
+        [
+            [0, 1, 1, 0, 1, 0, 0, 0, 0],
+            [250, 0, 0, 0, 0, 0, 0, 0, 0],
+            [500, 1, 1, 0, 1, 0, 0, 0, 0],
+            [750, 1, 0, 0, 0, 1, 0, 0, 0],
+            [1000, 0, 0, 0, 0, 0, 0, 0, 0],
+            [1250, 1, 1, 0, 1, 0, 0, 0, 0],
+            [1500, 0, 0, 0, 0, 0, 0, 0, 0],
+            [1750, 1, 1, 0, 1, 0, 0, 0, 0],
+        ],
+        {"requests": 5, "won": 4, "lost": 1},
+    ),
+    Case(
+        "rates: herds of three, the second where the fourth request would come alone",
+        {"recurs": 0},
+        # 2,000 thousandths by 1 s; 1,000 more take 166 ms at six a second, and 4,000 more 666.
+        {"rate": 6, "rates": "0..1000@2", "together": 3, "seconds": 2, "window": 500, "outage": "1666..1667"},
+        [
+            [0, 3, 3, 0, 3, 0, 0, 0, 0],
+            [500, 0, 0, 0, 0, 0, 0, 0, 0],
+            [1000, 3, 3, 0, 3, 0, 0, 0, 0],
+            [1500, 2, 0, 0, 0, 2, 0, 0, 0],
+        ],
+        {"requests": 8, "won": 6, "lost": 2},
+    ),
+    Case(
+        "rates: silence until the end is one window with nothing in it",
+        {"recurs": 0},
+        {"rate": 4, "rates": "0..5000@0", "seconds": 5},
+        [[0, 0, 0, 0, 0, 0, 0, 0, 0]],
+        {"requests": 0, "calls": 0, "hundredths": 0, "most_calls": 0, "most_from": 0, "p50": None, "recovered": None},
+    ),
+]
+
 BACK_OFF = {"cap": [10_000, {"exponential": [100, 2]}]}
 NO_RETRY, ONE, THREE = {"recurs": 0}, {"recurs": 1}, {"recurs": 3}
 EIGHT = {"meet": [{"recurs": 8}, BACK_OFF]}
@@ -354,6 +410,17 @@ BAD = [
     "--rate 0",
     "--rate 1000001",
     "--rate 17477",
+    "--rates 0..1",
+    "--rates 0..1@",
+    "--rates 1..1@5",
+    "--rates 2..1@5",
+    "--rates 0..1@1000001",
+    "--rates 0..3600001@1",
+    "--rates 0..2@1,1..3@1",
+    "--rates 2..3@1,0..1@1",
+    "--rates 0..1@1,",
+    "--rates 0..1@1,2..3@1,4..5@1,6..7@1,8..9@1,10..11@1,12..13@1,14..15@1,16..17@1",
+    "--rates 0..60000@17477",
     "--together 0",
     "--seconds 3601 --rate 1",
     "--capacity 0",
@@ -549,6 +616,7 @@ SWEPT = {"rate": 100, "capacity": 120, "seconds": 5, "outage": "1000..2000"}
 #: Sweeps: what they are given beside that, their values, and the options that each value stands for.
 SWEEPS: List[Tuple[str, Dict[str, Any], List[Tuple[str, Dict[str, Any]]]]] = [
     ("rate=50,100", {}, [("50", {"rate": 50}), ("100", {"rate": 100})]),
+    ("rate=50,100", {"rates": "500..1500@130"}, [("50", {"rate": 50}), ("100", {"rate": 100})]),
     ("clients=10,200", {}, [("10", {"rate": 10, "together": 10}), ("200", {"rate": 200, "together": 200})]),
     ("together=1,50", {}, [("1", {"together": 1}), ("50", {"together": 50})]),
     ("capacity=90..101/3", {}, [("90", {"capacity": 90}), ("96", {"capacity": 96}), ("101", {"capacity": 101})]),
@@ -627,6 +695,8 @@ def some_storm(rng: random.Random) -> Tuple[Any, Dict[str, Any]]:
         "capacity": capacity,
         "calls": calls,
     }
+    if rng.random() < 0.4:
+        options["rates"] = some_rates(rng, rate, seconds)
     options["patience"] = rng.choice([1, 5, 60, 500, 3000])
     options["queue"] = rng.choice([0, 1, 2, 30, 5000])
     options["outage"] = _span(rng, seconds)
@@ -653,6 +723,18 @@ def some_storm(rng: random.Random) -> Tuple[Any, Dict[str, Any]]:
                 [{"spaced": 40}, {"exponential": [100, 2]}, {"meet": [{"recurs": 3}, {"linear": 30}]}]
             )
     return plan, options
+
+
+def some_rates(rng: random.Random, rate: int, seconds: int) -> str:
+    """Random spans with rates of their own."""
+    words: List[str] = []
+    begins = 0
+    for _ in range(rng.choice([1, 1, 2, 3, 8])):
+        begins += rng.choice([0, 0, 1, 77, rng.randrange(600 * seconds)])
+        ends = begins + rng.choice([1, 13, 250, 333, 1000])
+        words.append(f"{begins}..{ends}@{rng.choice([0, 1, 7, rate, 3 * rate, 1000])}")
+        begins = ends
+    return ",".join(words)
 
 
 def some_limit(rng: random.Random) -> str:

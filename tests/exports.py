@@ -51,6 +51,7 @@ STRUCTS = {
     "SizedReply": "hikebox_next",
     "Run": "hikebox_run",
     "SizedUsage": "hikebox_usage",
+    "Phase": "hikebox_phase",
     "SizedStorm": "hikebox_storm",
     "WindowTold": "hikebox_window",
     "SizedTotals": "hikebox_totals",
@@ -68,13 +69,14 @@ STRUCTS = {
 #: The crate whose calls are exported as they are.
 CALLS = ("sched_storm_call",)
 #: The crates whose structs have the layout of C.
-LAID_OUT = ("sched_handle", "sched_storm_call", "sched_ticket_lease", "hikebox_c")
+LAID_OUT = ("sched_handle", "sched_storm", "sched_storm_call", "sched_ticket_lease", "hikebox_c")
 FIELDS = {
     "u64": "uint64_t",
     "u32": "uint32_t",
     "usize": "size_t",
     "[u32; 4]": "uint32_t[4]",
     "[u64; 64]": "uint64_t[64]",
+    "[Phase; 16]": "hikebox_phase[16]",
 }
 #: The structs after a size: their members follow it.
 AFTER_SIZE = ("CourseGiven", "Reply", "Usage", "StormGiven", "TotalsTold")

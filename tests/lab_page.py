@@ -364,6 +364,20 @@ def test_what_is_wrong_in_a_link_is_told(browser: Browser, lab: Lab) -> None:
     ]
 
 
+def test_a_surge_goes_by_the_link_and_into_the_copies(browser: Browser, lab: Lab) -> None:
+    browser.open("about:blank")
+    browser.open(f"{lab.address}#seconds=20&outage=0-0&rates=1000-3000-1200&b=recurs%280%29")
+    browser.wait(PLAYED)
+    comes_to(browser, "of 16,800 requests", "b")
+    kept = "return ['rates0', 'rates1', 'rates2'].map((id) => document.getElementById(id).value)"
+    assert browser.run(kept) == ["1000", "3000", "1200"]
+    assert "--rates 1000..3000@1200" in browser.run("return programs[1].command")
+    assert json.loads(browser.run("return scenario"))["storm"]["rates"] == [[1000, 3000, 1200]]
+    browser.run("take(CONTROLS.find((control) => idOf(control) === 'rates1'), '1000')")
+    comes_to(browser, "of 16,000 requests", "b")
+    assert "rates=1000-1000-1200" in browser.run("return location.hash")
+
+
 def test_a_link_of_another_run_opens_with_what_it_carries(window: Browser) -> None:
     other = Lab("http://127.0.0.1:1/another/#story=jitter&a=recurs%281%29&queue=7&b=%7B%22recurs%22%3A2%7D&b-limit=5")
     try:

@@ -1326,11 +1326,27 @@ static void parameters_out_of_range(hikebox_policy *policy) {
     refuses(period, HIKEBOX_MAX_NUMBER + 1);
 }
 
+// Phases of the rate, each of whose numbers is out of range in turn. (The third phase is none: it ends at 0.)
+static void phases_out_of_range(hikebox_policy *policy) {
+    hikebox_storm storm = HIKEBOX_STORM;
+    storm.phase_count = 2;
+    storm.phases[0] = (hikebox_phase){1000, 5};
+    storm.phases[1] = (hikebox_phase){2000, 0};
+    refuses(phase_count, 3);
+    refuses(phase_count, 17);
+    refuses(phases[0].until, 0);
+    refuses(phases[0].until, 2000);
+    refuses(phases[0].rate, 1000001);
+    refuses(phases[1].until, 3600001);
+    refuses(rate, 18079); // 5 in the first second, none in the second, and 58 times as many as 1,048,582
+}
+
 static void storms_out_of_range(void) {
     hikebox_policy policy = HIKEBOX_INIT;
     wants(read_policy("{\"recurs\":1}", &policy), HIKEBOX_OK);
     parameters_out_of_range(&policy);
     limits_out_of_range(&policy);
+    phases_out_of_range(&policy);
     wants(hikebox_policy_free(&policy), HIKEBOX_OK);
 }
 
@@ -1391,6 +1407,19 @@ static int storms(void) {
     half.down = 0;
     totals = plays("{\"recurs\":1}", &half, 1);
     holds(totals.lost == 4 && totals.calls == 8 && windows_told[0].refused == 8);
+    // Two a second until 1 s, ten until 1.5 s, none until 2 s, and then four: windows of 1, 1, 5, 0, 2 and 2 requests.
+    hikebox_storm phased = one;
+    phased.rate = 4;
+    phased.seconds = 3;
+    phased.window = 500;
+    phased.until = 63000;
+    phased.phase_count = 3;
+    phased.phases[0] = (hikebox_phase){1000, 2};
+    phased.phases[1] = (hikebox_phase){1500, 10};
+    phased.phases[2] = (hikebox_phase){2000, 0};
+    totals = plays("{\"recurs\":0}", &phased, 6);
+    holds(totals.requests == 11 && totals.won == 11 && totals.most_calls == 5 && totals.most_from == 1000);
+    holds(windows_told[3].requests == 0 && windows_told[4].requests == 2 && windows_told[5].requests == 2);
 
     hikebox_storm cut = one;
     cut.outage_to = 10;

@@ -36,6 +36,8 @@ class Storm:
 
     plan: Any
     rate: int = 800
+    #: Spans with a rate of their own: from when to when, in milliseconds, and so many requests a second.
+    rates: List[Tuple[int, int, int]] = field(default_factory=list)
     together: int = 1
     seconds: int = 60
     capacity: int = 1000
@@ -61,9 +63,22 @@ class Storm:
         """The last moment that is played."""
         return self.seconds * 1000 + 60_000 if self.until is None else self.until
 
-    def comes_at(self, request: int) -> int:
-        """The moment at which a request begins."""
-        return request // self.together * self.together * 1000 // self.rate
+    def rate_at(self, moment: int) -> int:
+        """The requests a second in the millisecond from a moment on."""
+        return next((rate for begins, ends, rate in self.rates if begins <= moment < ends), self.rate)
+
+    def moments(self) -> Iterator[int]:
+        """The moment at which each request of the storm begins, millisecond by millisecond: a request comes in that in
+        which its thousandths begin, and those that come together with the first of them."""
+        request = came = begins = 0
+        for moment in range(self.seconds * 1000):
+            comes = self.rate_at(moment)
+            while request * 1000 < came + comes:
+                if request % self.together == 0:
+                    begins = moment
+                yield begins
+                request += 1
+            came += comes
 
     def can_be_done(self, moment: int) -> int:
         """The units of work that a replica can have done by a moment."""
@@ -383,8 +398,8 @@ class Course:
         self.pending: List[Tuple[int, int, Optional[int]]] = []
 
     def play(self) -> None:
-        for request in range(self.storm.rate * self.storm.seconds):
-            self._put(self.storm.comes_at(request), request, None)
+        for request, moment in enumerate(self.storm.moments()):
+            self._put(moment, request, None)
         while self.pending:
             moment, request, what = heapq.heappop(self.pending)
             if what is None and request not in self.requests and not self.limit.admit(moment, request):
@@ -482,7 +497,7 @@ def totals_of(course: Course, rows: List[Dict[str, int]]) -> Dict[str, Any]:
         "requests": requests,
         **{ending: endings.count(ending) for ending in ("won", "lost", "denied", "open")},
         "calls": calls,
-        "hundredths": (2 * 100 * calls + requests) // (2 * requests),
+        "hundredths": (2 * 100 * calls + requests) // (2 * requests) if requests else 0,
         "most_calls": max(begun),
         "most_from": rows[begun.index(max(begun))]["from"],
         "tickets": course.granted if course.storm.limit else course.tickets.given,
@@ -534,6 +549,10 @@ def _slow(text: str) -> Tuple[int, int, int]:
     return (*_span(span), int(percent))
 
 
+def _rates(text: str) -> List[Tuple[int, int, int]]:
+    return [_slow(word) for word in text.split(",")]
+
+
 def _quota(text: str) -> Tuple[int, int, int]:
     reserve, share, period = text.split("/")
     return int(reserve), int(share), int(period)
@@ -564,7 +583,7 @@ NUMBERS = (
     "words",
     "budget",
 )
-READERS = {"outage": _span, "slow": _slow, "quota": _quota, "limit": _limit, "open": _plan}
+READERS = {"rates": _rates, "outage": _span, "slow": _slow, "quota": _quota, "limit": _limit, "open": _plan}
 
 
 def main() -> int:

@@ -12,9 +12,9 @@ _hikebox_options() {
       echo --steps:text --from:text --took:text --input:text --inputs:text --word:text --words:text --svg:file --width:text
       ;;
     storm)
-      echo --scenario:scenario --rate:text --together:text --seconds:text --capacity:text --patience:text --queue:text \
-        --replicas:text --down:text --window:text --until:text --calls:text --words:text --outage:text --slow:text \
-        --budget:text --quota:text --limit:text --open:file --without --sweep:text \
+      echo --scenario:scenario --rate:text --rates:text --together:text --seconds:text --capacity:text --patience:text \
+        --queue:text --replicas:text --down:text --window:text --until:text --calls:text --words:text --outage:text \
+        --slow:text --budget:text --quota:text --limit:text --open:file --without --sweep:text \
         --measure:succeeded,calls,recovery,slowest --find:quota,retries,patience --compare:file --csv --json \
         --svg:file --bars --width:text --detail --title:text --name:text
       ;;

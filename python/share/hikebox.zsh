@@ -56,6 +56,7 @@ case $state in
         _arguments -S '(- *)'{-h,--help}'[print help]' $picture \
           '--scenario[begin with a story, or with the scenario of a file]:scenario:_hikebox_scenarios' \
           '--rate[requests a second]:number:' \
+          '--rates[spans with a rate of their own]:FROM..TO@N,..:' \
           '--together[requests that come at one moment]:number:' \
           '--seconds[for how many seconds requests come]:number:' \
           '--capacity[calls that each replica of the peer can do in a second]:number:' \

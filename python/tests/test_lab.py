@@ -27,7 +27,7 @@ from hikebox.lab.server import Lab
 from hikebox.lab.cookbook import COOKBOOK
 from hikebox.lab.players import BrokenOff, Players
 from hikebox.storms.code import in_command, in_python, in_scenario
-from hikebox.storms.parameters import SCENARIOS, Parameters, Slow, Span
+from hikebox.storms.parameters import SCENARIOS, Parameters, RateSpan, Slow, Span
 from hikebox.budgets.terms import Terms
 
 #: How long is waited for what has to happen, in seconds: on a machine with much else to do it takes long.
@@ -162,6 +162,7 @@ def test_what_is_no_json_object_is_refused(lab: Lab) -> None:
         ("storm", {"page": "p", "sides": [], "storm": {"rate": True}}),
         ("storm", {"page": "p", "sides": [], "storm": {"outage": [1]}}),
         ("storm", {"page": "p", "sides": [], "storm": {"slow": [1, 2, "3"]}}),
+        ("storm", {"page": "p", "sides": [], "storm": {"rates": [1, 2]}}),
     ],
     ids=str,
 )
@@ -284,6 +285,7 @@ PROGRAMS: List[Tuple[str, Parameters]] = [
     ),
     ("recurs(3)", SCENARIOS["brown-out"]._replace(tickets=Terms(10, 100, 1000), patience=250, window=500, rate=400)),
     ("recurs(1) & spaced(milliseconds(4611686018427387903))", Parameters(seconds=1, slow=Slow(1, 2, 29))),
+    ("recurs(2)", Parameters(seconds=2, rates=(RateSpan(500, 1000, 2400), RateSpan(1000, 1250, 0)))),
 ]
 
 

@@ -22,7 +22,7 @@ from hikebox import Policy
 from hikebox.lab.cookbook import COOKBOOK
 from hikebox.policy.spelling import spelt_in_rust
 from hikebox.storms.code import in_rust
-from hikebox.storms.parameters import SCENARIOS, Parameters, Slow, Span
+from hikebox.storms.parameters import SCENARIOS, Parameters, RateSpan, Slow, Span
 from hikebox.budgets.terms import Terms
 
 FILE = TOP / "rust" / "tests" / "spellings.rs"
@@ -59,6 +59,7 @@ STORMS = [
         capacity=9,
         queue=7,
         together=3,
+        rates=(RateSpan(10, 20, 900), RateSpan(100, 1500, 0)),
     ),
 ]
 

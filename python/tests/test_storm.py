@@ -25,7 +25,7 @@ from hikebox.cli.storm_options import limits_of, parameters_of, tickets_of
 from hikebox.limits.kinds import times_of
 from hikebox.storms.code import in_command, in_python, in_rust, in_scenario
 from hikebox.storms.limits import LIMIT_WANTED, limit_of
-from hikebox.storms.parameters import SCENARIOS, Parameters, Slow, Span
+from hikebox.storms.parameters import SCENARIOS, Parameters, RateSpan, Slow, Span
 from hikebox.storms.texts import setting
 from hikebox.errors import BudgetError
 from hikebox.budgets.terms import Terms
@@ -41,6 +41,7 @@ FULL = recurs(8) & exponential(0.1, 2).cap(10).jittered(0, 1)
 def parsed(options: Dict[str, Any]) -> Dict[str, Any]:
     """The options of the program, as its twin in tests/ takes them."""
     readers: Dict[str, Any] = {
+        "rates": storms._rates,
         "outage": storms._span,
         "slow": storms._slow,
         "quota": storms._quota,
@@ -60,6 +61,8 @@ def played(plan: Any, options: Dict[str, Any]) -> Storm:
         del told["limit"]
         open_plan = told.pop("open_plan", {"spaced": 30_000})
         tickets = limit_of(options["limit"], tuple(times_of(Policy.from_dict(open_plan))))
+    if "rates" in told:
+        told["rates"] = tuple(RateSpan(*span) for span in told["rates"])
     if "slow" in told:
         told["slow"] = Slow(*told["slow"])
     if "outage" in told:
@@ -108,6 +111,24 @@ def test_times_are_those_of_the_package() -> None:
         seconds=3, patience=250, outage=Span(1000, 2500), slow=Slow(2000, 3000, 29), window=500, until=4000
     )
     assert storm(recurs(0), outage=None, seconds=1).totals.won == 800
+
+
+def test_a_surge_that_never_ends_and_one_that_a_quota_ends() -> None:
+    surge: Any = {"outage": None, "rates": [(10, milliseconds(15_000), 2400)]}
+    never, ends = storm(FULL, **surge), storm(FULL, budget=Quota(reserve=10, share=0.1, per=1), **surge)
+    # (as tests/storms.py plays them)
+    assert (never.totals.requests, never.totals.won, never.totals.recovered_ms) == (56_000, 9061, None)
+    assert (ends.totals.requests, ends.totals.won, ends.totals.recovered_ms) == (56_000, 12_405, 56_000)
+    assert never.parameters.rates == (RateSpan(10_000, 15_000, 2400),)
+    assert "Not back by the end" in str(never) and "Back at 56 s" in str(ends)
+    assert ">2,400 requests/s 10–15 s<" in never.svg(ends)
+
+
+def test_a_surge_that_does_no_harm() -> None:
+    storms_of = [storm(recurs(0), seconds=3, outage=None, rates=[(1, 2, rate)]) for rate in (900, 700)]
+    assert [storm.totals.requests for storm in storms_of] == [2500, 2300]
+    assert "Never down" in str(storms_of[0])  # (fewer requests than usual are no surge)
+    assert "Never" not in str(storms_of[1]) and "700 a second from 1 s to 2 s" in storms_of[1].svg()
 
 
 @pytest.mark.parametrize("limit, numbers", check_storms.SMALL_NUMBERS, ids=str)
@@ -195,6 +216,15 @@ WRONG: List[Tuple[Dict[str, Any], str]] = [
     ({"down": 0}, "down: expected 1 to 4, got 0"),
     ({"outage": (2, 1)}, "outage: it ends at 1000 ms, before it begins at 2000 ms"),
     ({"outage": (0, 3601)}, "outage: expected 0 to 3600000 ms, got 3601000"),
+    ({"rates": [(1, 1, 50)]}, "rates: expected a span that ends after it begins, got 1000..1000"),
+    ({"rates": [(0, 3601, 50)]}, "rates: expected 0 to 3600000 ms, got 3601000"),
+    ({"rates": [(0, 1, -1)]}, "rates: expected 0 to 1000000 requests a second, got -1"),
+    ({"rates": [(0, 2, 1), (1, 3, 1)]}, "rates: expected spans in their order, got 1000..3000 after one until 2000"),
+    ({"rates": [(0, 1, 1)] * 9}, "rates: expected at most 8 spans, got 9"),
+    (
+        {"rates": [(0, 60, 17_477)]},
+        "rates: 800 a second and the spans for 60 s are 1048620 requests, and a storm has at most 1048576",
+    ),
     ({"slow": (0, 1, 50)}, "slow: expected a share of the capacity from 0.01 to 1, got 50"),
     ({"slow": (2, 1, 0.5)}, "slow: it ends at 1000 ms, before it begins at 2000 ms"),
     ({"window": 0}, "window: expected 1 to 3600000 ms, got 0"),
@@ -223,6 +253,9 @@ def test_what_is_out_of_range_is_named(given: Dict[str, Any], line: str) -> None
         {"patience": "1"},
         {"outage": 5},
         {"outage": (1, 2, 3)},
+        {"rates": [(1, 2)]},
+        {"rates": [(1, 2, 2.5)]},
+        {"rates": [3]},
         {"slow": (1, 2)},
         {"slow": (1, 2, "x")},
     ]
@@ -360,6 +393,9 @@ NAMES = "rate, clients, together, seconds, capacity, queue, patience, outage, sh
         (["--outage", "5"], "argument --outage: expected FROM..TO in milliseconds, as 10000..20000, got '5'"),
         (["--outage", "5..3"], "outage: it ends at 3 ms, before it begins at 5 ms"),
         (["--outage", "0..3600001"], "outage: expected 0 to 3600000 ms, got 3600001"),
+        (["--rates", "1..2"], "argument --rates: expected FROM..TO@N,.., as 10000..15000@2400, got '1..2'"),
+        (["--rates", "1..2@3,"], "argument --rates: expected FROM..TO@N,.., as 10000..15000@2400, got '1..2@3,'"),
+        (["--rates", "2..1@3"], "rates: expected a span that ends after it begins, got 2..1"),
         (["--slow", "1..2"], "argument --slow: expected FROM..TO@PERCENT, as 10000..20000@50, got '1..2'"),
         (["--slow", "1..2@0"], "slow: expected 1 to 100 % of the capacity, got 0"),
         (["--slow", "1..2@101"], "slow: expected 1 to 100 % of the capacity, got 101"),

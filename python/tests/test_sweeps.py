@@ -18,7 +18,7 @@ from hikebox import Quota, StormError, recurs, storm
 from hikebox.cli.main import main
 from hikebox.cli.scenario import scenario_of
 from hikebox.storms.axes import AXES, values_of
-from hikebox.storms.parameters import Parameters, Slow, Span
+from hikebox.storms.parameters import Parameters, RateSpan, Slow, Span
 from hikebox.budgets.terms import Terms
 from hikebox.sweeps import Sweep, find, sweep
 
@@ -183,7 +183,7 @@ def test_what_never_recovers_and_what_always_does() -> None:
         "greatest share of a quota with which the peer recovers: none\n"
     )
     assert find(storm(recurs(0), **BRIEF), "retries").value == 64
-    with pytest.raises(StormError, match="find: expected a storm with an outage or a brown-out, got one without"):
+    with pytest.raises(StormError, match="find: expected a storm with an outage, a brown-out or a surge, got"):
         find(storm(recurs(0), outage=None, seconds=1), "quota")
     with pytest.raises(StormError, match="find: expected one of quota, retries, patience, got 'x'"):
         find(storm(recurs(0), **BRIEF), "x")
@@ -285,11 +285,31 @@ def test_a_scenario_is_a_file(tmp_path: Path, capsys: pytest.CaptureFixture[str]
     assert capsys.readouterr().out.splitlines()[3] == "rate  budget of 1  budget of 1"
 
 
+def test_a_scenario_has_rates_over_time(tmp_path: Path, capsys: pytest.CaptureFixture[str]) -> None:
+    told = {
+        "storm": {"rate": 100, "capacity": 120, "seconds": 5, "rates": [[500, 800, 300], [800, 900, 0]]},
+        "lines": [{"policy": "recurs(3)"}],
+    }
+    file = written(tmp_path, told)
+    assert scenario_of(file).parameters.rates == (RateSpan(500, 800, 300), RateSpan(800, 900, 0))
+    assert main(["storm", "--scenario", file, "--json"]) == 0
+    played = storm(recurs(3), rate=100, capacity=120, seconds=5, outage=None, rates=[(0.5, 0.8, 300), (0.8, 0.9, 0)])
+    assert capsys.readouterr().out == f"{played.to_json()}\n"
+    assert played.totals.requests == 550
+    # Between the spans it is the rate that a sweep changes: 4.6 s at each, and 90 requests in the first span.
+    swept = sweep([played], rate=[50, 200])
+    assert [each.totals.requests for each in swept.lines[0]] == [320, 1010]
+
+
 BAD_SCENARIOS: List[Tuple[Any, str]] = [
     ("{", "expected JSON: "),
     ("[" * 100_000, "expected JSON: "),
     ([], "the file: expected an object, got []"),
     ({"strom": {}}, "the file: expected $schema, about, left_out, lines, sources, storm, title, got 'strom'"),
+    ({"storm": {"rates": 5}}, "rates: expected a list of spans, got 5"),
+    ({"storm": {"rates": [[1, 2]]}}, "rates: expected a list of 3 numbers, got [1, 2]"),
+    ({"storm": {"rates": [[1, 2, "x"]]}}, 'rates: expected a whole number, got "x"'),
+    ({"storm": {"rates": [[2, 1, 3]]}}, "rates: expected a span that ends after it begins, got 2..1"),
     ({"title": 5}, "title: expected a text of printable signs, got 5"),
     ({"title": "\x1b[2J"}, 'title: expected a text of printable signs, got "\\u001b[2J"'),
     (
@@ -337,7 +357,7 @@ def test_the_schema_takes_what_the_program_takes() -> None:
         said.split(":")[0] for told, said in BAD_SCENARIOS if not isinstance(told, str) and validator.is_valid(told)
     ]
     # (nor which signs are printable)
-    assert taken == ["title", "lines[0].name", "outage"]
+    assert taken == ["rates", "title", "lines[0].name", "outage"]
 
 
 EXAMPLES = sorted((TOP / "examples" / "storms").glob("*.json"))

@@ -233,6 +233,7 @@ mod storm_3 {
             .calls(500)
             .until(Duration::from_millis(1500))
             .outage(Duration::from_millis(5)..Duration::from_millis(700))
+            .rates([(Duration::from_millis(10)..Duration::from_millis(20), 900), (Duration::from_millis(100)..Duration::from_millis(1500), 0)])
             .slow(Duration::from_millis(1)..Duration::from_millis(2), 29)
             .seed(7)
             .play()?;

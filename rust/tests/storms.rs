@@ -50,7 +50,7 @@ fn zsched(form: &str, options: &str, policy: &Policy) -> String {
 fn a_storm_is_what_the_program_prints() {
     let three = policy(Schedule::recurs(3));
     let spaced = policy(Schedule::recurs(2) & Schedule::spaced(millis(10)));
-    let cases: [(Storm, &Policy, &str); 10] = [
+    let cases: [(Storm, &Policy, &str); 11] = [
         (Storm::new(&three).seconds(15), &three, "--seconds 15"),
         (Storm::new(&full()).rate(90).seconds(12).seed(7), &full(), "--rate 90 --seconds 12 --words 7"),
         (
@@ -67,6 +67,15 @@ fn a_storm_is_what_the_program_prints() {
             Storm::new(&three).rate(100).seconds(3).slow(SECOND..seconds(2), 29).window(millis(250)).capacity(110),
             &three,
             "--rate 100 --seconds 3 --slow 1000..2000@29 --window 250 --capacity 110",
+        ),
+        (
+            Storm::new(&three).rate(50).seconds(4).no_outage().rates([
+                (SECOND..seconds(2), 300),
+                (seconds(2)..millis(2345), 0),
+                (seconds(3)..seconds(9), 7),
+            ]),
+            &three,
+            "--rate 50 --seconds 4 --outage 0..0 --rates 1000..2000@300,2000..2345@0,3000..9000@7",
         ),
         (Storm::new(&three).seconds(20).until(millis(10_500)), &three, "--seconds 20 --until 10500"),
         (Storm::new(&three).seconds(20).calls(9000), &three, "--seconds 20 --calls 9000"),
@@ -195,6 +204,18 @@ fn what_is_out_of_range_is_named() {
         (told(storm().slow(seconds(2)..SECOND, 50)), "slow: expected an end after the beginning, got one before"),
         (told(storm().slow(SECOND..seconds(2), 0)), "slow: expected 1 to 100, got 0"),
         (told(storm().slow(SECOND..seconds(2), 101)), "slow: expected 1 to 100, got 101"),
+        (told(storm().rates([(SECOND..SECOND, 1)])), "rates: expected an end after the beginning, got one before"),
+        (told(storm().rates([(SECOND..seconds(3601), 1)])), "rates: expected 0 to 3600000, got 3601000"),
+        (told(storm().rates([(SECOND..seconds(2), 1_000_001)])), "rates: expected 0 to 1000000, got 1000001"),
+        (told(storm().rates(vec![(SECOND..seconds(2), 1); 9])), "rates: expected 0 to 8, got 9"),
+        (
+            told(storm().rates([(SECOND..seconds(3), 1), (seconds(2)..seconds(4), 1)])),
+            "rates: expected spans in their order, got one that begins before another ends",
+        ),
+        (
+            told(storm().rates([(Duration::ZERO..seconds(60), 17_477)])),
+            "expected at most 1048576 requests, got more: rate times seconds",
+        ),
         (told(storm().rate(20_000)), "expected at most 1048576 requests, got more: rate times seconds"),
         (told(storm().window(millis(1))), "expected at most 65537 windows, got more: until divided by window"),
         (

@@ -63,6 +63,14 @@ fn each_storm_of_a_sweep_is_the_single_storm() {
 }
 
 #[test]
+fn between_spans_it_is_the_rate_that_a_sweep_changes() {
+    let surge = brief().no_outage().rates([(millis(500)..millis(800), 300), (millis(800)..millis(900), 0)]);
+    let played = lines(Sweep::along(Axis::rate([50, 200])).line("", surge));
+    // 4.6 s at each rate, and 90 requests in the first span.
+    assert_eq!(played[0].iter().map(|report| report.totals.requests).collect::<Vec<_>>(), [320, 1010]);
+}
+
+#[test]
 fn a_limit_is_swept_where_a_storm_has_it() {
     let shares = lines(along(Axis::share([0.0, 0.05, 0.5])));
     assert!(shares[0].iter().all(|report| *report == brief().play().unwrap()));
@@ -176,7 +184,7 @@ fn a_border_is_looked_for_where_there_is_one() {
     let always = brief().capacity(100_000);
     assert_eq!(always.find(Goal::Quota).unwrap().value, Some(10_000));
     let error = brief().no_outage().find(Goal::Quota).unwrap_err();
-    assert_eq!(error.to_string(), "expected a storm with an outage or a brown-out, got neither");
+    assert_eq!(error.to_string(), "expected a storm with an outage, a brown-out or a surge, got none");
     let deep = (0..31).fold(Schedule::recurs(1), |under, _| under.nothing());
     assert_eq!(Storm::new(&policy(deep)).find(Goal::Retries).unwrap_err(), StormError::PolicyTooLarge);
     assert_eq!(brief().rate(0).find(Goal::Patience).unwrap_err().to_string(), "rate: expected 1 to 1000000, got 0");

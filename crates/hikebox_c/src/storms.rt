@@ -17,11 +17,11 @@ pub extern "C" fn hikebox_storm_play(
     totals: &mut SizedTotals,
 ) -> u32
     ensures kept { policy.new.held ≡ policy.old.held }
-    ensures played { storm.now.size ≡ 800 → totals.old.size ≡ 128 →
+    ensures played { storm.now.size ≡ 1064 → totals.old.size ≡ 128 →
         PlaysStorm storm.now.storm policy.old.held
         (record { windows = windows.old; count = count.old; totals = totals.old.totals }) result
         (record { windows = windows.new; count = count.new; totals = totals.new.totals }) }
-    ensures wrong_storm { storm.now.size ≢ 800 → Tells storm.now.storm
+    ensures wrong_storm { storm.now.size ≢ 1064 → Tells storm.now.storm
         (record { windows = windows.old; count = count.old; totals = totals.old.totals }) (Err status.WrongSize) result
         (record { windows = windows.new; count = count.new; totals = totals.new.totals }) }
     ensures wrong_totals { totals.old.size ≢ 128 → Tells storm.now.storm

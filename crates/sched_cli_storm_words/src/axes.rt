@@ -1,5 +1,6 @@
 //! The parameters along which a storm is swept, and the values that words spell of them.
 use crate::numbers::{number_in, tenths_in};
+use crate::rates::RateSpans;
 use sched_storm::{Draws, Parameters, Span, Storm};
 use sched_ticket_quota::Terms;
 
@@ -68,13 +69,19 @@ impl Axis {
         Some(value)
     }
 
-    /// The storm of these parameters with this value in the place of its own. `None` where one is outside its range, or
-    /// retries do not draw on what the value is of.
-    pub(crate) fn storm_with(self, base: &Parameters, value: u64) -> Option<Storm> {
+    /// The storm of these parameters, with rates of their own in these spans, with this value in the place of its own.
+    /// `None` where one is outside its range, or retries do not draw on what the value is of.
+    pub(crate) fn storm_with(
+        self,
+        base: &Parameters,
+        spans: &RateSpans,
+        value: u64,
+    ) -> Option<Storm> {
         if !self.is_of(base.draws) {
             return None;
         }
-        let parameters = self.with(base, value);
+        let mut parameters = self.with(base, value);
+        parameters.rates = spans.rates(parameters.rate);
         Storm::new(parameters)
     }
 

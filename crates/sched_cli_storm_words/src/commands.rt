@@ -44,12 +44,19 @@ const STORIES: [Row; 3] = [
 ];
 
 // What comes.
-const REQUESTS: [Row; 3] = [
+const REQUESTS: [Row; 4] = [
     Row {
         name: "rate",
         takes: Takes::Number("N", 1, MAX_EACH),
         excludes: &[],
         help: "Requests a second, from 1 to 1000000 [default: 800]",
+    },
+    Row {
+        name: "rates",
+        takes: Takes::Text("FROM..TO@N,.."),
+        excludes: &[],
+        help: "Up to 8 spans with a rate of their own, in order: milliseconds up to 3600000, and requests a second \
+               from 0 to 1000000, such as 10000..15000@2400,20000..21000@0",
     },
     Row {
         name: "together",

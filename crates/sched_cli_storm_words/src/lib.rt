@@ -8,6 +8,7 @@ mod faults;
 mod limits;
 mod numbers;
 mod options;
+mod rates;
 mod rows;
 mod several;
 mod sweeps;

@@ -2,11 +2,12 @@
 use crate::faults::StormFault;
 use crate::limits::{BreakerWords, breaker_words_in};
 use crate::numbers::{brown_out_in, span_in};
+use crate::rates::{RateSpans, rate_spans_in};
 use crate::several::{Limited, draws_on, limited_in, opened, with_draws};
 use crate::sweeps::{Sweep, sweep_in};
 use clap::ArgMatches;
 use sched_limit::MAX_TRIPS;
-use sched_storm::{BrownOut, Draws, MAX_REQUESTS, Parameters, Span, Storm};
+use sched_storm::{BrownOut, Draws, MAX_WINDOWS, Parameters, Span, Storm};
 use sched_ticket_quota::Terms;
 use std::alloc::{AllocError, Global};
 
@@ -20,6 +21,10 @@ const OUTAGE_WANTED: &str =
 const SLOW_WANTED: &str =
     "expected milliseconds and a percentage, such as 10000..20000@50; FROM is at most TO, TO at most 3600000, \
      and PERCENT from 1 to 100";
+
+const RATES_WANTED: &str =
+    "expected milliseconds and requests a second, such as 10000..15000@2400,20000..21000@0: up to 8 spans in order, \
+     FROM less than TO, TO at most 3600000, and N at most 1000000";
 
 // How wide a line with its bar is where nothing is said.
 const WIDTH: u64 = 80;
@@ -67,12 +72,13 @@ pub fn storm_options(
     quota: Option<Terms>,
 ) -> Result<StormOptions, StormFault> {
     let draws = draws(alloc, options, quota)?;
-    let parameters = parameters(alloc, options, draws)?;
+    let spans = rate_spans(alloc, options)?;
+    let parameters = parameters(alloc, options, &spans, draws)?;
     let Some(storm) = Storm::new(parameters) else {
         return Err(StormFault::bad(alloc, too_many(&parameters)));
     };
     let sweep = match options.get_str("sweep") {
-        Some(word) => Some(sweep_in(alloc, word, &parameters)?),
+        Some(word) => Some(sweep_in(alloc, word, &parameters, &spans)?),
         None => None,
     };
     Ok(StormOptions {
@@ -102,12 +108,15 @@ fn names(alloc: Global, options: &ArgMatches<'_>) -> Result<Vec<String>, AllocEr
 
 // Why parameters that are each in their range are none of a storm together.
 fn too_many(parameters: &Parameters) -> &'static str {
-    if parameters.rate.saturating_mul(parameters.seconds) > MAX_REQUESTS {
+    let windows = parameters.until.checked_div(parameters.window);
+    if windows.unwrap_or(0) > MAX_WINDOWS {
+        "'--until <M>' has more than 65536 times '--window <M>'"
+    } else if parameters.rates.count == 0 {
         "'--rate <N>' times '--seconds <S>' is more than 1048576 requests"
     } else if parameters.down > parameters.replicas {
         "'--down <N>' is more than '--replicas <N>'"
     } else {
-        "'--until <M>' has more than 65536 times '--window <M>'"
+        "'--rates <FROM..TO@N,..>' and '--rate <N>' bring more than 1048576 requests in '--seconds <S>'"
     }
 }
 
@@ -127,13 +136,16 @@ fn form_in(options: &ArgMatches<'_>) -> Form {
 fn parameters(
     alloc: Global,
     options: &ArgMatches<'_>,
+    spans: &RateSpans,
     draws: Draws,
 ) -> Result<Parameters, StormFault> {
     let base = scenario(alloc, options)?;
+    let rate = number(options, "rate", base.rate);
     let seconds = number(options, "seconds", base.seconds);
     let replicas = number(options, "replicas", base.replicas);
     Ok(Parameters {
-        rate: number(options, "rate", base.rate),
+        rate,
+        rates: spans.rates(rate),
         together: number(options, "together", base.together),
         seconds,
         capacity: number(options, "capacity", base.capacity),
@@ -184,6 +196,17 @@ fn scenario(alloc: Global, options: &ArgMatches<'_>) -> Result<Parameters, Storm
             ..outage
         }),
         Some(name) => Err(StormFault::value(alloc, "--scenario <NAME>", name, SCENARIO_WANTED)),
+    }
+}
+
+// The spans with rates of their own that are given, if there are any.
+fn rate_spans(alloc: Global, options: &ArgMatches<'_>) -> Result<RateSpans, StormFault> {
+    let Some(word) = options.get_str("rates") else {
+        return Ok(RateSpans::NONE);
+    };
+    match rate_spans_in(word) {
+        Some(spans) => Ok(spans),
+        None => Err(StormFault::value(alloc, "--rates <FROM..TO@N,..>", word, RATES_WANTED)),
     }
 }
 

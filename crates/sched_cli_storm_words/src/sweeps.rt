@@ -2,6 +2,7 @@
 use crate::axes::Axis;
 use crate::faults::StormFault;
 use crate::numbers::number_in;
+use crate::rates::RateSpans;
 use crate::several::with_draws;
 use sched_storm::{Draws, Parameters, Storm};
 use std::alloc::{AllocError, Global};
@@ -51,8 +52,14 @@ impl Sweep {
     }
 }
 
-/// The storms that a word asks for, with each value in the place of one of these parameters.
-pub(crate) fn sweep_in(alloc: Global, word: &str, base: &Parameters) -> Result<Sweep, StormFault> {
+/// The storms that a word asks for, with each value in the place of one of these parameters, which have rates of their
+/// own in these spans.
+pub(crate) fn sweep_in(
+    alloc: Global,
+    word: &str,
+    base: &Parameters,
+    spans: &RateSpans,
+) -> Result<Sweep, StormFault> {
     let (name, spelt) = word.split_once('=').unwrap_or((word, ""));
     let Some((name, axis)) = Axis::named(name) else {
         return Err(StormFault::value(alloc, SWEEP, word, NAME_WANTED));
@@ -60,7 +67,7 @@ pub(crate) fn sweep_in(alloc: Global, word: &str, base: &Parameters) -> Result<S
     let Some(values) = values_in(alloc, axis, spelt)? else {
         return Err(StormFault::value(alloc, SWEEP, word, VALUES_WANTED));
     };
-    let Some(storms) = storms_with(alloc, axis, base, &values)? else {
+    let Some(storms) = storms_with(alloc, axis, base, spans, &values)? else {
         return Err(StormFault::value(alloc, SWEEP, word, RANGE_WANTED));
     };
     Ok(Sweep { name, axis, storms })
@@ -71,12 +78,13 @@ fn storms_with(
     alloc: Global,
     axis: Axis,
     base: &Parameters,
+    spans: &RateSpans,
     values: &[u64],
 ) -> Result<Option<Vec<Swept>>, AllocError> {
     let mut storms = Vec::new(alloc);
     for value in values {
         let value = *value;
-        let Some(storm) = axis.storm_with(base, value) else {
+        let Some(storm) = axis.storm_with(base, spans, value) else {
             return Ok(None);
         };
         storms.push(Swept { value, storm })?;

@@ -1,4 +1,5 @@
 -- Lemmas that the proofs of `sched_storm` cite.
+pub mod Arrivals
 pub mod Peer
 pub mod Called
 pub mod Keys

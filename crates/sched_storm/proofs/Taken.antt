@@ -8,6 +8,7 @@ use native.Mathlib.Nat.{div-mul-le_self}
 use Rattle.std.specs.Prelude.{nat_le, nat_lt}
 use Rattle.sched_calendar.specs.Calendar.{times}
 use Rattle.sched_storm_trace.specs.Trace.{Due, updated, NotAfter}
+use Rattle.sched_storm.specs.Rates.{phases_of}
 use Rattle.sched_storm.specs.Parameters.{RequestsAreInRange, all_requests, comes_at}
 use Rattle.sched_storm.specs.Plays.{Stage, begins, if_by, first}
 use Rattle.sched_storm.specs.Turns.{kind_of, turn_for, turn_if}
@@ -20,6 +21,7 @@ use Rattle.sched_storm.specs.declared.turns.Kind.TheVariants.{Begins, Retries, S
 use Rattle.sched_storm.specs.declared.turns.Turn.{Turn}
 use Rattle.sched_storm.specs.declared.agenda.Agenda.{Agenda}
 use Rattle.sched_storm.specs.declared.course.Course.{Course}
+use Rattle.sched_storm.proofs.Arrivals.{arrives_rises}
 use Rattle.sched_storm.proofs.Keys.{request_back, turn_back, key_order, key_order_at}
 
 some_same : {X : Type 0} (a b : X) → Some a ≡ Some b → a ≡ b
@@ -50,8 +52,8 @@ comes_later p n q ok h =
     let some = ok.some in
     let group = quotient_rises p.together n q (omega arith) h in
     let start = mul-le (n / p.together) p.together (q / p.together) p.together group (omega arith) in
-    quotient_rises p.rate (n / p.together * p.together * 1000) (q / p.together * p.together * 1000) (omega arith)
-    (omega arith)
+    arrives_rises p.rate (phases_of p.rates) (n / p.together * p.together * 1000) (q / p.together * p.together * 1000)
+    some ok.rates.in_order (omega arith)
 
 pub record ComesBy (p : Parameters) (n : ℕ) (d : Due Stage) : Type 0 where
   pub few : n < all_requests p

@@ -1,4 +1,5 @@
 -- What the contracts of `sched_storm` cite.
+pub mod Rates
 pub mod Parameters
 pub mod Calls
 pub mod Tickets

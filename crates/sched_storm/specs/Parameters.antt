@@ -1,9 +1,10 @@
 -- The parameters of a storm: which are in range, and when each request comes.
-use Rattle.std.specs.Prelude.{ℕ, ◌*◌, ◌/◌, ◌≤◌, max, Option, Some, None}
+use Rattle.std.specs.Prelude.{ℕ, ◌+◌, ◌*◌, ◌/◌, ◌≤◌, max, Option, Some, None}
 use Rattle.sched_storm_report.specs.Peer.{IsSpan, IsSlow}
 use Rattle.sched_storm_report.specs.declared.peer.BrownOut.{BrownOut}
 use Rattle.sched_storm_report.specs.declared.peer.Peer.{Peer}
 use Rattle.sched_storm_limit.specs.Ranges.{AreDraws}
+use Rattle.sched_storm.specs.Rates.{phases_of, AreRates, thousandths_by, arrives}
 use Rattle.sched_storm.specs.declared.parameters.Parameters.{Parameters}
 
 -- the peer that the calls come to, as each of its replicas works
@@ -18,13 +19,13 @@ end_of_slow (Some b) = b.span.to
 abbrev pub end_of_trouble : Parameters → ℕ
 end_of_trouble p = max p.outage.to (end_of_slow p.slow)
 
--- how many requests come in all, where `until` allows
+-- how many requests come in all, where `until` allows: those whose own moment lies before the end of the seconds
 abbrev pub all_requests : Parameters → ℕ
-all_requests p = p.rate * p.seconds
+all_requests p = (thousandths_by p.rate 0 (phases_of p.rates) (p.seconds * 1000) + 999) / 1000
 
--- the moment at which a request begins its first call
+-- the moment at which a request begins its first call: that of the first of those that come together
 abbrev pub comes_at : Parameters → ℕ → ℕ
-comes_at p r = r / p.together * p.together * 1000 / p.rate
+comes_at p r = arrives p.rate 0 (phases_of p.rates) (r / p.together * p.together * 1000)
 
 pub record RequestsAreInRange (p : Parameters) : Type 0 where
   pub some : 1 ≤ p.rate
@@ -33,6 +34,7 @@ pub record RequestsAreInRange (p : Parameters) : Type 0 where
   pub together : p.together ≤ 1000000
   pub one : 1 ≤ p.seconds
   pub seconds : p.seconds ≤ 3600
+  pub rates : AreRates p.rates
   pub all : all_requests p ≤ 1048576
 
 pub record PeerIsInRange (p : Parameters) : Type 0 where

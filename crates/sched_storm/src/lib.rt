@@ -14,11 +14,13 @@ mod drivers;
 mod limits;
 mod parameters;
 mod plays;
+mod rates;
 mod storm;
 mod tickets;
 mod turns;
 
 pub use parameters::Parameters;
+pub use rates::{MAX_PHASES, Phase, Rates};
 pub use sched_storm_limit::{Draws, Limit};
 pub use sched_storm_report::{BrownOut, Counts, Failure, Report, Span, Totals, Window};
 pub use storm::{

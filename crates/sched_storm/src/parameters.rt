@@ -1,4 +1,5 @@
 //! What a storm is made of.
+use crate::rates::Rates;
 use sched_storm_limit::Draws;
 use sched_storm_report::{BrownOut, Span};
 
@@ -7,9 +8,11 @@ use sched_storm_report::{BrownOut, Span};
 pub struct Parameters {
     /// Requests a second, from 1 to 1,000,000.
     pub rate: u64,
+    /// The phases of the rate before that, if there are any.
+    pub rates: Rates,
     /// Requests that come at one moment, from 1 to 1,000,000.
     pub together: u64,
-    /// For how many seconds requests come, from 1 to 3,600; `rate` times `seconds` is at most 1,048,576.
+    /// For how many seconds requests come, from 1 to 3,600; in these come at most 1,048,576.
     pub seconds: u64,
     /// Calls that each replica of the peer can do in a second, from 1 to 1,000,000.
     pub capacity: u64,
@@ -42,6 +45,7 @@ impl Default for Parameters {
     fn default() -> Self {
         Parameters {
             rate: 800,
+            rates: Rates::NONE,
             together: 1,
             seconds: 60,
             capacity: 1000,

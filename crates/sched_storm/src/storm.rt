@@ -1,6 +1,7 @@
-ghost use Rattle.std.specs.Prelude.{◌≡◌, ◌<◌, ◌≤◌, ◌↔◌, IsTrue, IsSome, IfSome};
+ghost use Rattle.std.specs.Prelude.{◌≡◌, ℕ, ◌*◌, ◌/◌, ◌<◌, ◌≤◌, ◌↔◌, IsTrue, IsSome, IfSome};
 ghost use Rattle.sched_storm_report.specs.Peer.{IsSpan, IsSlow, IsPeer};
 ghost use Rattle.sched_storm_limit.specs.Ranges.{AreDraws, has_draws};
+ghost use Rattle.sched_storm.specs.Rates.{phases_of, arrives, AreRates, IsGreatest};
 ghost use Rattle.sched_storm.specs.Parameters.{AreInRange};
 ghost use Rattle.sched_storm.specs.Parameters.{RequestsAreInRange, PeerIsInRange, ReportIsInRange};
 ghost use Rattle.sched_storm.specs.Parameters.{all_requests, comes_at, peer_of, end_of_trouble};
@@ -38,19 +39,25 @@ pub const MAX_CALLS: u64 = 4294967296;
 #[derive(Clone, Copy, Debug)]
 pub struct Storm {
     parameters: Parameters,
+    /// How many requests come in all, where `until` allows.
+    requests: u64,
 }
 
 impl Model for Storm {
-    ghost use Rattle.sched_storm.specs.Parameters.{AreInRange};
+    ghost use Rattle.std.specs.Prelude.{◌≡◌};
+    ghost use Rattle.std.proofs.Common.{sym};
+    ghost use Rattle.sched_storm.specs.Parameters.{AreInRange, all_requests};
     ghost use Rattle.sched_storm.specs.declared.parameters.Parameters.{Parameters};
 
     ghost Value = { Parameters };
 
     ghost view = { λ s. s.parameters };
 
-    ghost invariant = { λ s. AreInRange s.parameters };
+    ghost invariant = { λ s. AreInRange s.parameters × (s.requests ≡ all_requests s.parameters) };
 
-    ghost inverse = { λ p. record { parameters = p } };
+    ghost inverse = { λ p. record { parameters = p; requests = all_requests p } };
+
+    ghost inverse_ok = { λ s h. λ i. record { parameters = s.parameters; requests = sym h.1 i } };
 }
 
 impl Storm {
@@ -60,7 +67,11 @@ impl Storm {
         ensures value { IfSome result (λ storm. storm ≡ parameters) }
     {
         if are_in_range(&parameters) {
-            Some(Storm { parameters })
+            let requests = all_requests(&parameters);
+            Some(Storm {
+                parameters,
+                requests,
+            })
         } else {
             None
         }
@@ -85,10 +96,13 @@ impl Storm {
     /// The moment at which a request begins its first call, of requests that are numbered from 0.
     pub(crate) fn comes_at(&self, request: u64) -> u64
         requires { request ≤ 1048576 }
-        ensures { result ≡ comes_at self.now request }
+        ensures value { result ≡ comes_at self.now request }
+        ensures greatest { IsGreatest self.now.rate 0 (phases_of self.now.rates)
+            (request / self.now.together * self.now.together * 1000) result }
     {
-        let first = request / self.parameters.together * self.parameters.together;
-        first * 1000 / self.parameters.rate
+        let p = &self.parameters;
+        let first = request / p.together * p.together;
+        p.rates.arrives(p.rate, first * 1000)
     }
 
     /// The peer that the calls come to.
@@ -123,8 +137,10 @@ impl Storm {
     pub(crate) fn all_requests(&self) -> u64
         ensures value { result ≡ all_requests self.now }
         ensures few { result ≤ 1048576 }
+        ensures before { (r : ℕ) → (r < result) ↔
+            (arrives self.now.rate 0 (phases_of self.now.rates) (r * 1000) < self.now.seconds * 1000) }
     {
-        self.parameters.rate * self.parameters.seconds
+        self.requests
     }
 }
 
@@ -146,7 +162,18 @@ fn are_requests(p: &Parameters) -> bool
         && p.together <= MAX_EACH
         && 1 <= p.seconds
         && p.seconds <= MAX_SECONDS
-        && p.rate.saturating_mul(p.seconds) <= MAX_REQUESTS
+        && p.rates.are_in_range()
+        && all_requests(p) <= MAX_REQUESTS
+}
+
+// How many requests come in all, where `until` allows.
+fn all_requests(p: &Parameters) -> u64
+    requires rate { p.now.rate ≤ 1000000 }
+    requires seconds { p.now.seconds ≤ 3600 }
+    requires rates { AreRates p.now.rates }
+    ensures { result ≡ all_requests p.now }
+{
+    (p.rates.thousandths_by(p.rate, p.seconds * 1000) + 999) / 1000
 }
 
 fn is_peer(p: &Parameters) -> bool

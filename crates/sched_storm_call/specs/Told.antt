@@ -52,6 +52,7 @@ AreDrawsOf g (Limited (limit.Throttle t)) =
 abbrev pub parameters_of : StormGiven → Draws → Parameters
 parameters_of g draws = record {
   rate = g.rate;
+  rates = record { count = g.phase_count; phases = g.phases };
   together = g.together;
   seconds = g.seconds;
   capacity = g.capacity;

@@ -5,7 +5,7 @@ ghost use Rattle.sched_storm_call.specs.Told.{AreDrawsOf, IsOf, down_of, slow_of
 ghost use Rattle.sched_storm_call.specs.Told.{totals_told};
 
 use sched_limit::{Breaker, Bucket, InFlight, Throttle};
-use sched_storm::{BrownOut, Draws, Limit, Parameters, Span, Storm, Totals, Window};
+use sched_storm::{BrownOut, Draws, Limit, Parameters, Phase, Rates, Span, Storm, Totals, Window};
 use sched_ticket_quota::Terms;
 use sched_time::{Millis, Moment};
 
@@ -49,6 +49,8 @@ pub struct StormGiven {
     pub open_times: [u64; 64],
     pub replicas: u64,
     pub down: u64,
+    pub phase_count: u64,
+    pub phases: [Phase; 16],
 }
 
 /// The parameters of a storm, after the size in bytes that C gives of this struct.
@@ -60,7 +62,7 @@ pub struct SizedStorm {
 }
 
 /// The size of it.
-pub(crate) const STORM_SIZE: usize = 800;
+pub(crate) const STORM_SIZE: usize = 1064;
 
 /// A window of a storm.
 #[repr(C)]
@@ -128,6 +130,10 @@ impl StormGiven {
     {
         Parameters {
             rate: self.rate,
+            rates: Rates {
+                count: self.phase_count as usize,
+                phases: self.phases,
+            },
             together: self.together,
             seconds: self.seconds,
             capacity: self.capacity,

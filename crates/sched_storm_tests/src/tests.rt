@@ -10,6 +10,7 @@ use std::test::Fail;
 mod limits;
 mod peers;
 mod ranges;
+mod rates;
 mod replicas;
 mod retries;
 mod windows;

@@ -4,7 +4,7 @@ from __future__ import annotations
 
 import json
 from dataclasses import dataclass
-from typing import Any, Dict, List, NamedTuple, Optional, Tuple, Union
+from typing import Any, Dict, List, NamedTuple, Optional, Sequence, Tuple, Union
 
 from ._engine.calls import MAX_TICKETS
 from ._engine.handles import Totals, play_storm
@@ -15,7 +15,7 @@ from .limits.limit import Limit
 from .policy import Policy
 from .quota import Quota
 from .storms.limits import limit_of
-from .storms.parameters import MAX_SEED, Limited, Parameters, Slow, Span
+from .storms.parameters import MAX_SEED, Limited, Parameters, RateSpan, Slow, Span
 
 __all__ = ["Storm", "StormRow", "StormTotals", "storm"]
 
@@ -140,6 +140,7 @@ def storm(
     policy: Union[Policy, str, bytes, Dict[str, Any]],
     *,
     rate: int = 800,
+    rates: Sequence[Tuple[Duration, Duration, int]] = (),
     together: int = 1,
     seconds: int = 60,
     capacity: int = 1000,
@@ -160,6 +161,9 @@ def storm(
     `rate`, `together`, `seconds`
         How many requests come in a second, how many of them at once, and for how many seconds: at most 1,048,576
         requests in all.
+    `rates`
+        Spans in which requests come at a rate of their own: at most 8, in their order, such as `[(10, 15, 2400)]` for a
+        surge from 10 to 15 s. In between `rate` holds.
     `capacity`, `queue`
         How many calls the peer does in a second, one after another, and how many may wait in its queue. It sheds the
         others.
@@ -215,6 +219,7 @@ def storm(
         calls=_whole("calls", calls),
         words=_whole("seed", seed, MAX_SEED),
         tickets=_tickets(budget),
+        rates=tuple(map(_rate_span, rates)),
     )
     return play(Policy.of(policy), parameters.checked())
 
@@ -266,9 +271,15 @@ def _time(name: str, duration: Duration) -> int:
 
 def _parts(name: str, given: Any, count: int) -> List[Any]:
     if not isinstance(given, (tuple, list)) or len(given) != count:
-        wanted = "(from, to)" if count == 2 else "(from, to, share of the capacity)"
+        third = "requests a second" if name == "rates" else "share of the capacity"
+        wanted = "(from, to)" if count == 2 else f"(from, to, {third})"
         raise TypeError(f"{name}: expected {wanted}, got {given!r}")
     return list(given)
+
+
+def _rate_span(span: Any) -> RateSpan:
+    begins, ends, rate = _parts("rates", span, 3)
+    return RateSpan(_time("rates", begins), _time("rates", ends), _whole("rates", rate))
 
 
 def _slow(slow: Any) -> Slow:

@@ -268,7 +268,7 @@ def find_from(policy: Policy, parameters: Parameters, what: str, told: Told = si
     if what not in _GOALS:
         raise StormError("find", f"expected one of {', '.join(_GOALS)}, got {what!r}")
     if not parameters.weather():
-        raise StormError("find", "expected a storm with an outage or a brown-out, got one without")
+        raise StormError("find", "expected a storm with an outage, a brown-out or a surge, got one without")
     goal = _GOALS[what]
     tried: Dict[int, Storm] = {}
 

@@ -152,6 +152,13 @@ pub(crate) struct BreakerTerms {
 }
 
 #[repr(C)]
+#[derive(Clone, Copy, Debug, Default, PartialEq, Eq, Hash)]
+pub(crate) struct Phase {
+    pub(crate) until: u64,
+    pub(crate) rate: u64,
+}
+
+#[repr(C)]
 #[derive(Clone, Copy, Debug, PartialEq, Eq, Hash)]
 pub(crate) struct Storm {
     pub(crate) size: usize,
@@ -191,6 +198,8 @@ pub(crate) struct Storm {
     pub(crate) open_times: [u64; 64],
     pub(crate) replicas: u64,
     pub(crate) down: u64,
+    pub(crate) phase_count: u64,
+    pub(crate) phases: [Phase; 16],
 }
 
 #[repr(C)]

@@ -175,7 +175,8 @@ impl Measure {
             Self::Succeeded => (totals.requests > 0).then_some(100.0 * totals.won as f64 / totals.requests as f64),
             Self::Calls => Some(totals.calls_per_request()),
             Self::Recovery => storm.well_from().map(|over| match totals.recovered {
-                Some(recovered) => (whole_millis(recovered) as f64 - over as f64) / 1000.0,
+                // (where a surge does no harm, no window is bad from the first on)
+                Some(recovered) => whole_millis(recovered).saturating_sub(over) as f64 / 1000.0,
                 None => f64::INFINITY,
             }),
             Self::Slowest => totals.slowest.map(|slowest| whole_millis(slowest) as f64 / 1000.0),

@@ -44,8 +44,8 @@ impl Storm {
     ///
     /// # Errors
     ///
-    /// [`StormError::NothingToRecoverFrom`] of a storm with no outage and no brown-out, [`StormError::PolicyTooLarge`],
-    /// or the first parameter that is out of its range.
+    /// [`StormError::NothingToRecoverFrom`] of a storm with no outage, no brown-out and no surge,
+    /// [`StormError::PolicyTooLarge`], or the first parameter that is out of its range.
     pub fn find(&self, goal: Goal) -> Result<Found, StormError> {
         if self.well_from().is_none() {
             return Err(StormError::NothingToRecoverFrom);

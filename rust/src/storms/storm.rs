@@ -1,7 +1,7 @@
 //! Storms: many requests under one policy, on a peer that fails for a while.
 
 use crate::clock::whole_millis;
-use crate::engine::{self, Handle, PassKind, Status, ON_BUDGET, ON_NOTHING, ON_QUOTA};
+use crate::engine::{self, Handle, PassKind, Phase, Status, ON_BUDGET, ON_NOTHING, ON_QUOTA};
 use crate::limits::budget::BudgetError;
 use crate::limits::call_limit::{thousandths, CallLimit, Terms as LimitTerms};
 use crate::limits::quota::Terms;
@@ -16,6 +16,8 @@ use std::time::Duration;
 const HOUR: u64 = 3_600_000;
 const MAX_REQUESTS: u64 = 1_048_576;
 const MAX_WINDOWS: u64 = 65_536;
+/// The most spans with a rate of their own; each may have a phase before it.
+const MAX_SPANS: u64 = 8;
 
 /// A simulation of many requests under one policy, on a peer that fails for a while: what a policy does to a service
 /// when thousands of calls fail together. No call is made and no time passes. Two storms with the same parameters are
@@ -46,6 +48,8 @@ pub struct Storm {
     until: Option<u64>,
     /// How many replicas are away in the outage; `None` for all.
     down: Option<u64>,
+    /// The spans with a rate of their own.
+    rates: Vec<(Range<u64>, u64)>,
     /// Whether there is a brown-out.
     is_slow: bool,
     /// Why what the retries draw on is no budget, or no quota.
@@ -67,10 +71,15 @@ pub enum StormError {
         /// What it is.
         got: u64,
     },
-    /// The rate times the seconds is above 1,048,576.
+    /// More than 1,048,576 requests come.
     TooManyRequests,
-    /// An outage or a brown-out ends before it begins.
+    /// An outage or a brown-out ends before it begins, or a span with a rate of its own has no length.
     EndsEarly {
+        /// The builder that was called with it.
+        parameter: &'static str,
+    },
+    /// A span with a rate of its own begins before the one before it ends.
+    Overlap {
         /// The builder that was called with it.
         parameter: &'static str,
     },
@@ -85,7 +94,7 @@ pub enum StormError {
         /// The parameter of the sweep.
         parameter: &'static str,
     },
-    /// A border is looked for in a storm with no outage and no brown-out.
+    /// A border is looked for in a storm with no outage, no brown-out and no surge.
     NothingToRecoverFrom,
     /// The policy with a bound on its retries has more than 256 nodes, or is deeper than 32.
     PolicyTooLarge,
@@ -135,8 +144,11 @@ impl Storm {
             open_times: [0; 64],
             replicas: 1,
             down: 0,
+            phase_count: 0,
+            phases: [Phase::default(); 16],
         };
-        Self { policy: policy.clone(), parameters, until: None, down: None, is_slow: false, fault: None }
+        let rates = Vec::new();
+        Self { policy: policy.clone(), parameters, until: None, down: None, rates, is_slow: false, fault: None }
     }
 
     /// A herd: 10,000 clients lose one connection at one moment, and the peer takes 500 at a time.
@@ -154,6 +166,26 @@ impl Storm {
     /// The number of requests that come in a second: 1 to 1,000,000.
     pub fn rate(mut self, requests: u64) -> Self {
         self.parameters.rate = requests;
+        self
+    }
+
+    /// Spans in which requests come at a rate of their own, 0 to 1,000,000 a second: at most 8, in their order, within
+    /// the first hour. Before, between and after them the storm's [`rate`](Self::rate) holds. A surge to three times
+    /// the default rate, for five seconds:
+    ///
+    /// ```
+    /// use hikebox::{Policy, Schedule, Storm};
+    /// use std::time::Duration;
+    ///
+    /// let policy = Policy::new(&Schedule::recurs(0))?;
+    /// let surge = Duration::from_secs(10)..Duration::from_secs(15);
+    /// let totals = Storm::new(&policy).no_outage().rates([(surge, 2400)]).play()?.totals;
+    /// assert_eq!(totals.requests, 800 * 55 + 2400 * 5);
+    /// # Ok::<(), Box<dyn std::error::Error>>(())
+    /// ```
+    pub fn rates(mut self, spans: impl IntoIterator<Item = (Range<Duration>, u64)>) -> Self {
+        let in_millis = |(when, rate): (Range<Duration>, u64)| (whole_millis(when.start)..whole_millis(when.end), rate);
+        self.rates = spans.into_iter().map(in_millis).collect();
         self
     }
 
@@ -295,21 +327,51 @@ impl Storm {
         Ok(StormReport { windows, totals: StormTotals::of(&totals) })
     }
 
-    /// From when on the peer is well again, in milliseconds; `None` where there is no outage and no brown-out.
+    /// From when on the peer is well again and no surge comes, in milliseconds; `None` where there is no outage, no
+    /// brown-out and no surge.
     pub(super) fn well_from(&self) -> Option<u64> {
         let engine::Storm { outage_from, outage_to, slow_from, slow_to, .. } = self.parameters;
-        if outage_from < outage_to || slow_from < slow_to {
-            Some(outage_to.max(slow_to))
+        let surges = self.rates.iter().filter(|(_, rate)| *rate > self.parameters.rate);
+        let surge_to = surges.map(|(when, _)| when.end).max();
+        if outage_from < outage_to || slow_from < slow_to || surge_to.is_some() {
+            Some(outage_to.max(slow_to).max(surge_to.unwrap_or(0)))
         } else {
             None
         }
+    }
+
+    /// The phases of the spans with a rate of their own, and of the storm's rate between them.
+    fn phases(&self) -> Result<(u64, [Phase; 16]), StormError> {
+        let parameter = "rates";
+        within(parameter, self.rates.len() as u64, 0, MAX_SPANS)?;
+        let mut found = Vec::new();
+        let mut end = 0;
+        for (when, rate) in &self.rates {
+            span(parameter, when.start, when.end)?;
+            within(parameter, *rate, 0, 1_000_000)?;
+            if when.is_empty() {
+                return Err(StormError::EndsEarly { parameter });
+            }
+            if when.start < end {
+                return Err(StormError::Overlap { parameter });
+            }
+            if end < when.start {
+                found.push(Phase { until: when.start, rate: self.parameters.rate });
+            }
+            found.push(Phase { until: when.end, rate: *rate });
+            end = when.end;
+        }
+        let mut phases = [Phase::default(); 16];
+        phases[..found.len()].copy_from_slice(&found);
+        Ok((found.len() as u64, phases))
     }
 
     /// The parameters, where all are within their ranges.
     pub(super) fn checked(&self) -> Result<engine::Storm, StormError> {
         let until = self.until.unwrap_or_else(|| self.parameters.seconds.saturating_mul(1000).saturating_add(60_000));
         let down = self.down.unwrap_or(self.parameters.replicas);
-        let storm = engine::Storm { until, down, ..self.parameters };
+        let (phase_count, phases) = self.phases()?;
+        let storm = engine::Storm { until, down, phase_count, phases, ..self.parameters };
         within("rate", storm.rate, 1, 1_000_000)?;
         within("together", storm.together, 1, 1_000_000)?;
         within("seconds", storm.seconds, 1, 3600)?;
@@ -321,7 +383,7 @@ impl Storm {
         within("window", storm.window, 1, HOUR)?;
         within("until", storm.until, 0, 2 * HOUR)?;
         within("calls", storm.calls, 1, 1 << 32)?;
-        if storm.rate * storm.seconds > MAX_REQUESTS {
+        if thousandths_of(&storm) > MAX_REQUESTS * 1000 {
             return Err(StormError::TooManyRequests);
         }
         span("outage", storm.outage_from, storm.outage_to)?;
@@ -337,6 +399,17 @@ impl Storm {
             None => Ok(storm),
         }
     }
+}
+
+/// How many thousandths of a request come.
+fn thousandths_of(storm: &engine::Storm) -> u64 {
+    let end = storm.seconds * 1000;
+    let (mut begins, mut sum) = (0, 0);
+    for phase in &storm.phases[..storm.phase_count as usize] {
+        sum += phase.rate * phase.until.min(end).saturating_sub(begins);
+        begins = phase.until;
+    }
+    sum + storm.rate * end.saturating_sub(begins)
 }
 
 pub(super) fn within(parameter: &'static str, got: u64, min: u64, max: u64) -> Result<(), StormError> {
@@ -376,13 +449,18 @@ impl fmt::Display for StormError {
             Self::EndsEarly { parameter } => {
                 write!(f, "{parameter}: expected an end after the beginning, got one before")
             }
+            Self::Overlap { parameter } => {
+                write!(f, "{parameter}: expected spans in their order, got one that begins before another ends")
+            }
             Self::TooManyWindows => f.write_str("expected at most 65537 windows, got more: until divided by window"),
             Self::Tickets(error) => error.fmt(f),
             Self::NoLine => f.write_str("expected a line of the sweep, got none"),
             Self::NoLimit { parameter } => {
                 write!(f, "{parameter}: expected a storm with a limit that has it, got none")
             }
-            Self::NothingToRecoverFrom => f.write_str("expected a storm with an outage or a brown-out, got neither"),
+            Self::NothingToRecoverFrom => {
+                f.write_str("expected a storm with an outage, a brown-out or a surge, got none")
+            }
             Self::PolicyTooLarge => {
                 f.write_str("expected a policy of at most 254 nodes and depth at most 31, got more")
             }

@@ -18,6 +18,7 @@ __all__ = [
     "LeasedTicket",
     "Line",
     "Next",
+    "Phase",
     "Place",
     "Range",
     "Storm",
@@ -85,6 +86,10 @@ class BreakerTerms(_Sized):
     _fields_ = [_SIZE, *_numbers("failures probes deadline")]
 
 
+class Phase(Structure):
+    _fields_ = _numbers("until rate")
+
+
 class Storm(_Sized):
     _fields_ = [
         _SIZE,
@@ -94,7 +99,8 @@ class Storm(_Sized):
             "bucket_credit bucket_refund cost late_cost least failures probes deadline ratio open_count"
         ),
         ("open_times", c_uint64 * 64),
-        *_numbers("replicas down"),
+        *_numbers("replicas down phase_count"),
+        ("phases", Phase * 16),
     ]
 
 

@@ -10,7 +10,7 @@ from ..budgets.terms import terms_of
 from ..errors import BudgetError, PolicyError, StormError
 from ..policy import Policy
 from ..storms.limits import KINDS, limit_of
-from ..storms.parameters import RANGES, SCENARIOS, Limited, Parameters, Slow, Span
+from ..storms.parameters import RANGES, SCENARIOS, Limited, Parameters, RateSpan, Slow, Span
 from .values import terms
 
 __all__ = ["Line", "Scenario", "scenario_of"]
@@ -71,7 +71,7 @@ def _scenario(told: Any) -> Scenario:
 
 
 def _parameters(told: Any) -> Parameters:
-    _has("storm", told, {*RANGES, "outage", "slow"})
+    _has("storm", told, {*RANGES, "rates", "outage", "slow"})
     found = {name: _whole(name, told[name]) for name in RANGES if name in told}
     spans: List[Tuple[str, int]] = [("outage", 2), ("slow", 3)]
     ends = {
@@ -81,7 +81,13 @@ def _parameters(told: Any) -> Parameters:
     }
     outage = Span(*ends["outage"]) if "outage" in ends else Span(0, 0)
     slow = Slow(*ends["slow"]) if "slow" in ends else None
-    return Parameters(outage=outage, slow=slow, **found).checked()
+    return Parameters(outage=outage, slow=slow, rates=_rates(told.get("rates", [])), **found).checked()
+
+
+def _rates(told: Any) -> Tuple[RateSpan, ...]:
+    if not isinstance(told, list):
+        raise StormError("rates", f"expected a list of spans, got {_brief(told)}")
+    return tuple(RateSpan(*(_whole("rates", number) for number in _list("rates", span, 3))) for span in told)
 
 
 def _line(index: int, told: Any) -> Line:

@@ -12,7 +12,7 @@ from ..budgets.terms import Terms, terms_of
 from ..errors import BudgetError, TermsError
 from ..storms.axes import MEASURES
 from ..storms.limits import KINDS, LimitTerms, limit_of
-from ..storms.parameters import RANGES, Limited, Parameters, Slow, Span
+from ..storms.parameters import RANGES, Limited, Parameters, RateSpan, Slow, Span
 from . import values
 from .arguments import Once
 
@@ -46,6 +46,8 @@ def add_storm_options(storm: argparse.ArgumentParser) -> None:
         storm.add_argument(
             f"--{name}", type=values.number(RANGES[name][1], RANGES[name][0]), metavar=metavar, help=help
         )
+    rates = "spans with a rate of their own, up to 8, such as 10000..15000@2400,20000..21000@0"
+    storm.add_argument("--rates", type=_rates, metavar="FROM..TO@N,..", help=rates)
     outage = "when the peer refuses all calls, in milliseconds (10000..20000)"
     storm.add_argument("--outage", type=_span, metavar="FROM..TO", help=outage)
     slow = "when the peer works at PERCENT of its capacity, in milliseconds (never)"
@@ -81,7 +83,7 @@ def limits_of(given: Any, times: Optional[Tuple[int, ...]] = None) -> List[Limit
 
 def parameters_of(given: Any, base: Parameters) -> Parameters:
     """The parameters that were given over those of a scenario, or a `StormError`."""
-    told = {name: getattr(given, name) for name in (*RANGES, "outage", "slow")}
+    told = {name: getattr(given, name) for name in (*RANGES, "rates", "outage", "slow")}
     changed = {name: value for name, value in told.items() if value is not None}
     return base._replace(**changed).checked()
 
@@ -125,6 +127,13 @@ def _slow(text: str) -> Slow:
     if ends is None or not (percent.isascii() and percent.isdigit()):
         raise argparse.ArgumentTypeError(f"expected FROM..TO@PERCENT, as 10000..20000@50, got {text!r}")
     return Slow(*ends, int(percent))
+
+
+def _rates(text: str) -> Tuple[RateSpan, ...]:
+    found = [re.fullmatch(r"([0-9]{1,19})\.\.([0-9]{1,19})@([0-9]{1,19})", word) for word in text.split(",")]
+    if not all(found):
+        raise argparse.ArgumentTypeError(f"expected FROM..TO@N,.., as 10000..15000@2400, got {fitted(text, 300)!r}")
+    return tuple(RateSpan(*map(int, each.groups())) for each in found if each)
 
 
 def _limit(text: str) -> LimitTerms:

@@ -13,7 +13,7 @@ from ..storm import Storm, play
 from ..storms.axes import AXES
 from ..storms.code import in_command, in_python, in_rust, in_scenario
 from ..storms.heads import names_of
-from ..storms.parameters import RANGES, Limited, Parameters, Slow, Span
+from ..storms.parameters import RANGES, Limited, Parameters, RateSpan, Slow, Span
 from ..storms.picture import storm_picture
 from ..storms.sweep_picture import sweep_picture
 from ..storms.texts import recovery_mark, sentences, share_text
@@ -60,6 +60,7 @@ def start_answer() -> Json:
 def _told_parameters(parameters: Parameters) -> Json:
     told = parameters._asdict()
     del told["until"], told["tickets"]
+    told["rates"] = parameters.rates[0] if parameters.rates else None  # (the page has one span at most)
     return told
 
 
@@ -184,6 +185,8 @@ def _parameters(asked: Any) -> Parameters:
         told["outage"] = Span(*_wholes("outage", asked["outage"], 2))
     if asked.get("slow") is not None:
         told["slow"] = Slow(*_wholes("slow", asked["slow"], 3))
+    if asked.get("rates") is not None:
+        told["rates"] = (RateSpan(*_wholes("rates", asked["rates"], 3)),)
     return Parameters(**told).checked()
 
 

@@ -5,7 +5,8 @@ const state = { story: "quota", storm: {}, sides: [{ text: "", limit: "" }, { te
 const page = crypto.randomUUID();
 let known = { stories: {}, ranges: {}, cookbook: [], along: {} };
 
-// Name, label, and the least and the most of the slider; a time is in milliseconds. `part` is one of an outage or a brown-out.
+// Name, label, and the least and the most of the slider; a time is in milliseconds. `part` is one of an outage, a
+// brown-out or a surge.
 const CONTROLS = [
   { name: "rate", label: "Requests per second", least: 1, most: 20000 },
   { name: "capacity", label: "Capacity of the peer, calls per second", least: 1, most: 20000 },
@@ -13,7 +14,10 @@ const CONTROLS = [
   { name: "outage", part: 1, label: "Outage to, ms", step: 500, most: 120000 },
   { name: "slow", part: 0, label: "Brown-out from, ms", step: 500, most: 120000 },
   { name: "slow", part: 1, label: "Brown-out to, ms", step: 500, most: 120000 },
-  { name: "slow", part: 2, label: "Capacity in the brown-out, %", least: 1, step: 1, most: 100 },
+  { name: "slow", part: 2, label: "Capacity in the brown-out, %", least: 1, step: 1, most: 100, range: [1, 100] },
+  { name: "rates", part: 0, label: "Surge from, ms", step: 500, most: 120000 },
+  { name: "rates", part: 1, label: "Surge to, ms", step: 500, most: 120000 },
+  { name: "rates", part: 2, label: "Requests per second in the surge", least: 0, most: 20000, range: [0, 1000000] },
   { name: "patience", label: "Patience of the clients, ms", least: 1, most: 60000 },
   { name: "queue", label: "Queue of the peer, calls", least: 0, most: 100000 },
   { name: "replicas", label: "Replicas of the peer, each with this capacity and queue", least: 1, step: 1, most: 4 },
@@ -25,9 +29,10 @@ const CONTROLS = [
   { name: "calls", label: "Cut after this many calls", least: 1, most: 16777216 },
   { name: "words", label: "Seed of the random words", least: 0, step: 1, most: 100 },
 ];
-const PARTS = { outage: 2, slow: 3 };
+const PARTS = { outage: 2, slow: 3, rates: 3 };
 const HOUR = 3600000;
-const PLAIN_SLOW = [0, 0, 100];
+// What there is of a brown-out or a surge where there is none.
+const NONE = { slow: [0, 0, 100], rates: [0, 0, 2400] };
 const SIDES = ["a", "b"];
 const KINDS = { command: "command line", python: "Python", rust: "Rust", json: "JSON of the policy" };
 // From this width on a picture has its loads, and not its verdicts alone.
@@ -63,21 +68,21 @@ function whole(name) {
 
 function valueOf(control) {
   const value = whole(control.name);
-  return control.part === undefined ? value : (value || PLAIN_SLOW)[control.part];
+  return control.part === undefined ? value : (value || NONE[control.name])[control.part];
 }
 
 function setValue(control, value) {
   if (control.part === undefined) {
     state.storm[control.name] = value;
   } else {
-    const parts = [...(whole(control.name) || PLAIN_SLOW)];
+    const parts = [...(whole(control.name) || NONE[control.name])];
     parts[control.part] = value;
     state.storm[control.name] = parts;
   }
 }
 
 function rangeOf(control) {
-  if (control.part === 2) return [1, 100];
+  if (control.range) return control.range;
   const [least, most] = known.ranges[control.name] || [0, HOUR];
   return [least, Math.min(most, Number.MAX_SAFE_INTEGER)];
 }
@@ -157,7 +162,7 @@ function clearFaults() {
 function stormAsked() {
   const storm = {};
   for (const name of new Set(CONTROLS.map((control) => control.name))) storm[name] = whole(name);
-  if (storm.slow && storm.slow[0] === storm.slow[1]) storm.slow = null;
+  for (const name of Object.keys(NONE)) if (storm[name] && storm[name][0] === storm[name][1]) storm[name] = null;
   if (!("until" in state.storm)) storm.until = null;
   if (!("down" in state.storm)) storm.down = story().storm.down;
   return storm;

@@ -109,7 +109,8 @@ def _recovery(storm: Storm) -> Optional[float]:
     if not storm.parameters.weather():
         return None
     recovered = storm.totals.recovered_ms
-    return NEVER if recovered is None else (recovered - storm.parameters.over) / 1000
+    # (where a surge does no harm, no window is bad from the first on)
+    return NEVER if recovered is None else max(0, recovered - storm.parameters.over) / 1000
 
 
 def _slowest(storm: Storm) -> Optional[float]:

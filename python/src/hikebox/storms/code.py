@@ -36,6 +36,8 @@ def in_command(policy: Policy, parameters: Parameters) -> str:
             words += ["--limit", value.text]
         elif name == "tickets":
             words += ["--budget", str(value)]
+        elif name == "rates":
+            words += ["--rates", ",".join(f"{begins}..{ends}@{rate}" for begins, ends, rate in value)]
         elif isinstance(value, tuple):
             words += [f"--{name}", f"{value[0]}..{value[1]}" + "".join(f"@{percent}" for percent in value[2:])]
         else:
@@ -46,10 +48,14 @@ def in_command(policy: Policy, parameters: Parameters) -> str:
 def in_scenario(storms: Sequence[Storm]) -> str:
     """Storms of the same parameters as the file of a scenario."""
     parameters = storms[0].parameters._replace(tickets=None)
-    told = {name: list(value) if isinstance(value, tuple) else value for name, value in _changed(parameters).items()}
+    told = {name: _listed(value) for name, value in _changed(parameters).items()}
     told.setdefault("outage", list(parameters.outage))
     lines = [{"policy": storm.policy.to_dict(), "limit": _limit(storm.parameters.tickets)} for storm in storms]
     return json.dumps({"storm": told, "lines": lines}, indent=2) + "\n"
+
+
+def _listed(value: Any) -> Any:
+    return list(map(_listed, value)) if isinstance(value, tuple) else value
 
 
 def _changed(parameters: Parameters) -> Dict[str, Any]:
@@ -83,6 +89,9 @@ def _python_arguments(parameters: Parameters) -> List[Tuple[str, str]]:
     if "outage" in changed:
         outage = parameters.outage
         found.append(("outage", "None" if outage == Span(0, 0) else f"({', '.join(map(seconds_text, outage))})"))
+    if parameters.rates:
+        spans = [f"({seconds_text(begins)}, {seconds_text(ends)}, {rate})" for begins, ends, rate in parameters.rates]
+        found.append(("rates", f"[{', '.join(spans)}]"))
     if parameters.slow is not None:
         begins, ends, percent = parameters.slow
         found.append(("slow", f"({seconds_text(begins)}, {seconds_text(ends)}, {percent / 100!r})"))
@@ -121,6 +130,9 @@ def _rust_calls(parameters: Parameters) -> List[str]:
     if "outage" in changed:
         begins, ends = parameters.outage
         found.append("no_outage()" if begins == ends == 0 else f"outage({duration(begins)}..{duration(ends)})")
+    if parameters.rates:
+        spans = [f"({duration(begins)}..{duration(ends)}, {rate})" for begins, ends, rate in parameters.rates]
+        found.append(f"rates([{', '.join(spans)}])")
     if parameters.slow is not None:
         begins, ends, percent = parameters.slow
         found.append(f"slow({duration(begins)}..{duration(ends)}, {percent})")

@@ -15,7 +15,10 @@ if TYPE_CHECKING:
 __all__ = ["Heads", "heads_of", "names_of"]
 
 #: The parameters that a title names where they differ, with their names there.
-_NAMED = ("rate", "together", "seconds", "capacity", "patience", "queue", "replicas", "outage", "away", "slow", "words")
+_NAMED = (
+    *("rate", "rates", "together", "seconds", "capacity", "patience", "queue", "replicas", "outage", "away", "slow"),
+    "words",
+)
 
 
 class Heads(NamedTuple):
@@ -87,5 +90,7 @@ def _differing(parameters: Parameters, storms: Sequence[Storm]) -> List[str]:
 
 def _spelt(value: object) -> str:
     if isinstance(value, tuple):
+        if not value or isinstance(value[0], tuple):
+            return ",".join(map(_spelt, value)) or "none"
         return f"{value[0]}..{value[1]}" + "".join(f"@{percent}" for percent in value[2:])
     return "none" if value is None else f"{value:,}"

@@ -5,15 +5,28 @@ from __future__ import annotations
 from typing import Any, Dict, List, NamedTuple, Optional, Tuple, Union
 
 from .._engine.calls import ON_BUDGET, ON_QUOTA
-from .._engine.structs import Storm
+from .._engine.structs import Phase, Storm
 from ..budgets.terms import Terms
 from ..errors import StormError
 from .limits import LimitTerms
 
-__all__ = ["MAX_SEED", "RANGES", "SCENARIOS", "Limited", "Parameters", "Slow", "Span", "limit_text", "tickets_text"]
+__all__ = [
+    "MAX_SEED",
+    "RANGES",
+    "SCENARIOS",
+    "Limited",
+    "Parameters",
+    "RateSpan",
+    "Slow",
+    "Span",
+    "limit_text",
+    "tickets_text",
+]
 
 #: The most requests of a storm, and the most windows after the first.
 MAX_REQUESTS, MAX_WINDOWS = 1_048_576, 65_536
+#: The most spans with a rate of their own.
+MAX_SPANS = 8
 MAX_SEED = 2**64 - 1
 _HOUR = 3_600_000
 
@@ -33,7 +46,7 @@ RANGES: Dict[str, Tuple[int, int]] = {
     "words": (0, MAX_SEED),
 }
 #: Those that are milliseconds.
-_TIMES = ("patience", "window", "until", "outage", "slow")
+_TIMES = ("patience", "window", "until", "outage", "slow", "rates")
 
 
 #: What retries draw on: None, the limit of a budget, the terms of a quota, or a limit of another system.
@@ -45,6 +58,14 @@ class Span(NamedTuple):
 
     begins: int
     ends: int
+
+
+class RateSpan(NamedTuple):
+    """A span in which so many requests a second come, in milliseconds."""
+
+    begins: int
+    ends: int
+    rate: int
 
 
 class Slow(NamedTuple):
@@ -76,6 +97,8 @@ class Parameters(NamedTuple):
     words: int = 0
     #: What retries draw on.
     tickets: Limited = None
+    #: The spans with a rate of their own, in their order.
+    rates: Tuple[RateSpan, ...] = ()
 
     @property
     def last(self) -> int:
@@ -84,8 +107,13 @@ class Parameters(NamedTuple):
 
     @property
     def over(self) -> int:
-        """The moment from which on the peer is well again."""
-        return max(self.outage.ends, self.slow.ends if self.slow else 0)
+        """The moment from which on the peer is well again, and no surge comes."""
+        return max(self.outage.ends, self.slow.ends if self.slow else 0, *(surge.ends for surge in self.surges))
+
+    @property
+    def surges(self) -> List[RateSpan]:
+        """The spans with a greater rate than the storm's."""
+        return [span for span in self.rates if span.rate > self.rate]
 
     @property
     def away(self) -> int:
@@ -108,9 +136,11 @@ class Parameters(NamedTuple):
         return isinstance(self.tickets, LimitTerms) and self.tickets.denies_first_calls
 
     def weather(self) -> List[Tuple[int, int, str, str]]:
-        """The brown-out and the outage, where there are such: from when to when, in words, and their paint."""
+        """The brown-out, the outage and the surges, where there are such: from when to when, in words, and their
+        paint."""
         away = "peer away" if self.away == self.replicas else f"{self.away} of {self.replicas} replicas away"
         spans = [(self.outage.begins, self.outage.ends, away, "away")]
+        spans += [(begins, ends, f"{rate:,} requests/s", "shade") for begins, ends, rate in self.surges]
         if self.slow is not None:
             spans.insert(0, (self.slow.begins, self.slow.ends, f"peer at {self.slow.percent} %", "shade"))
         return [span for span in spans if span[0] < span[1]]
@@ -122,9 +152,7 @@ class Parameters(NamedTuple):
             if number is not None:
                 _look_at(name, number, *RANGES[name])
         _look_at("down", self.away, 1, self.replicas)
-        if self.rate * self.seconds > MAX_REQUESTS:
-            asked = f"{self.rate} a second for {self.seconds} s are {self.rate * self.seconds} requests"
-            raise StormError("rate", f"{asked}, and a storm has at most {MAX_REQUESTS}")
+        self._look_at_rates()
         for name, span in (("outage", self.outage), ("slow", self.slow or Span(0, 0))):
             for end in span[:2]:
                 _look_at(name, end, 0, _HOUR)
@@ -137,6 +165,47 @@ class Parameters(NamedTuple):
             raise StormError("window", f"{asked}, and a report has at most {MAX_WINDOWS + 1}")
         return self
 
+    def _look_at_rates(self) -> None:
+        """Looks at the spans with a rate of their own, and at how many requests come in all."""
+        if len(self.rates) > MAX_SPANS:
+            raise StormError("rates", f"expected at most {MAX_SPANS} spans, got {len(self.rates)}")
+        last = 0
+        for begins, ends, rate in self.rates:
+            for end in (begins, ends):
+                _look_at("rates", end, 0, _HOUR)
+            if begins >= ends:
+                raise StormError("rates", f"expected a span that ends after it begins, got {begins}..{ends}")
+            if begins < last:
+                raise StormError("rates", f"expected spans in their order, got {begins}..{ends} after one until {last}")
+            if not 0 <= rate <= RANGES["rate"][1]:
+                raise StormError("rates", f"expected 0 to {RANGES['rate'][1]} requests a second, got {rate}")
+            last = ends
+        if self.requests > MAX_REQUESTS:
+            spans = " and the spans" if self.rates else ""
+            asked = f"{self.rate} a second{spans} for {self.seconds} s are {self.requests} requests"
+            raise StormError("rates" if spans else "rate", f"{asked}, and a storm has at most {MAX_REQUESTS}")
+
+    @property
+    def requests(self) -> int:
+        """How many requests come in all, where the storm doesn't end before."""
+        end = self.seconds * 1000
+        begins = thousandths = 0
+        for until, rate in [*self.phases(), (end, self.rate)]:
+            thousandths += rate * max(0, min(until, end) - begins)
+            begins = until
+        return -(-thousandths // 1000)
+
+    def phases(self) -> List[Tuple[int, int]]:
+        """The phases of the rate: until which moment, and so many requests a second. The storm's rate has one before
+        each span that does not begin where another ends."""
+        found: List[Tuple[int, int]] = []
+        last = 0
+        for begins, ends, rate in self.rates:
+            found += [(begins, self.rate)] * (last < begins)
+            found.append((ends, rate))
+            last = ends
+        return found
+
     def for_engine(self) -> Storm:
         """The same as the engine takes them."""
         numbers: Dict[str, Any] = {name: getattr(self, name) for name in RANGES if name not in ("until", "down")}
@@ -144,6 +213,9 @@ class Parameters(NamedTuple):
         made.outage_from, made.outage_to = self.outage
         if self.slow is not None:
             made.slow_from, made.slow_to, made.slow_percent = self.slow
+        phases = self.phases()
+        made.phase_count = len(phases)
+        made.phases[: len(phases)] = [Phase(*phase) for phase in phases]
         if isinstance(self.tickets, LimitTerms):
             self.tickets.put_in(made)
         elif isinstance(self.tickets, Terms):

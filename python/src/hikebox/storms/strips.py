@@ -186,7 +186,7 @@ class Strips:
             self.picture.text(self.left + self.wide, y, denied, "soft", "end")
 
     def _draw_ground(self, bottom: float, tall: float, marks: Sequence[float]) -> None:
-        """The shades of the outage and the brown-out, and the lines of the scales."""
+        """The shades of the outage, the brown-out and the surges, and the lines of the scales."""
         for begins, ends, _, kind in self.storm.parameters.weather():
             self.picture.box(self._x(begins), bottom - tall, self._x(ends) - self._x(begins), tall, kind)
         times = "".join(f"M{self._x(mark * 1000):.1f} {bottom - tall:.1f}V{bottom:.1f}" for mark in self.axes.times)

@@ -4,7 +4,7 @@ from __future__ import annotations
 
 from typing import TYPE_CHECKING, List, Optional, Sequence, Tuple
 
-from .parameters import Parameters
+from .parameters import Parameters, RateSpan
 
 if TYPE_CHECKING:
     from ..storm import Storm, StormTotals
@@ -48,6 +48,8 @@ def recovery_mark(storm: Storm) -> Tuple[Optional[int], str]:
     recovered = storm.totals.recovered_ms
     if recovered is None:
         return None, "not back by the end"
+    if recovered == 0:  # (a surge that does no harm)
+        return None, "never down"
     return recovered, f"back at {_time(recovered)}"
 
 
@@ -79,6 +81,7 @@ def _took(totals: StormTotals) -> str:
 def setting(parameters: Parameters) -> str:
     """What a storm is played with, in a sentence."""
     come = f"{parameters.rate:,} requests a second for {parameters.seconds:,} s"
+    come += "".join(f", {_rate_span(span)}" for span in parameters.rates)
     if parameters.together > 1:
         come += f", {parameters.together:,} at a time"
     peer = f"a peer that does {parameters.capacity:,} calls a second"
@@ -93,9 +96,15 @@ def setting(parameters: Parameters) -> str:
     return f"{come} on {peer}; each call is given up after {_time(parameters.patience)}"
 
 
+def _rate_span(span: RateSpan) -> str:
+    return f"{span.rate:,} a second from {_time(span.begins)} to {_time(span.ends)}"
+
+
 def brief_setting(parameters: Parameters) -> str:
-    """The same in a line, without the outage and the brown-out."""
-    times = f"{parameters.together:,} at a time, " if parameters.together > 1 else ""
+    """The same in a line, without the outage, the brown-out and the surges."""
+    surges = parameters.surges
+    times = "".join(f"{_rate_span(span)}, " for span in parameters.rates if span not in surges)
+    times += f"{parameters.together:,} at a time, " if parameters.together > 1 else ""
     come = f"{parameters.rate:,} requests/s for {parameters.seconds:,} s, {times}"
     each = f"{parameters.replicas} replicas, each of " if parameters.replicas > 1 else ""
     peer = f"{each}capacity {parameters.capacity:,} calls/s, queue {parameters.queue:,}"
