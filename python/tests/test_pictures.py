@@ -427,6 +427,8 @@ def zsched_prints(played: Storm) -> str:
     parameters = played.parameters
     words = [f"--{name}={getattr(parameters, name)}" for name in RANGES if getattr(parameters, name) is not None]
     words.append(f"--outage={parameters.outage.begins}..{parameters.outage.ends}")
+    if parameters.rates:
+        words.append("--rates=" + ",".join("{}..{}@{}".format(*span) for span in parameters.rates))
     if parameters.slow is not None:
         words.append("--slow={}..{}@{}".format(*parameters.slow))
     if isinstance(parameters.tickets, Terms):
@@ -443,7 +445,7 @@ def test_the_storms_of_the_page_on_storms_are_those_that_zsched_prints(monkeypat
     if not program or subprocess.run([program, "storm", "--help"], capture_output=True).returncode:
         pytest.skip("HIKEBOX_ZSCHED names no zsched with storms")
     commands = re.findall(r"^hikebox (storm [^\n]*)$", (TOP / "docs" / STORMS).read_text(), flags=re.M)
-    assert len(commands) == 14
+    assert len(commands) == 15
     for command in commands:
         given = _parser().parse_args(shlex.split(command))
         for played in play_all(wanted_of(given, _policy).storms):
