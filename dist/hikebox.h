@@ -1003,24 +1003,34 @@ enum {
     HIKEBOX_ON_THROTTLE = 6
 };
 
+/* A phase of a storm's rate: from the end of the phase before it, or from 0, until this moment, so many requests a
+ * second come. */
+typedef struct {
+    /* The first moment after it: after the phase before it, and at most 3,600,000. */
+    uint64_t until;
+    /* Requests a second, 0 to 1,000,000. */
+    uint64_t rate;
+} hikebox_phase;
+
 /* A storm: many requests under one policy, on a peer that fails for a while. Moments and durations are in milliseconds,
  * from 0 on. HIKEBOX_STORM has usual numbers to begin with. */
 typedef struct {
     /* The size of this struct. */
     size_t size;
-    /* Requests a second, 1 to 1,000,000. */
+    /* Requests a second, 1 to 1,000,000; after the phases of the rate, if there are any. */
     uint64_t rate;
     /* Requests that come at one moment, 1 to 1,000,000. */
     uint64_t together;
-    /* For how long requests come, 1 to 3,600 seconds; rate x seconds is at most 1,048,576. */
+    /* For how long requests come, 1 to 3,600 seconds; in these come at most 1,048,576. */
     uint64_t seconds;
-    /* Calls that the peer can do in a second, 1 to 1,000,000. */
+    /* Calls that each replica of the peer can do in a second, 1 to 1,000,000. */
     uint64_t capacity;
     /* How long a client waits for a call before it gives up, 1 to 3,600,000. */
     uint64_t patience;
-    /* A call is shed if this many calls of work are ahead of it, 0 to 1,048,576. */
+    /* A call is shed if this many calls of work are ahead of it at its replica, 0 to 1,048,576. */
     uint64_t queue;
-    /* In outage_from <= moment < outage_to the peer refuses all calls; 0 <= from <= to <= 3,600,000. */
+    /* In outage_from <= moment < outage_to the peer refuses all calls, or as many replicas of it as `down` says; 0 <=
+     * from <= to <= 3,600,000. */
     uint64_t outage_from;
     uint64_t outage_to;
     /* In slow_from <= moment < slow_to the peer works at slow_percent, 1 to 100, of its capacity; 0 <= from <= to <=
@@ -1064,6 +1074,13 @@ typedef struct {
     /* A breaker's open times, of which the first `open_count` count, 1 to 64. */
     uint64_t open_count;
     uint64_t open_times[64];
+    /* How many replicas the peer is, 1 to 4. Each has the capacity and the queue; the calls go to them in turn. */
+    uint64_t replicas;
+    /* How many replicas refuse calls in the outage, the first ones, 1 to `replicas`; 0 for all. */
+    uint64_t down;
+    /* The phases of the rate, of which the first `phase_count` count, 0 to 16. */
+    uint64_t phase_count;
+    hikebox_phase phases[16];
 } hikebox_storm;
 
 /* 800 requests a second for a minute, on a peer that does 1,000 and is away from 10 to 20 s. */
@@ -1071,7 +1088,7 @@ typedef struct {
 #define HIKEBOX_STORM                                                                                                  \
     {                                                                                                                  \
         sizeof(hikebox_storm), 800, 1, 60, 1000, 500, 5000, 10000, 20000, 0, 0, 0, 1000, 120000, 16777216, 0,          \
-            HIKEBOX_ON_NOTHING, 0, 0, 0, 1, 0, 0, 0, 0, 0, 0, 0, 0, 0, 0, 0, 0, 0, { 0 }                               \
+            HIKEBOX_ON_NOTHING, 0, 0, 0, 1, 0, 0, 0, 0, 0, 0, 0, 0, 0, 0, 0, 0, 0, { 0 }, 1, 0, 0, { { 0, 0 } }        \
     }
 /* clang-format on */
 
@@ -1090,7 +1107,7 @@ typedef struct {
     uint64_t refused;
     uint64_t shed;
     uint64_t late;
-    /* The calls of work that stand at the peer at its end, rounded down. */
+    /* The calls of work that stand at the peer's replicas at its end, those of each rounded down. */
     uint64_t waiting;
 } hikebox_window;
 
