@@ -287,7 +287,8 @@ def test_a_retried_function() -> None:
 
 def test_each_run_of_a_repeat_is_a_call() -> None:
     # Two runs succeed. The third fails, and so does its retry, which opens the breaker.
-    breaker, calls = Breaker(2, spaced(30)), []
+    breaker = Breaker(2, spaced(30))
+    calls: list[int] = []
 
     @repeat(recurs(9))
     @retry(recurs(2), budget=breaker)
