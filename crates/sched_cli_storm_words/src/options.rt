@@ -111,10 +111,10 @@ fn too_many(parameters: &Parameters) -> &'static str {
     let windows = parameters.until.checked_div(parameters.window);
     if windows.unwrap_or(0) > MAX_WINDOWS {
         "'--until <M>' has more than 65536 times '--window <M>'"
-    } else if parameters.rates.count == 0 {
-        "'--rate <N>' times '--seconds <S>' is more than 1048576 requests"
     } else if parameters.down > parameters.replicas {
         "'--down <N>' is more than '--replicas <N>'"
+    } else if parameters.rates.count == 0 {
+        "'--rate <N>' times '--seconds <S>' is more than 1048576 requests"
     } else {
         "'--rates <FROM..TO@N,..>' and '--rate <N>' bring more than 1048576 requests in '--seconds <S>'"
     }
