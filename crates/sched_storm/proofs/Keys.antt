@@ -1,4 +1,4 @@
--- Keys: what one stands for, and what a heap of them holds where one is put in or taken out.
+-- Keys: what one stands for, and what an agenda of them holds where one is put in or taken out.
 use Rattle.std.proofs.Common.{◌≡◌, ℕ, zero, suc, ◌+◌, ◌-◌, ◌*◌, ◌/◌, ◌%◌, ◌<◌, ◌≤◌, Bool, true, false, cond, eqb}
 use Rattle.std.proofs.Common.{eqb-true, eq-eqb, Result, Ok, Err, OnOk, Option, Some, None, refl, sym, ◌∙◌, ap, subst}
 use Rattle.std.proofs.Common.{arith, add-zero, zero-add}
@@ -71,7 +71,7 @@ key_order_at s t h k e same =
     let less = code_few t.kind in
     omega arith
 
--- ---- what a heap holds
+-- ---- what an agenda holds
 
 is_this_one : (k : ℕ) (o : Option ℕ) → is_this k o ≡ true → o ≡ Some k
 is_this_one k None h = absurd (false≢true h)
