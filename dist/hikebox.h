@@ -10,6 +10,8 @@
  * requests have it. examples/c/retry.c is a whole program.
  *
  *     hikebox_next next = HIKEBOX_NEXT;
+ *     uint32_t report = HIKEBOX_NO_REPORT;
+ *     uint64_t code = 0;
  *     while (hikebox_retry_poll(&retry, now(), words(), report, code, &next) == HIKEBOX_OK
  *            && next.what != HIKEBOX_OVER) {
  *         report = HIKEBOX_NO_REPORT;
@@ -28,10 +30,10 @@
  * handle with HIKEBOX_INIT, which holds nothing. A call that makes something puts it into an empty handle. From then on
  * the handle owns it, until a call frees it, or takes it away and leaves the handle empty. A call is refused by a
  * status if a handle is empty, if it holds another kind (by a cast, or from a language that does not tell them apart),
- * or if the handle to fill already holds something. No call takes a handle as `const`, not even one that only reads:
- * during each call the library takes what the handle holds, and puts it back before the call returns. So two threads
- * must not read through one handle at once; for a policy, hikebox_policy_share gives the second thread a handle of its
- * own.
+ * or if the handle to fill already holds something. The handles of limits alone are not told apart from others: see
+ * WHAT THE PROGRAM OWES. No call takes a handle as `const`, not even one that only reads: during each call the library
+ * takes what the handle holds, and puts it back before the call returns. So two threads must not read through one
+ * handle at once; for a policy, hikebox_policy_share gives the second thread a handle of its own.
  *
  * STATUSES. Each call returns a hikebox_status. If it is not HIKEBOX_OK, nothing has changed: no handle, nothing that a
  * handle holds, and no result, unless the call's comment says otherwise. Each refusal has one status. If several apply,
@@ -50,6 +52,8 @@
  *    pointers overlap; a length is at most that of the memory. `words` points to four numbers.
  *  - A handle is HIKEBOX_INIT, or as a call of this library left it. It may be moved, but of two copies of one
  *    handle only one is used from then on.
+ *  - A hikebox_limit is given only to the calls hikebox_limit_.. and the makers of limits, and these get no other
+ *    handle, not even by a cast.
  *  - A handle is used by one thread at a time. It may go to another thread, ordered by a lock, by the start or
  *    the join of the thread, or by a sequentially consistent atomic. Different handles may be used by different
  *    threads at once, including passes and retries of one budget or of one quota: that is what these are for.
@@ -117,10 +121,10 @@ enum {
     HIKEBOX_FULL = 3,
     /* The system gave no memory. */
     HIKEBOX_NO_MEMORY = 4,
-    /* A moment, an input, a code or a period is above HIKEBOX_MAX_NUMBER; or a deadline is, other than
-     * HIKEBOX_NO_DEADLINE. */
+    /* A moment, a code or a period is above HIKEBOX_MAX_NUMBER; or a deadline is, other than HIKEBOX_NO_DEADLINE; or
+     * a moment of a breaker that a store keeps is 2^37 or later; or a range that is granted goes past 2^64 - 1. */
     HIKEBOX_TOO_LARGE = 5,
-    /* There are more bytes than room for them. */
+    /* There are more bytes, lines or windows than room for them. */
     HIKEBOX_NO_ROOM = 6,
     /* The `size` of a struct is not one that this library knows. */
     HIKEBOX_WRONG_SIZE = 7,
@@ -129,14 +133,15 @@ enum {
     HIKEBOX_NOT_JSON = 10,
     /* The JSON value, or a part of it that should be a policy, does not have the form of one. */
     HIKEBOX_NOT_A_POLICY = 11,
-    /* A parameter of a policy, of a course or of a storm is outside its range. */
+    /* A parameter of a policy, of a course, of a storm or of a limit is outside its range; or more than four limits
+     * would be joined. */
     HIKEBOX_OUT_OF_RANGE = 12,
     /* The policy is deeper than 32. */
     HIKEBOX_TOO_DEEP = 13,
     /* The policy has more than 256 nodes. */
     HIKEBOX_TOO_MANY = 14,
 
-    /* The window is before the one that a store counts. */
+    /* The window is before the one that a store counts, or that a leased pass is in. */
     HIKEBOX_BACKWARDS = 20,
 
     /* The limit is above HIKEBOX_MAX_TICKETS. */
@@ -147,7 +152,8 @@ enum {
      * says when the next window begins. Or a leased pass has no ticket at hand, and its store is not to be asked yet.
      */
     HIKEBOX_NO_TICKET = 32,
-    /* The pass of the budget or of the quota has one part, which it keeps. */
+    /* The pass of the budget or of the quota has one part, which it keeps; or the handle of a limit can't be split any
+     * more. */
     HIKEBOX_TOO_MANY_PASSES = 33,
     /* Another pass of the budget or of the quota is held somewhere, or was freed. */
     HIKEBOX_PASSES_OUT = 34,
@@ -157,7 +163,7 @@ enum {
     HIKEBOX_SHARE_TOO_LARGE = 36,
     /* The quota's period is below HIKEBOX_MIN_PERIOD. */
     HIKEBOX_PERIOD_TOO_SHORT = 37,
-    /* A step of a quota lost 64 races with others. */
+    /* A step of a quota or of a limit lost 64 races with others. */
     HIKEBOX_RACES_LOST = 38,
     /* The pass draws on no quota, whose terms could be set. */
     HIKEBOX_NO_TERMS = 39,
@@ -177,7 +183,8 @@ enum {
     HIKEBOX_LEASE_WANTED = 50,
     /* The ticket is not out: it was not drawn with this pass, was handed back already, or is of another window. */
     HIKEBOX_NOT_OUT = 51,
-    /* The range was granted already: the leased pass has, or had, some of its numbers. */
+    /* The range was granted already: the leased pass has some of its numbers, at hand or out, or had them in a span
+     * that it no longer keeps. */
     HIKEBOX_HELD_ALREADY = 52,
 
     /* A draw would take the bucket's level below its floor. */
@@ -243,8 +250,8 @@ HIKEBOX_CHECKED hikebox_status hikebox_policy_read(const char *json, size_t leng
  * Says what is wrong with a text that hikebox_policy_read refuses, and where, in the words of `zsched check`: the place
  * of the first fault, `top` or the steps to it, and what was expected there and what was found, such as
  *     meet[1].cap[1]: no node is called "exponental"; did you mean "exponential"?
- * or `not JSON: line 2, column 7: the text ends too soon`. The text is empty if it is a policy. The bytes, in UTF-8 with no zero
- * byte after them, are written to `text`, which has room for `capacity`, and their number to `length`.
+ * or `not JSON: line 2, column 7: the text ends too soon`. The text is empty if it is a policy. The bytes, in UTF-8
+ * with no zero byte after them, are written to `text`, which has room for `capacity`, and their number to `length`.
  * HIKEBOX_NO_MEMORY; _NO_ROOM, and then `length` is the room that is needed.
  */
 HIKEBOX_CHECKED hikebox_status hikebox_policy_fault(const char *json, size_t json_length, char *text, size_t capacity,
@@ -363,19 +370,20 @@ hikebox_status hikebox_policy_free(hikebox_policy *policy);
  * hikebox_pass_deposit.
  *
  * If a quota carries, each window may first draw, once, what the window before left of its share: the share of its
- * requests, or what it could still have given if that is less, by the terms that the first draw of the later window
- * reads. Each window then gives at most 2^31 tickets of its own, and leaves at most as many. So over any run of windows
- * the tickets are at most a reserve for each window, and the share of the requests of these windows and of the one
- * before the first.
+ * requests, or what it could still have given if that is less, by the terms that the first granted draw of the later
+ * window reads. Each window then gives at most 2^31 tickets of its own, and leaves at most as many. So over any run of
+ * windows the tickets are at most a reserve for each window, and the share of the requests of these windows and of the
+ * one before the first.
  *
- * Windows are counted from the one in which the quota is made. A deposit, a draw and a look open the window of their
- * own moment for all passes of the quota, and no other: the windows between give no ticket. From then on it is the
- * latest window, and a call with an earlier moment counts in the latest window. So if every clock is right, there are
- * between two moments that are n periods apart at most n + 2 reserves and the shares of the requests, however long the
- * quota was idle (and if it carries, the share of the requests of the window before them). Each call whose clock is
- * ahead adds at most one reserve and its share; no other window begins before `next` of hikebox_usage, which is then
- * that far ahead. A window counts 2^32 requests; those past them open the next window before its time, with its
- * reserve. The last window has the number 2999999999, and contains each later moment; it counts no requests past 2^32.
+ * Windows are counted from the one in which the quota is made. A deposit, a draw (even one that gets no ticket) and a
+ * look open the window of their own moment for all passes of the quota, and no other: the windows between give no
+ * ticket. From then on it is the latest window, and a call with an earlier moment counts in the latest window. So if
+ * every clock is right, there are between two moments that are n periods apart at most n + 2 reserves and the shares of
+ * the requests, however long the quota was idle (and if it carries, the share of the requests of the window before
+ * them). Each call whose clock is ahead adds at most one reserve and its share; no other window begins before `next` of
+ * hikebox_usage, which is then that far ahead. With its 2^32nd request a window ends before its time, and the next one
+ * begins, with its reserve. The last window that a moment opens has the number 2999999999, and contains each later
+ * moment; once it has had 2^32 requests, those of later calls are not counted.
  *
  * Nothing grants each draw, and counts it: the policy alone bounds the retries.
  */
@@ -584,9 +592,9 @@ typedef struct {
  * none. Requests are counted by sixteenths of a window. HIKEBOX_FULL; _TOO_LARGE; _NO_MEMORY. */
 HIKEBOX_CHECKED hikebox_status hikebox_leased_new(uint64_t period, hikebox_leased *leased);
 
-/* Draws a ticket at the moment `now`, and first one that came back. HIKEBOX_TOO_LARGE; _EMPTY; _WRONG_KIND;
- * _LEASE_WANTED: none is at hand, or the window is over, and the store may be asked; _NO_TICKET: the same, and the
- * store is not to be asked before the moment written to `again`; _NO_MEMORY. */
+/* Draws one of the tickets at hand, at the moment `now`. HIKEBOX_TOO_LARGE; _EMPTY; _WRONG_KIND; _LEASE_WANTED: none
+ * is at hand, or the window is over, and the store may be asked; _NO_TICKET: the same, and the store is not to be asked
+ * before the moment written to `again`; _NO_MEMORY. */
 HIKEBOX_CHECKED hikebox_status hikebox_leased_draw(hikebox_leased *leased, uint64_t now, hikebox_ticket *ticket,
                                                    uint64_t *again);
 
@@ -594,13 +602,13 @@ HIKEBOX_CHECKED hikebox_status hikebox_leased_draw(hikebox_leased *leased, uint6
  * Takes what the store granted. A range of the pass's window is added to what the pass has; the window ends at the
  * earliest end that was given for it. A range of a later window takes the pass to that window, and the pass has nothing
  * of the earlier one any more. After a range with tickets the store may be asked as soon as they are used up, and after
- * one without any once the window is over. HIKEBOX_TOO_LARGE, of `until`; _EMPTY; _WRONG_KIND; _TOO_LARGE, of first +
+ * one without any from its `until` on. HIKEBOX_TOO_LARGE, of `until`; _EMPTY; _WRONG_KIND; _TOO_LARGE, of first +
  * tickets past 2^64 - 1; _BACKWARDS: it is of a window before the pass's, and its tickets are lost; _HELD_ALREADY;
  * _NO_MEMORY.
  */
 HIKEBOX_CHECKED hikebox_status hikebox_leased_granted(hikebox_leased *leased, const hikebox_grant *grant);
 
-/* Does not ask the store before this moment, for instance after it failed: until then a draw that needs a lease returns
+/* Leaves the store alone until this moment, for instance after it failed: before it, a draw that needs a lease returns
  * _NO_TICKET. 0 ends that. HIKEBOX_TOO_LARGE; _EMPTY; _WRONG_KIND. */
 HIKEBOX_CHECKED hikebox_status hikebox_leased_leave_alone(hikebox_leased *leased, uint64_t until);
 
@@ -623,7 +631,9 @@ HIKEBOX_CHECKED hikebox_status hikebox_leased_seen(hikebox_leased *leased, uint6
                                                    uint64_t *untold);
 
 /* Gives up to `tickets` of those at hand, in one range, to another pass of the same limit, which takes what is written
- * to `grant` by hikebox_leased_granted. HIKEBOX_EMPTY; _WRONG_KIND; _NO_TICKET: none is at hand, or `tickets` is 0. */
+ * to `grant` by hikebox_leased_granted. From then on `leased` may take these tickets again, as when they are lent back:
+ * so hand it no answer of the store twice. HIKEBOX_EMPTY; _WRONG_KIND; _NO_TICKET: none is at hand, or `tickets` is 0.
+ */
 HIKEBOX_CHECKED hikebox_status hikebox_leased_lend(hikebox_leased *leased, uint64_t tickets, hikebox_grant *grant);
 
 /* Frees the pass, with what it has. HIKEBOX_EMPTY; _WRONG_KIND. */
@@ -636,6 +646,7 @@ hikebox_status hikebox_leased_free(hikebox_leased *leased);
  * makers differ, and the calls don't. Each thread asks with a handle of its own, which hikebox_limit_split gives it. A
  * handle serves one request at a time. A call takes no lock and no memory, and never waits.
  *
+ *     won = false;
  *     status = hikebox_limit_admit(&limit, now(), random(), &number);
  *     while (status == HIKEBOX_OK && !(won = run())) {
  *         hikebox_limit_failed(&limit, now());
@@ -650,12 +661,13 @@ hikebox_status hikebox_leased_free(hikebox_leased *leased);
  *     hikebox_limit_ended(&limit);
  *
  * All calls on a limit, with any handles and from any threads, act as one sequence: each acts on the state that the one
- * before it left. What a request holds, which is its place among the requests in flight and the slot of its retry, is
- * given back once: when the request ends, or when its handle is freed. `random` is a random number of 32 bits, which
- * only a throttle reads. `cost` is in thousandths of a token, and only a bucket reads it. `number` is written if the
- * call is refused: the level of the bucket, or the moment until which the breaker is open, and otherwise 0.
+ * before it left. A request holds its place among the requests in flight, and the slot of its retry. When it ends, or
+ * when its handle is freed, what it still holds is given back, once. `random` is a random number of 32 bits, which only
+ * a throttle reads. `cost` is in thousandths of a token, and only a bucket reads it. `number` is written if the call is
+ * refused: the level of the bucket, or the moment until which the breaker is open, and otherwise 0.
  *
- * A handle of a limit is told apart from other handles by its C type alone. No cast may make one of another handle.
+ * A handle of a limit is told apart from other handles by its C type alone. No cast may make one of another handle, nor
+ * another handle of one.
  */
 
 /* A bucket. Its levels are in thousandths of a token, and it is full at first. */
@@ -678,8 +690,8 @@ typedef struct {
  * retry is granted while more than half are left. A draw costs nothing. */
 #define HIKEBOX_BUCKET_GRPC(max_tokens, token_ratio)                                                                   \
     {                                                                                                                  \
-        sizeof(hikebox_bucket), UINT64_C(1000) * (max_tokens), UINT64_C(500) * (max_tokens) + 1, 1000, (token_ratio),  \
-            false                                                                                                      \
+        sizeof(hikebox_bucket), UINT64_C(1000) * (max_tokens), UINT64_C(500) * (max_tokens) + 1, 1000,                 \
+            UINT64_C(1) * (token_ratio), false                                                                         \
     }
 
 /* The standard mode of the AWS SDKs: 500 tokens. A draw costs 5,000 thousandths, and 10,000 after a timeout. */
@@ -692,8 +704,8 @@ HIKEBOX_CHECKED hikebox_status hikebox_bucket_new(const hikebox_bucket *bucket, 
 /*
  * Makes a bound on the retries in flight: the greater of `least`, and `share` thousandths of the requests in flight.
  * For Envoy's retry_budget, `least` is `min_retry_concurrency` (3 by default), and `share` is ten times
- * `budget_percent` (200 by default). A retry is in flight from its draw to the request's next draw or its end.
- * HIKEBOX_FULL; _NO_MEMORY.
+ * `budget_percent` (200 by default). A retry is in flight from its draw to the request's next draw or its end, or until
+ * it is cancelled. HIKEBOX_FULL; _NO_MEMORY.
  */
 HIKEBOX_CHECKED hikebox_status hikebox_in_flight_new(uint32_t least, uint32_t share, hikebox_limit *limit);
 
@@ -716,34 +728,38 @@ typedef struct {
 /*
  * Makes a breaker at the moment `now`, which is closed. It is open for the first of these `count` times, in
  * milliseconds, and for the next one each time that a probe fails. After the last one, it is that one again. A policy
- * gives such times by hikebox_policy_course: `start` less `moment` of each line. HIKEBOX_WRONG_SIZE; _TOO_LARGE, of the
- * moment; _FULL; _OUT_OF_RANGE, of a number of the breaker, and if there are no times, or more than 64; _NO_MEMORY.
+ * gives such times by hikebox_policy_course: `start` less `moment` of each line. The clock of a breaker stands still
+ * from 2^37 - 1 ms after `now` on, which is more than four years: make a new one before then. HIKEBOX_WRONG_SIZE;
+ * _TOO_LARGE, of the moment; _FULL; _OUT_OF_RANGE, of a number of the breaker, and if there are no times, or more than
+ * 64; _NO_MEMORY.
  */
 HIKEBOX_CHECKED hikebox_status hikebox_breaker_new(uint64_t now, const hikebox_breaker *breaker, const uint64_t *times,
                                                    size_t count, hikebox_limit *limit);
 
 /*
  * Makes a throttle at the moment `now`. It counts requests and accepts over two windows of `period` milliseconds, the
- * present one and the one before. It refuses a request or a retry with the probability
- * (requests - ratio/1000 x accepts) / (requests + 1), if that is above 0. The SRE book has a ratio of 2000 over two
- * minutes, a period of 60000. A window counts at most 1,048,575 requests, and as many accepts. HIKEBOX_TOO_LARGE, of
- * the moment; _FULL; _OUT_OF_RANGE: the ratio is below 1000, or the period is 0 or above HIKEBOX_MAX_NUMBER;
- * _NO_MEMORY.
+ * present one and the one before; the first begins at `now`. It refuses a request or a retry with the probability
+ * (requests - ratio/1000 x accepts) / (requests + 1), if that is above 0, and counts what it refuses as a request too.
+ * The SRE book has a ratio of 2000 over two minutes, a period of 60000. A window counts at most 1,048,575 requests, and
+ * as many accepts. HIKEBOX_TOO_LARGE, of the moment; _FULL; _OUT_OF_RANGE: the ratio is below 1000, or the period is 0
+ * or above HIKEBOX_MAX_NUMBER; _NO_MEMORY.
  */
 HIKEBOX_CHECKED hikebox_status hikebox_throttle_new(uint64_t now, uint32_t ratio, uint64_t period,
                                                     hikebox_limit *limit);
 
 /*
  * Joins the limits of another handle into `limit`, whose own are asked first; `second` is then empty. From then on all
- * admit a request or grant a retry, or none is charged: if one refuses, what those before it gave comes back. Put a
- * breaker last, since a probe that it admitted does not come back. HIKEBOX_EMPTY; _OUT_OF_RANGE: they are more than
- * four; both handles are then as they were.
+ * admit a request or grant a retry, or none is charged: if one refuses, what those before it gave comes back. Put
+ * breakers and throttles last: a probe that a breaker admitted does not come back, nor does what a throttle counted.
+ * A draw takes the same `cost` of each bucket among them. HIKEBOX_EMPTY; _OUT_OF_RANGE: they are more than four; both
+ * handles are then as they were.
  */
 HIKEBOX_CHECKED hikebox_status hikebox_limit_both(hikebox_limit *limit, hikebox_limit *second);
 
 /* Puts another handle of the same limit, which has no request, into `part`. A handle that was made is split up to 2^42
- * times, one that was split off it fewer than 2^20 times, and one that was split off that never: so join handles that
- * were split off makers' handles. HIKEBOX_FULL; _EMPTY; _NO_MEMORY; _TOO_MANY_PASSES. */
+ * times, one that was split off it fewer than 2^20 times, and one that was split off that never. So give
+ * hikebox_limit_both handles that were made, or that were split off those. HIKEBOX_FULL; _EMPTY; _NO_MEMORY;
+ * _TOO_MANY_PASSES. */
 HIKEBOX_CHECKED hikebox_status hikebox_limit_split(hikebox_limit *limit, hikebox_limit *part);
 
 /*
@@ -769,7 +785,8 @@ hikebox_status hikebox_limit_failed(hikebox_limit *limit, uint64_t now);
 /* Reports that a run succeeded. HIKEBOX_TOO_LARGE; _EMPTY. */
 hikebox_status hikebox_limit_succeeded(hikebox_limit *limit, uint64_t now);
 
-/* Reports that the retry drawn last is cancelled while it waits: what it cost comes back, once. HIKEBOX_EMPTY. */
+/* Reports that the retry drawn last is cancelled while it waits: what it cost and its slot come back, once.
+ * HIKEBOX_EMPTY. */
 hikebox_status hikebox_limit_cancelled(hikebox_limit *limit);
 
 /* Reports that the request is over, however it ended: what it holds is given back, once. HIKEBOX_EMPTY. */
@@ -794,7 +811,8 @@ hikebox_status hikebox_limit_free(hikebox_limit *limit);
  * However the steps of all processes follow one another, they act as one sequence of calls on one limit, also if a
  * process is killed between two of them. What its request drew of a bucket is then lost, and a probe of a breaker is
  * over at its deadline. That holds for a store that keeps its word; it does not hold for one that goes back to an
- * earlier one. The moments of all processes count from one start, such as that of the machine.
+ * earlier one. The moments of all processes count from one start, such as that of the machine. A breaker's are below
+ * 2^37 ms, which is more than four years, so don't count them from 1970.
  *
  * There is no such call for a bound on the retries in flight, where a killed process would hold its place for ever, nor
  * for a throttle, which has two words.
@@ -810,11 +828,11 @@ typedef struct {
 typedef struct {
     /* Whether it is admitted, and not over. */
     bool counted;
-    /* Whether its last draw was granted and not cancelled, and what that cost. */
+    /* Whether its last draw was granted and not cancelled, the slot that it then holds, and what it cost. */
     bool drew;
     uint64_t slots;
     uint64_t cost;
-    /* Which runs are told of: those that were admitted in the same state of the limit. */
+    /* The generation and the state of the breaker in which the run was admitted: its result counts in these alone. */
     uint64_t generation;
 } hikebox_request;
 
@@ -825,7 +843,7 @@ enum {
     HIKEBOX_TELL_FAILED = 2,
     HIKEBOX_TELL_SUCCEEDED = 3,
     HIKEBOX_TELL_CANCELLED = 4,
-    HIKEBOX_TELL_ENDED = 5,
+    HIKEBOX_TELL_ENDED = 5
 };
 
 /* One call of a request, at this moment. `cost` is that of a draw. */
@@ -836,18 +854,18 @@ typedef struct {
 } hikebox_told;
 
 /*
- * Makes a call of a request on a bucket. `kept` then has what the store must keep, and `request` what the request holds,
- * also if the call is refused by the limit, that is by _LEVEL_LOW or _OUT_OF_TURN; `number` is then as for a limit in
- * memory. HIKEBOX_WRONG_SIZE; _OUT_OF_RANGE, of a number of the bucket or of the call; _TOO_LARGE, of the moment;
- * _LEVEL_LOW; _OUT_OF_TURN.
+ * Makes a call of a request on a bucket. `kept` then has what the store must keep, and `request` what the request
+ * holds, also if the call is refused by the limit, that is by _LEVEL_LOW or _OUT_OF_TURN; `number` is then as for a
+ * limit in memory. HIKEBOX_WRONG_SIZE; _OUT_OF_RANGE, of a number of the bucket or of the call; _TOO_LARGE, of the
+ * moment; _LEVEL_LOW; _OUT_OF_TURN.
  */
 HIKEBOX_CHECKED hikebox_status hikebox_bucket_step(const hikebox_bucket *bucket, const hikebox_told *told,
                                                    hikebox_kept *kept, hikebox_request *request, uint64_t *number);
 
 /*
  * The same on a breaker with these `count` open times. HIKEBOX_WRONG_SIZE; _OUT_OF_RANGE, of a number of the breaker or
- * of the call, and if there are no times, or more than 64; _TOO_LARGE, of the moment; _BREAKER_OPEN; _PROBING;
- * _OUT_OF_TURN.
+ * of the call, and if there are no times, or more than 64; _TOO_LARGE, of a moment from 2^37 on; _BREAKER_OPEN;
+ * _PROBING; _OUT_OF_TURN.
  */
 HIKEBOX_CHECKED hikebox_status hikebox_breaker_step(const hikebox_breaker *breaker, const uint64_t *times, size_t count,
                                                     const hikebox_told *told, hikebox_kept *kept,
@@ -968,9 +986,9 @@ typedef struct {
 
 /*
  * Reports a whole run in one call. It does what hikebox_retry_poll does at `began` with HIKEBOX_NO_REPORT, and then at
- * `ended` with the report, and writes what is next then. A program that waits for each planned start and makes its runs by
- * itself needs no other call between two failures. HIKEBOX_WRONG_SIZE; _TOO_LARGE, of either moment; _NO_SUCH_REPORT;
- * _TOO_LARGE, of the code; _EMPTY; _WRONG_KIND; _NO_RUN, if no run may begin at `began`.
+ * `ended` with the report, and writes what is next then. A program that waits for each planned start and makes its runs
+ * by itself needs no other call between two failures. HIKEBOX_WRONG_SIZE; _TOO_LARGE, of either moment;
+ * _NO_SUCH_REPORT; _TOO_LARGE, of the code; _EMPTY; _WRONG_KIND; _NO_RUN, if no run may begin at `began`.
  */
 HIKEBOX_CHECKED hikebox_status hikebox_retry_ran(hikebox_retry *retry, const hikebox_run *run, hikebox_next *next);
 
@@ -1006,14 +1024,26 @@ enum {
 /* A phase of a storm's rate: from the end of the phase before it, or from 0, until this moment, so many requests a
  * second come. */
 typedef struct {
-    /* The first moment after it: after the phase before it, and at most 3,600,000. */
+    /* The first moment after it: later than that of the phase before it, and at most 3,600,000. */
     uint64_t until;
     /* Requests a second, 0 to 1,000,000. */
     uint64_t rate;
 } hikebox_phase;
 
-/* A storm: many requests under one policy, on a peer that fails for a while. Moments and durations are in milliseconds,
- * from 0 on. HIKEBOX_STORM has usual numbers to begin with. */
+/* A population of clients of a storm, beside the first one. Each population has its policy. */
+typedef struct {
+    /* Its share of the requests, in per cent; 0 if there is no such population. */
+    uint64_t share;
+    /* How long a client waits for a call before it gives up, 1 to 3,600,000; 0 to 3,600,000 if the share is 0. */
+    uint64_t patience;
+    /* Whether it draws on what the storm's `draws_on` says, as the first population does: 1; or on nothing, and then no
+     * limit refuses its first calls, and no quota counts its requests: 0. */
+    uint64_t limited;
+} hikebox_population;
+
+/* A storm: many requests, on a peer that fails for a while. All are under one policy, or they are of up to four
+ * populations of clients, each with its policy. Moments and durations are in milliseconds, from 0 on. HIKEBOX_STORM has
+ * usual numbers to begin with. */
 typedef struct {
     /* The size of this struct. */
     size_t size;
@@ -1025,12 +1055,12 @@ typedef struct {
     uint64_t seconds;
     /* Calls that each replica of the peer can do in a second, 1 to 1,000,000. */
     uint64_t capacity;
-    /* How long a client waits for a call before it gives up, 1 to 3,600,000. */
+    /* How long a client of the first population waits for a call before it gives up, 1 to 3,600,000. */
     uint64_t patience;
     /* A call is shed if this many calls of work are ahead of it at its replica, 0 to 1,048,576. */
     uint64_t queue;
-    /* In outage_from <= moment < outage_to the peer refuses all calls, or as many replicas of it as `down` says; 0 <=
-     * from <= to <= 3,600,000. */
+    /* In outage_from <= moment < outage_to the peer refuses all calls, or `down` of its replicas do; 0 <= from <= to
+     * <= 3,600,000. */
     uint64_t outage_from;
     uint64_t outage_to;
     /* In slow_from <= moment < slow_to the peer works at slow_percent, 1 to 100, of its capacity; 0 <= from <= to <=
@@ -1081,14 +1111,23 @@ typedef struct {
     /* The phases of the rate, of which the first `phase_count` count, 0 to 16. */
     uint64_t phase_count;
     hikebox_phase phases[16];
+    /* The populations beside the first one, which has the share that these leave: their shares add up to at most 99. Of
+     * each hundred requests that come in order, each population has exactly its share, spread out. */
+    hikebox_population second;
+    hikebox_population third;
+    hikebox_population fourth;
+    /* The population whose requests the report is on, 1 for the first to 4; 0 for all requests. That population has a
+     * share. */
+    uint64_t of;
 } hikebox_storm;
 
-/* 800 requests a second for a minute, on a peer that does 1,000 and is away from 10 to 20 s. */
+/* 800 requests a second for a minute, on a peer that does 1,000 and is down from 10 to 20 s. */
 /* clang-format off */
 #define HIKEBOX_STORM                                                                                                  \
     {                                                                                                                  \
         sizeof(hikebox_storm), 800, 1, 60, 1000, 500, 5000, 10000, 20000, 0, 0, 0, 1000, 120000, 16777216, 0,          \
-            HIKEBOX_ON_NOTHING, 0, 0, 0, 1, 0, 0, 0, 0, 0, 0, 0, 0, 0, 0, 0, 0, 0, { 0 }, 1, 0, 0, { { 0, 0 } }        \
+            HIKEBOX_ON_NOTHING, 0, 0, 0, 1, 0, 0, 0, 0, 0, 0, 0, 0, 0, 0, 0, 0, 0, { 0 }, 1, 0, 0, { { 0, 0 } },       \
+            { 0, 0, 0 }, { 0, 0, 0 }, { 0, 0, 0 }, 0                                                                   \
     }
 /* clang-format on */
 
@@ -1107,7 +1146,8 @@ typedef struct {
     uint64_t refused;
     uint64_t shed;
     uint64_t late;
-    /* The calls of work that stand at the peer's replicas at its end, those of each rounded down. */
+    /* The calls of work that stand at the peer's replicas at its end, those of each rounded down; 0 in a report on one
+     * population. */
     uint64_t waiting;
 } hikebox_window;
 
@@ -1125,7 +1165,8 @@ typedef struct {
     /* The calls that were begun, and those for each request, in hundredths. */
     uint64_t calls;
     uint64_t hundredths;
-    /* The most calls begun in a window, and the first moment of the first such window. */
+    /* The most calls begun in a window, and the first moment of the first window with so many. A request that a limit
+     * denied before its first call counts as a call here. */
     uint64_t most_calls;
     uint64_t most_from;
     /* The tickets that were given. */
@@ -1145,14 +1186,26 @@ typedef struct {
 #define HIKEBOX_TOTALS                                                                                                 \
     { sizeof(hikebox_totals), 0, 0, 0, 0, 0, 0, 0, 0, 0, 0, 0, 0, 0, 0, false, false }
 
-/* Plays a storm of requests under the policy, as `zsched storm` does. Its windows go to `windows`, which has room for
- * `capacity`, their number to `count`, and its totals to `totals`. The room that is needed is until / window, rounded
- * down, and one more. Two calls with the same parameters write the same. The call returns once the whole storm is
- * played; only `calls` cuts it short. HIKEBOX_WRONG_SIZE, of the storm or the totals; _OUT_OF_RANGE, of a parameter;
- * _NO_ROOM, and then `count` is the room that is needed; _EMPTY; _WRONG_KIND; _NO_MEMORY. */
+/* Plays a storm of requests under the policy, as `zsched storm` does; all populations have it. The windows of its
+ * report go to `windows`, which has room for `capacity`, their number to `count`, and its totals to `totals`. The room
+ * that is needed is until / window, rounded down, and one more. A report on one population counts its requests and
+ * their calls alone, and its last window is that of their last event. Two calls with the same parameters write the
+ * same. The call returns once the whole storm is played; only `calls` cuts it short. HIKEBOX_WRONG_SIZE, of the storm
+ * or the totals; _OUT_OF_RANGE, of a parameter; _NO_ROOM, and then `count` is the room that is needed; _EMPTY;
+ * _WRONG_KIND; _NO_MEMORY. */
 HIKEBOX_CHECKED hikebox_status hikebox_storm_play(hikebox_policy *policy, const hikebox_storm *storm,
                                                   hikebox_window *windows, size_t capacity, size_t *count,
                                                   hikebox_totals *totals);
+
+/* The same, of populations of which each has its own policy: `policy` is that of the first population. A further
+ * handle that is empty stands for the first one's policy. All policies stay in their handles. Pass four different
+ * handles, even for the same policy. For a report on each population, play the same storm once for each, with another
+ * `of`. HIKEBOX_WRONG_SIZE, of the storm or the totals; _OUT_OF_RANGE, of a parameter; _NO_ROOM, and then `count` is
+ * the room that is needed; _EMPTY, of `policy`; _WRONG_KIND, of any of the four; _NO_MEMORY, at any point. */
+HIKEBOX_CHECKED hikebox_status hikebox_storm_play_populations(hikebox_policy *policy, hikebox_policy *second,
+                                                              hikebox_policy *third, hikebox_policy *fourth,
+                                                              const hikebox_storm *storm, hikebox_window *windows,
+                                                              size_t capacity, size_t *count, hikebox_totals *totals);
 
 #ifdef __cplusplus
 }

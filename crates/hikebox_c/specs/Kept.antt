@@ -1,7 +1,7 @@
 -- What a step makes of a word that a store keeps, and of what its request holds, as C keeps them.
 use Rattle.std.specs.Prelude.{◌≡◌, ◌⊎◌, ℕ, ◌==◌, nat_lt, true, if◌then◌else◌, Option, Some, None, Result, Ok, Err}
-use Rattle.sched_time.specs.declared.numbers.TheConstants.{FAR}
 use Rattle.sched_limit.specs.declared.breaker.Breaker.{Breaker}
+use Rattle.sched_limit.specs.declared.breaker_machine.TheConstants.{LAST_MOMENT}
 use Rattle.sched_limit_request.specs.Requests.{Rules}
 use Rattle.sched_limit_request.specs.declared.request.Request.{Request}
 use Rattle.sched_limit_kept.specs.Kept.{answer_of, request_after, word_after}
@@ -29,10 +29,10 @@ told_by call now cost =
     else Ended
 
 -- there is no other call, nor a moment past the last one
-abbrev pub told_of : ToldGiven → Result Told Status
-told_of t =
+abbrev pub told_of : ℕ → ToldGiven → Result Told Status
+told_of last t =
     if nat_lt 5 t.call then Err OutOfRange
-    else if nat_lt FAR t.at then Err TooLarge
+    else if nat_lt last t.at then Err TooLarge
     else Ok (told_by t.call t.at t.cost)
 
 -- what a request holds
@@ -62,16 +62,12 @@ pub record Steps (m : Rules) (first : ℕ) (told : Told) (code : ℕ) (found lef
   pub told_as : TellsRefusal code found.2 left.2 (answer_of m told (request_of found.1) (word_in first found.0))
 
 -- the same of what a request tells, or the refusal of what was given
-abbrev pub DoesTold : Rules → ℕ → Result Told Status → ℕ → Found → Found → Type 0
-DoesTold m first (Ok told) code found left = Steps m first told code found left
-DoesTold m first (Err why) code found left = IsUnmoved why code found left
+abbrev pub Does : Rules → ℕ → Result Told Status → ℕ → Found → Found → Type 0
+Does m first (Ok told) code found left = Steps m first told code found left
+Does m first (Err why) code found left = IsUnmoved why code found left
 
--- a step of this machine, where there is such a call and such a moment
-abbrev pub Does : Rules → ℕ → ToldGiven → ℕ → Found → Found → Type 0
-Does m first told code found left = DoesTold m first (told_of told) code found left
-
--- a breaker with so many open times, whose clock begins at 0, does so, if there is one
+-- A breaker with so many open times, whose clock begins at 0, does so, if there is one.
 abbrev pub BreakerDoes : BreakerGiven → ℕ → ToldGiven → ℕ → Found → Found → Type 0
 BreakerDoes b count told code found left =
-    ((c : Breaker) × IsBreakerOf 0 b count c × Does (breaker_rules c) 0 told code found left)
+    ((c : Breaker) × IsBreakerOf 0 b count c × Does (breaker_rules c) 0 (told_of LAST_MOMENT told) code found left)
     ⊎ IsUnmoved OutOfRange code found left

@@ -1,5 +1,6 @@
 //! Limits whose word a store keeps: one call of a request is one step of the store.
-ghost use Rattle.std.specs.Prelude.{◌≡◌, ◌≢◌, ◌<◌, length, IfSome, IfNone};
+ghost use Rattle.std.specs.Prelude.{◌≡◌, ◌≢◌, ◌<◌, ◌≤◌, length, IfSome, IfNone};
+ghost use Rattle.sched_time.specs.declared.numbers.TheConstants.{FAR};
 ghost use Rattle.sched_limit.specs.Bucket.{AreTerms};
 ghost use Rattle.sched_limit_request.specs.Requests.{rules};
 ghost use Rattle.sched_limit_kept.specs.Laws.{bucket_rules};
@@ -11,11 +12,11 @@ ghost use Rattle.hikebox_c.specs.Kept.{told_of, told_by, request_of, drawn_of, w
 use crate::limits::{
     BREAKER_SIZE, BUCKET_SIZE, BreakerGiven, BucketGiven, breaker_of, bucket_of, tell_refusal,
 };
-use sched_limit::{Breaker, Refuses};
+use sched_limit::{Breaker, LAST_MOMENT, Refuses};
 use sched_limit_handle::Status;
 use sched_limit_kept::{Told, tell};
 use sched_limit_request::Request;
-use sched_time::Moment;
+use sched_time::{FAR, Moment};
 
 /// What a store keeps of a limit: its word, if it knows the limit.
 #[repr(C)]
@@ -104,15 +105,19 @@ impl KeptGiven {
 }
 
 impl ToldGiven {
-    // What the request tells, if there is such a call and such a moment.
-    fn told(&self) -> Result<Told, Status>
-        ensures { result ≡ told_of self.now }
+    // What the request tells, if there is such a call, by the last moment that there may be.
+    fn told(&self, last: u64) -> Result<Told, Status>
+        requires { last ≤ FAR }
+        ensures { result ≡ told_of last self.now }
     {
         if self.call > 5 {
             return Err(Status::OutOfRange);
         }
-        let Some(now) = Moment::new(self.at) else {
+        if self.at > last {
             return Err(Status::TooLarge);
+        }
+        let Some(now) = Moment::new(self.at) else {
+            unreachable!()
         };
         let Some(told) = told_by(self.call, now, self.cost) else {
             unreachable!()
@@ -134,7 +139,7 @@ pub extern "C" fn hikebox_bucket_step(
     ensures unsound { terms.now.size ≡ 48 → (AreTerms (bucket_of terms.now) → ⊥) →
         IsUnmoved status.OutOfRange result (kept.old, held.old, number.old) (kept.new, held.new, number.new) }
     ensures does { terms.now.size ≡ 48 → AreTerms (bucket_of terms.now) →
-        Does (bucket_rules (bucket_of terms.now)) terms.now.capacity told.now result
+        Does (bucket_rules (bucket_of terms.now)) terms.now.capacity (told_of FAR told.now) result
         (kept.old, held.old, number.old) (kept.new, held.new, number.new) }
 {
     if terms.size != BUCKET_SIZE {
@@ -144,7 +149,7 @@ pub extern "C" fn hikebox_bucket_step(
     if !bucket.is_sound() {
         return Status::OutOfRange.code();
     }
-    does(&bucket, told, kept, held, number)
+    does(&bucket, told.told(FAR), kept, held, number)
 }
 
 #[unsafe(no_mangle)]
@@ -165,7 +170,7 @@ pub extern "C" fn hikebox_breaker_step(
         return Status::WrongSize.code();
     }
     match breaker_at_zero(terms, times) {
-        Some(breaker) => does(&breaker, told, kept, held, number),
+        Some(breaker) => does(&breaker, told.told(LAST_MOMENT), kept, held, number),
         None => Status::OutOfRange.code(),
     }
 }
@@ -199,16 +204,16 @@ fn told_by(call: u32, now: Moment, cost: u64) -> Option<Told>
 // Makes a call that was given, if there is such a one, and tells what comes of it.
 fn does<M: Refuses>(
     machine: &M,
-    told: &ToldGiven,
+    told: Result<Told, Status>,
     kept: &mut KeptGiven,
     held: &mut HeldGiven,
     number: &mut u64,
 ) -> u32
     ensures { let m = rules M.next M.refusal M.generation M.worth machine.now in
-        Does m (M.first machine.now) told.now result
+        Does m (M.first machine.now) told result
         (kept.old, held.old, number.old) (kept.new, held.new, number.new) }
 {
-    match told.told() {
+    match told {
         Ok(told) => step(machine, told, kept, held, number),
         Err(why) => why.code(),
     }

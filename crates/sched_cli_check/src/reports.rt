@@ -6,6 +6,7 @@ ghost use Rattle.sched_plan_hint.specs.Faults.{told_text};
 
 use crate::jobs_faults::tell_jobs_fault;
 use crate::readers::push_reader;
+use sched_cli_plan::push_count;
 use sched_plan::Plan;
 use sched_plan_bound::most_goes;
 use sched_plan_check::{PlanChecked, check_plan};
@@ -130,13 +131,4 @@ fn jobs_line(alloc: Global, jobs: &[JobRead]) -> Result<String, NoMemory> {
     push_count(&mut line, runs, "run")?;
     line.push_str("\n")?;
     Ok(line)
-}
-
-// Adds how many there are of what this word names.
-fn push_count(line: &mut String, count: u64, word: &str) -> Result<(), NoMemory> {
-    write!(line, "{count} {word}")?;
-    if count != 1 {
-        line.push_str("s")?;
-    }
-    Ok(())
 }

@@ -4,6 +4,7 @@
 #![tactic(auto)]
 
 mod again;
+mod amounts;
 mod counts;
 mod faults;
 mod printing;
@@ -11,6 +12,7 @@ mod streams;
 mod whole;
 
 pub use again::Given;
+pub use amounts::push_count;
 pub use counts::Counted;
 pub use faults::PrintFault;
 pub use printing::{print_course, print_plan, read_value};

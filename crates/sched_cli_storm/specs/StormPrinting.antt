@@ -5,9 +5,8 @@ use Rattle.sched_plan.specs.Schedule.{Schedule}
 use Rattle.sched_cli_plan.specs.Printing.{SpellsPlan}
 use Rattle.sched_cli_plan.specs.Whole.{WritesFront}
 use Rattle.sched_cli_plan.specs.declared.faults.PrintFault.{PrintFault}
-use Rattle.sched_cli_plan.specs.declared.faults.PrintFault.TheVariants.{ReadFailed, TooLong, NotJson, NotAPlan}
-use Rattle.sched_cli_plan.specs.declared.faults.PrintFault.TheVariants.{OutOfRange}
-use Rattle.sched_cli_plan.specs.declared.faults.PrintFault.TheVariants.{TooDeep, TooMany, NoMemory, WriteFailed}
+use Rattle.sched_cli_plan.specs.declared.faults.PrintFault.TheVariants.{ReadFailed, TooLong}
+use Rattle.sched_cli_plan.specs.declared.faults.PrintFault.TheVariants.{WriteFailed}
 
 -- the bytes spell a plan
 abbrev pub SpellsSome : List ℕ → Type 0

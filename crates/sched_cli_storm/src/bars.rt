@@ -1,5 +1,6 @@
 //! A line for each window: the share of its requests that were won, what happened in it, and a bar of its calls.
 use crate::lines::{digits, push_right};
+use sched_cli_plan::push_count;
 use sched_storm::{Report, Window};
 use sched_time::NoMemory;
 use std::alloc::Global;
@@ -146,7 +147,7 @@ fn push_scale(
         text.push(' ')?;
     }
     let mut word = String::new(alloc);
-    write!(word, "{most} calls")?;
+    push_count(&mut word, most, "call")?;
     text.push('0')?;
     for _ in word.len().saturating_add(1)..bar {
         text.push(' ')?;

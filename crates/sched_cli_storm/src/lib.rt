@@ -4,8 +4,10 @@
 #![tactic(auto)]
 
 mod bars;
+mod forms;
 mod lines;
 mod openings;
+mod populations;
 mod printing;
 mod rows;
 mod side_by_side;

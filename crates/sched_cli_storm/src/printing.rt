@@ -4,13 +4,11 @@ ghost use Rattle.sched_cli_plan.specs.Printing.{ReadsPlan};
 ghost use Rattle.sched_cli_plan.specs.Whole.{count_of_writes};
 ghost use Rattle.sched_cli_storm.specs.StormPrinting.{PrintsStorm, IsRefusal};
 
-use crate::bars::push_bars;
-use crate::lines::push_lines;
-use crate::rows::{push_csv, push_json};
+use crate::forms::push_report;
+use crate::populations::{Populations, populated};
 use crate::side_by_side::{Column, push_table};
 use crate::sweep_rows::{push_sweep_csv, push_sweep_json};
 use crate::sweep_table::push_sweep;
-use crate::totals::push_words;
 use sched_cli_plan::{PrintFault, Sink, put_all, read_value};
 use sched_cli_storm_words::{Form, Limited, StormOptions, Sweep};
 use sched_plan::{Plan, SharedPlan};
@@ -20,9 +18,10 @@ use sched_time::NoMemory;
 use std::alloc::Global;
 
 /// Plays the storm under the plan that the bytes spell, and writes what the options ask for. Where they ask for a
-/// sweep, it plays the storm with each value, and writes a line for each. Where they have further texts, it plays the
-/// same storm under the plan of each, and writes the totals side by side; where there are several limits, each plan
-/// under each. Answers whether a storm was cut.
+/// sweep, it plays the storm with each value, and writes a line for each. Where they have several populations, the
+/// further texts are the plans of those beside the first one, and it writes the totals of each side by side too. Where
+/// they have further texts else, it plays the same storm under the plan of each, and writes the totals side by side;
+/// where there are several limits, each plan under each. Answers whether a storm was cut.
 ///
 /// Refused as `NotJson`, `NotAPlan`, `OutOfRange`, `TooDeep`, `TooMany` and `NoMemory` with nothing written, and as
 /// `WriteFailed` with a front of the text written.
@@ -72,28 +71,22 @@ fn text_of(
     options: &StormOptions,
 ) -> Result<(String, bool), NoMemory> {
     if let Some(sweep) = &options.sweep {
-        return swept(alloc, plan, sweep, options);
+        let populations = Populations::new(alloc, plan, others)?;
+        return swept(alloc, &populations, sweep, options);
     }
     if !options.limited.is_empty() {
         return crossed(alloc, plan, others, options);
+    }
+    if !options.populations.is_empty() {
+        let populations = Populations::new(alloc, plan, others)?;
+        return populated(alloc, &populations, options);
     }
     let report = played(alloc, options, plan)?;
     if !others.is_empty() {
         return compared(alloc, &report, others, options);
     }
     let mut text = String::new(alloc);
-    match options.form {
-        Form::Csv => push_csv(&mut text, &report)?,
-        Form::Json => push_json(&mut text, &report)?,
-        Form::Bars => {
-            push_bars(alloc, &mut text, &report, options.width)?;
-            push_words(&mut text, &options.storm, &report.totals)?;
-        }
-        Form::Plain => {
-            push_lines(alloc, &mut text, &report)?;
-            push_words(&mut text, &options.storm, &report.totals)?;
-        }
-    }
+    push_report(alloc, &mut text, &report, options)?;
     Ok((text, report.totals.is_cut))
 }
 
@@ -106,14 +99,13 @@ fn played(alloc: Global, options: &StormOptions, plan: Plan) -> Result<Report, N
 // The storms along a parameter, and whether one was cut.
 fn swept(
     alloc: Global,
-    plan: Plan,
+    populations: &Populations,
     sweep: &Sweep,
     options: &StormOptions,
 ) -> Result<(String, bool), NoMemory> {
-    let plan = SharedPlan::new(alloc, plan)?;
     let mut all = Vec::new(alloc);
     for swept in &sweep.storms {
-        let report = swept.storm.play(alloc, plan.share()?)?;
+        let report = populations.play(alloc, &swept.storm, None)?;
         all.push(report.totals)?;
     }
     let mut text = String::new(alloc);
@@ -143,7 +135,7 @@ fn compared(
         columns.push(Column::new(alloc, name.as_str(), "")?)?;
     }
     let mut text = String::new(alloc);
-    push_table(alloc, &mut text, &columns, &all)?;
+    push_table(alloc, &mut text, "limit", &columns, &all)?;
     Ok((text, all.iter().any(|totals| totals.is_cut)))
 }
 
@@ -161,7 +153,7 @@ fn crossed(
     }
     let columns = crossed_columns(alloc, options)?;
     let mut text = String::new(alloc);
-    push_table(alloc, &mut text, &columns, &all)?;
+    push_table(alloc, &mut text, "limit", &columns, &all)?;
     Ok((text, all.iter().any(|totals| totals.is_cut)))
 }
 

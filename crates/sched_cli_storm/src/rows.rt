@@ -89,7 +89,15 @@ pub(crate) fn push_csv(text: &mut String, report: &Report) -> Result<(), NoMemor
 
 /// Adds the windows and the totals as one object, on one line.
 pub(crate) fn push_json(text: &mut String, report: &Report) -> Result<(), NoMemory> {
-    text.push_str("{\"windows\":[")?;
+    text.push('{')?;
+    push_members(text, report)?;
+    text.push_str("}\n")?;
+    Ok(())
+}
+
+/// Adds the windows and the totals as members of an object.
+pub(crate) fn push_members(text: &mut String, report: &Report) -> Result<(), NoMemory> {
+    text.push_str("\"windows\":[")?;
     for (place, window) in report.windows.iter().enumerate() {
         push_comma(text, place)?;
         text.push('[')?;
@@ -97,9 +105,7 @@ pub(crate) fn push_json(text: &mut String, report: &Report) -> Result<(), NoMemo
         text.push(']')?;
     }
     text.push_str("],\"totals\":")?;
-    push_totals(text, &report.totals)?;
-    text.push_str("}\n")?;
-    Ok(())
+    push_totals(text, &report.totals)
 }
 
 // Adds the numbers of a window, with commas between them.

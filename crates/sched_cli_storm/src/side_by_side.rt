@@ -26,31 +26,34 @@ const LABELS: [&str; 13] = [
 // As wide as the widest of these.
 const LABEL: usize = 12;
 
-/// The head of a column: the plan, and the limit where there are several, or nothing.
+/// The head of a column: the plan, and below it the limit where there are several, or the share of a population, or
+/// nothing.
 #[derive(Drop)]
 pub(crate) struct Column {
     name: String,
-    limit: String,
+    below: String,
 }
 
 impl Column {
-    pub(crate) fn new(alloc: Global, name: &str, limit: &str) -> Result<Column, NoMemory> {
+    pub(crate) fn new(alloc: Global, name: &str, below: &str) -> Result<Column, NoMemory> {
         Ok(Column {
             name: String::from_str(alloc, name)?,
-            limit: String::from_str(alloc, limit)?,
+            below: String::from_str(alloc, below)?,
         })
     }
 
     // How wide it is.
     fn width(&self) -> usize {
-        self.name.len().max(self.limit.len()).max(LABEL)
+        self.name.len().max(self.below.len()).max(LABEL)
     }
 }
 
-/// Adds a line with the names, one with the limits where there are several, and a line for each of the totals.
+/// Adds a line with the names, one with what stands below them, of which this tells what it is, and a line for each of
+/// the totals. Where nothing stands below the names there is no such line.
 pub(crate) fn push_table(
     alloc: Global,
     text: &mut String,
+    below: &str,
     columns: &[Column],
     all: &[Totals],
 ) -> Result<(), NoMemory> {
@@ -59,7 +62,7 @@ pub(crate) fn push_table(
         push_right(text, column.name.as_str(), column.width())?;
     }
     text.push('\n')?;
-    push_limits(text, columns)?;
+    push_below(text, below, columns)?;
     for (place, label) in LABELS.iter().enumerate() {
         push_left(text, label)?;
         for (column, totals) in columns.iter().zip(all) {
@@ -71,14 +74,14 @@ pub(crate) fn push_table(
     Ok(())
 }
 
-// Adds a line with the limits, where there are several.
-fn push_limits(text: &mut String, columns: &[Column]) -> Result<(), NoMemory> {
-    if columns.iter().all(|column| column.limit.is_empty()) {
+// Adds a line with what stands below the names, if there is any.
+fn push_below(text: &mut String, below: &str, columns: &[Column]) -> Result<(), NoMemory> {
+    if columns.iter().all(|column| column.below.is_empty()) {
         return Ok(());
     }
-    push_left(text, "limit")?;
+    push_left(text, below)?;
     for column in columns {
-        push_right(text, column.limit.as_str(), column.width())?;
+        push_right(text, column.below.as_str(), column.width())?;
     }
     text.push('\n')?;
     Ok(())

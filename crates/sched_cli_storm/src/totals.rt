@@ -1,4 +1,5 @@
 //! The totals of a storm, in words.
+use sched_cli_plan::push_count;
 use sched_storm::{Draws, Storm, Totals};
 use sched_time::NoMemory;
 use std::fmt::Write;
@@ -13,9 +14,13 @@ pub(crate) fn push_words(
     push_calls(text, totals)?;
     match storm.parameters().draws {
         Draws::Nothing => {}
-        Draws::Budget(limit) => write!(text, "{} tickets of {limit} given\n", totals.tickets)?,
+        Draws::Budget(limit) => {
+            push_count(text, totals.tickets, "ticket")?;
+            write!(text, " of {limit} given\n")?;
+        }
         Draws::Quota(_) | Draws::Limited(_) => {
-            write!(text, "{} tickets given\n", totals.tickets)?
+            push_count(text, totals.tickets, "ticket")?;
+            text.push_str(" given\n")?;
         }
     }
     push_times(text, totals)?;
@@ -24,7 +29,9 @@ pub(crate) fn push_words(
         None => text.push_str("never recovered\n")?,
     }
     if totals.is_cut {
-        write!(text, "cut after {} calls\n", totals.calls)?;
+        text.push_str("cut after ")?;
+        push_count(text, totals.calls, "call")?;
+        text.push('\n')?;
     }
     Ok(())
 }
@@ -35,8 +42,8 @@ fn push_endings(text: &mut String, storm: &Storm, totals: &Totals) -> Result<(),
         Draws::Limited(_) => "denied",
         _ => "denied a retry",
     };
-    write!(text, "{} requests: ", totals.counts.requests)?;
-    write!(text, "{} won, {} lost, ", totals.counts.won, totals.lost)?;
+    push_count(text, totals.counts.requests, "request")?;
+    write!(text, ": {} won, {} lost, ", totals.counts.won, totals.lost)?;
     write!(
         text,
         "{} {denied}, {} left open\n",
@@ -47,12 +54,13 @@ fn push_endings(text: &mut String, storm: &Storm, totals: &Totals) -> Result<(),
 
 // How many calls there were.
 fn push_calls(text: &mut String, totals: &Totals) -> Result<(), NoMemory> {
-    write!(text, "{} calls, ", totals.calls)?;
+    push_count(text, totals.calls, "call")?;
+    text.push_str(", ")?;
     push_hundredths(text, totals.hundredths)?;
-    text.push_str(" for each request")?;
+    text.push_str(" for each request\n")?;
     write!(
         text,
-        "; the most in a window are {}, from {} ms\n",
+        "the most in a window are {}, from {} ms\n",
         totals.most_calls, totals.most_from
     )?;
     Ok(())

@@ -1,7 +1,7 @@
 //! The parameters along which a storm is swept, and the values that words spell of them.
+use crate::following::Following;
 use crate::numbers::{number_in, tenths_in};
-use crate::rates::RateSpans;
-use sched_storm::{Draws, Parameters, Span, Storm};
+use sched_storm::{Draws, Others, Parameters, Population, Span, Storm};
 use sched_ticket_quota::Terms;
 
 // The greatest value.
@@ -30,10 +30,12 @@ pub enum Axis {
     Reserve,
     /// A budget.
     Budget,
+    /// The share of the first population beside, in per cent.
+    Beside,
 }
 
 // What each is called.
-const NAMES: [(&str, Axis); 10] = [
+const NAMES: [(&str, Axis); 11] = [
     ("rate", Axis::Rate),
     ("clients", Axis::Clients),
     ("together", Axis::Together),
@@ -44,6 +46,7 @@ const NAMES: [(&str, Axis); 10] = [
     ("share", Axis::Share),
     ("reserve", Axis::Reserve),
     ("budget", Axis::Budget),
+    ("beside", Axis::Beside),
 ];
 
 impl Axis {
@@ -69,20 +72,22 @@ impl Axis {
         Some(value)
     }
 
-    /// The storm of these parameters, with rates of their own in these spans, with this value in the place of its own.
-    /// `None` where one is outside its range, or retries do not draw on what the value is of.
+    /// The storm of these parameters, with this value in the place of its own, and with what follows from them. `None`
+    /// where one is outside its range, retries do not draw on what the value is of, or no population stands beside.
     pub(crate) fn storm_with(
         self,
         base: &Parameters,
-        spans: &RateSpans,
+        following: &Following,
         value: u64,
     ) -> Option<Storm> {
         if !self.is_of(base.draws) {
             return None;
         }
-        let mut parameters = self.with(base, value);
-        parameters.rates = spans.rates(parameters.rate);
-        Storm::new(parameters)
+        let parameters = following.with(&self.with(base, value));
+        match self {
+            Axis::Beside => Storm::new(with_share(&parameters, value)?),
+            _ => Storm::new(parameters),
+        }
     }
 
     // Whether storms whose retries draw on this have the parameter.
@@ -115,6 +120,7 @@ impl Axis {
             Axis::Share | Axis::Reserve | Axis::Budget => {
                 parameters.draws = self.draws_with(base.draws, value);
             }
+            Axis::Beside => {}
         }
         parameters
     }
@@ -134,4 +140,20 @@ impl Axis {
             (_, draws) => draws,
         }
     }
+}
+
+// The parameters with this share for the first population beside, if there is one.
+fn with_share(parameters: &Parameters, share: u64) -> Option<Parameters> {
+    let others = parameters.others;
+    if others.second.share == 0 || share == 0 {
+        return None;
+    }
+    let second = Population {
+        share,
+        ..others.second
+    };
+    Some(Parameters {
+        others: Others { second, ..others },
+        ..*parameters
+    })
 }

@@ -15,10 +15,11 @@ const STORM_EXAMPLES: &str = "Examples:
   zsched storm plans/back-off.json
   zsched storm --quota 10/10%/1s plans/back-off.json
   zsched storm --scenario herd --compare plans/three-times.json plans/back-off.json
+  zsched storm --quota 10/10%/1s --beside 30@2000=plans/three-times.json plans/back-off.json
   zsched storm --limit aws --limit grpc:100/100 --compare plans/three-times.json plans/back-off.json
   zsched storm --sweep rate=200..1600/8 plans/back-off.json";
 
-const STORIES: [Row; 3] = [
+const STORIES: [Row; 4] = [
     Row {
         name: "scenario",
         takes: Takes::Text("NAME"),
@@ -34,12 +35,21 @@ const STORIES: [Row; 3] = [
                With several limits each plan is played under each",
     },
     Row {
+        name: "beside",
+        takes: Takes::Texts("PERCENT[@PATIENCE][+limited]=FILE"),
+        excludes: &["compare"],
+        help: "Give PERCENT of the requests this plan, and the others the first one, and print the totals of each \
+               side by side too; you can give it up to three times, with at most 99 together. PATIENCE is that of \
+               their clients, in milliseconds [default: --patience]; their retries draw on the budget, quota or \
+               limit only with +limited",
+    },
+    Row {
         name: "sweep",
         takes: Takes::Text("NAME=VALUES"),
         excludes: &["compare"],
         help: "Play the storm for each value of a parameter, as NAME=FROM..TO/COUNT or NAME=A,B,C, with a line for \
                each; NAME is rate, clients (at once), together, capacity, queue, patience, outage (its length), share \
-               or reserve (of --quota), or budget",
+               or reserve (of --quota), budget, or beside (the PERCENT of the first --beside)",
     },
 ];
 

@@ -3,8 +3,10 @@
 #![tactic(auto)]
 
 mod axes;
+mod beside;
 mod commands;
 mod faults;
+mod following;
 mod limits;
 mod numbers;
 mod options;
@@ -14,6 +16,7 @@ mod several;
 mod sweeps;
 
 pub use axes::Axis;
+pub use beside::PopulationWords;
 pub use commands::storm_command;
 pub use faults::StormFault;
 pub use limits::BreakerWords;

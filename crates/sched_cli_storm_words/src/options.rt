@@ -1,5 +1,7 @@
 //! What the options of the command ask for.
+use crate::beside::{PopulationWords, beside_in, file_of, populations_in};
 use crate::faults::StormFault;
+use crate::following::Following;
 use crate::limits::{BreakerWords, breaker_words_in};
 use crate::numbers::{brown_out_in, span_in};
 use crate::rates::{RateSpans, rate_spans_in};
@@ -7,7 +9,7 @@ use crate::several::{Limited, draws_on, limited_in, opened, with_draws};
 use crate::sweeps::{Sweep, sweep_in};
 use clap::ArgMatches;
 use sched_limit::MAX_TRIPS;
-use sched_storm::{BrownOut, Draws, MAX_WINDOWS, Parameters, Span, Storm};
+use sched_storm::{BrownOut, Draws, MAX_WINDOWS, Others, Parameters, Rates, Span, Storm};
 use sched_ticket_quota::Terms;
 use std::alloc::{AllocError, Global};
 
@@ -58,7 +60,10 @@ pub struct StormOptions {
     pub open: Option<String>,
     /// The storm under each limit, where there are several: the first is `storm`.
     pub limited: Vec<Limited>,
-    /// The files of the plans that it is played under, of which the first is the program's input.
+    /// The populations of its clients, where there are several.
+    pub populations: Vec<PopulationWords>,
+    /// The files of the plans that it is played under, or of those of its populations; the first is the program's
+    /// input.
     pub names: Vec<String>,
     /// The texts of the further files, in their order; none before they are read.
     pub texts: Vec<Vec<u8>>,
@@ -72,13 +77,16 @@ pub fn storm_options(
     quota: Option<Terms>,
 ) -> Result<StormOptions, StormFault> {
     let draws = draws(alloc, options, quota)?;
-    let spans = rate_spans(alloc, options)?;
-    let parameters = parameters(alloc, options, &spans, draws)?;
+    let following = Following {
+        spans: rate_spans(alloc, options)?,
+        beside: beside_in(alloc, options)?,
+    };
+    let parameters = following.with(&parameters(alloc, options, draws)?);
     let Some(storm) = Storm::new(parameters) else {
         return Err(StormFault::bad(alloc, too_many(&parameters)));
     };
     let sweep = match options.get_str("sweep") {
-        Some(word) => Some(sweep_in(alloc, word, &parameters, &spans)?),
+        Some(word) => Some(sweep_in(alloc, word, &parameters, &following)?),
         None => None,
     };
     Ok(StormOptions {
@@ -89,6 +97,7 @@ pub fn storm_options(
         breaker: options.get_str("limit").and_then(breaker_words_in),
         limited: limited_in(alloc, options, &storm)?,
         open: open(alloc, options)?,
+        populations: populations_in(alloc, options, &following.beside)?,
         names: names(alloc, options)?,
         texts: Vec::new(alloc),
     })
@@ -101,6 +110,11 @@ fn names(alloc: Global, options: &ArgMatches<'_>) -> Result<Vec<String>, AllocEr
     if let Some(others) = options.get_strs("compare") {
         for name in others {
             names.push(String::from_str(alloc, name)?)?;
+        }
+    }
+    if let Some(words) = options.get_strs("beside") {
+        for word in words {
+            names.push(String::from_str(alloc, file_of(word))?)?;
         }
     }
     Ok(names)
@@ -132,20 +146,18 @@ fn form_in(options: &ArgMatches<'_>) -> Form {
     }
 }
 
-// The parameters that are given, and for the others those of the scenario.
+// The parameters that are given, and for the others those of the scenario, without what follows from them.
 fn parameters(
     alloc: Global,
     options: &ArgMatches<'_>,
-    spans: &RateSpans,
     draws: Draws,
 ) -> Result<Parameters, StormFault> {
     let base = scenario(alloc, options)?;
-    let rate = number(options, "rate", base.rate);
     let seconds = number(options, "seconds", base.seconds);
     let replicas = number(options, "replicas", base.replicas);
     Ok(Parameters {
-        rate,
-        rates: spans.rates(rate),
+        rate: number(options, "rate", base.rate),
+        rates: Rates::NONE,
         together: number(options, "together", base.together),
         seconds,
         capacity: number(options, "capacity", base.capacity),
@@ -164,6 +176,7 @@ fn parameters(
         calls: number(options, "calls", base.calls),
         words: number(options, "words", base.words),
         draws,
+        others: Others::NONE,
     })
 }
 

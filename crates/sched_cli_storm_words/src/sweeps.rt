@@ -1,8 +1,8 @@
 //! Storms along a parameter, as a word asks for them.
 use crate::axes::Axis;
 use crate::faults::StormFault;
+use crate::following::Following;
 use crate::numbers::number_in;
-use crate::rates::RateSpans;
 use crate::several::with_draws;
 use sched_storm::{Draws, Parameters, Storm};
 use std::alloc::{AllocError, Global};
@@ -14,13 +14,14 @@ const SWEEP: &str = "--sweep <NAME=VALUES>";
 
 const NAME_WANTED: &str =
     "expected a parameter and its values, such as rate=200..1600/8; the parameters are rate, clients, together, \
-     capacity, queue, patience, outage, share, reserve and budget";
+     capacity, queue, patience, outage, share, reserve, budget and beside";
 
 const VALUES_WANTED: &str =
     "expected 1 to 64 values, each greater than the one before, such as rate=200..1600/8 or rate=200,400";
 
 const RANGE_WANTED: &str =
-    "expected values in the range of the parameter; a share and a reserve are of --quota, and a budget of --budget";
+    "expected values in the range of the parameter; a share and a reserve are of --quota, a budget of --budget, and \
+     beside of --beside";
 
 /// A storm with a value of the parameter.
 #[derive(Clone, Copy, Debug)]
@@ -52,13 +53,13 @@ impl Sweep {
     }
 }
 
-/// The storms that a word asks for, with each value in the place of one of these parameters, which have rates of their
-/// own in these spans.
+/// The storms that a word asks for, with each value in the place of one of these parameters, and with what follows from
+/// them.
 pub(crate) fn sweep_in(
     alloc: Global,
     word: &str,
     base: &Parameters,
-    spans: &RateSpans,
+    following: &Following,
 ) -> Result<Sweep, StormFault> {
     let (name, spelt) = word.split_once('=').unwrap_or((word, ""));
     let Some((name, axis)) = Axis::named(name) else {
@@ -67,7 +68,7 @@ pub(crate) fn sweep_in(
     let Some(values) = values_in(alloc, axis, spelt)? else {
         return Err(StormFault::value(alloc, SWEEP, word, VALUES_WANTED));
     };
-    let Some(storms) = storms_with(alloc, axis, base, spans, &values)? else {
+    let Some(storms) = storms_with(alloc, axis, base, following, &values)? else {
         return Err(StormFault::value(alloc, SWEEP, word, RANGE_WANTED));
     };
     Ok(Sweep { name, axis, storms })
@@ -78,13 +79,13 @@ fn storms_with(
     alloc: Global,
     axis: Axis,
     base: &Parameters,
-    spans: &RateSpans,
+    following: &Following,
     values: &[u64],
 ) -> Result<Option<Vec<Swept>>, AllocError> {
     let mut storms = Vec::new(alloc);
     for value in values {
         let value = *value;
-        let Some(storm) = axis.storm_with(base, spans, value) else {
+        let Some(storm) = axis.storm_with(base, following, value) else {
             return Ok(None);
         };
         storms.push(Swept { value, storm })?;

@@ -102,7 +102,7 @@ module _ (b : Breaker) where
   few_next (Succeeded now generation worth) w h = by_eq (λ (x : ℕ). has_few_probes b x ≡ true) generation (stamp_of w)
       (succeeded b w) w (λ _. few_after w h) (λ _. h)
   few_next (Ended slots) w h = h
-  few_next (Returned cost) w h = h
+  few_next (Returned cost slots) w h = h
   few_next (Closed now) w h = h
 
   kept_few : IsKeptBy (breaker_next b) 0 (has_few_probes b)
@@ -163,7 +163,7 @@ module _ (b : Breaker) where
       (stamp_of w) (succeeded b w) w
       (λ _. succeeded_kept w) (λ _. same_kept false w)
   open_kept (Ended slots) w = same_kept false w
-  open_kept (Returned cost) w = same_kept false w
+  open_kept (Returned cost slots) w = same_kept false w
   open_kept (Closed now) w = same_kept false w
 
   late_same : (c : Call) (w : ℕ) → is_of_now c w (breaker_next b c w) ≡ true
@@ -178,7 +178,7 @@ module _ (b : Breaker) where
       (λ e. or_right _ (generation == stamp_of w) (eq-eqb generation (stamp_of w) e))
       (λ _. or_left (w == w) _ (eq-eqb w w refl))
   late_same (Ended slots) w = refl
-  late_same (Returned cost) w = refl
+  late_same (Returned cost slots) w = refl
   late_same (Closed now) w = refl
 
   -- a breaker that is left as it is was not tripped
@@ -212,7 +212,7 @@ module _ (b : Breaker) where
       (λ _. or_right (w % 2 == 1) _ (or_left _ false (closed_not_odd (generation_of w) 0))))
       (λ _. as_it_was false w)
   trips (Ended slots) w = as_it_was false w
-  trips (Returned cost) w = as_it_was false w
+  trips (Returned cost slots) w = as_it_was false w
   trips (Closed now) w = as_it_was false w
 
 pub probes_are_few : ProbesAreFew

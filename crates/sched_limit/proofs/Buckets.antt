@@ -25,7 +25,7 @@ module _ (b : Bucket) where
   next_le (Failed now generation) w h = omega (arith, h)
   next_le (Succeeded now generation worth) w h = omega arith
   next_le (Ended slots) w h = h
-  next_le (Returned cost) w h = omega arith
+  next_le (Returned cost slots) w h = omega arith
   next_le (Closed now) w h = h
 
   kept_within : IsKeptBy (bucket_next b) b.capacity (λ (w : ℕ). leb w b.capacity)
@@ -44,7 +44,7 @@ module _ (b : Bucket) where
   balanced (Failed now generation) w h = omega arith
   balanced (Succeeded now generation worth) w h = omega (arith, h)
   balanced (Ended slots) w h = omega arith
-  balanced (Returned cost) w h = omega (arith, h)
+  balanced (Returned cost slots) w h = omega (arith, h)
   balanced (Closed now) w h = omega arith
 
   above : (c : Call) (w : ℕ) → is_above b c w (bucket_next b c w) ≡ true
@@ -58,7 +58,7 @@ module _ (b : Bucket) where
   above (Failed now generation) w = refl
   above (Succeeded now generation worth) w = refl
   above (Ended slots) w = refl
-  above (Returned cost) w = refl
+  above (Returned cost slots) w = refl
   above (Closed now) w = refl
 
 -- what two kinds of moves weigh together

@@ -55,7 +55,7 @@ module _ (k : InFlight) where
   within (Failed now generation) w = refl
   within (Succeeded now generation worth) w = refl
   within (Ended slots) w = refl
-  within (Returned cost) w = refl
+  within (Returned cost slots) w = refl
   within (Closed now) w = refl
 
 difference : (a b : ℕ) → a + (b - a) ≡ b + (a - b)

@@ -122,7 +122,7 @@ module _ (t : Throttle) where
       by_bool (λ (x : ℕ). is_forward k w x ≡ true) (is_open_to u w) (accepted_in u w) w
       (goes_on k u 0 (requests_at u w) (min (accepts_at u w + 1) 1048575) w (fits_accepted u w)) (λ _. stays k w)
   forward (Ended slots) w = stays (Ended slots) w
-  forward (Returned cost) w = stays (Returned cost) w
+  forward (Returned cost slots) w = stays (Returned cost slots) w
   forward (Closed now) w =
       let k : Call = Closed now in
       let u : ℕ = window_at t now - 1 in
@@ -145,7 +145,7 @@ module _ (t : Throttle) where
       (λ _. lays k u 0 (requests_at u w) (min (accepts_at u w + 1) 1048575) w (fits_accepted u w) refl refl)
       (λ _. same k w)
   counts (Ended slots) w = same (Ended slots) w
-  counts (Returned cost) w = same (Returned cost) w
+  counts (Returned cost slots) w = same (Returned cost slots) w
   counts (Closed now) w =
       let k : Call = Closed now in
       let u : ℕ = window_at t now - 1 in

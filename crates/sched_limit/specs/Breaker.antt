@@ -89,7 +89,7 @@ breaker_next b (Failed now generation) word =
     if generation == stamp_of word then failed b (since_start b now) word else word
 breaker_next b (Succeeded now generation worth) word = if generation == stamp_of word then succeeded b word else word
 breaker_next b (Ended slots) word = word
-breaker_next b (Returned cost) word = word
+breaker_next b (Returned cost slots) word = word
 breaker_next b (Closed now) word = word
 
 abbrev pub refused_tripped : Breaker → ℕ → ℕ → Option Refusal
@@ -106,5 +106,5 @@ breaker_refusal b (Draw now cost slots) word = refused b (since_start b now) wor
 breaker_refusal b (Failed now generation) word = None
 breaker_refusal b (Succeeded now generation worth) word = None
 breaker_refusal b (Ended slots) word = None
-breaker_refusal b (Returned cost) word = None
+breaker_refusal b (Returned cost slots) word = None
 breaker_refusal b (Closed now) word = None

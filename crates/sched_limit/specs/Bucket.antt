@@ -32,7 +32,7 @@ bucket_next b (Draw now cost slots) level = drawn b cost level
 bucket_next b (Failed now generation) level = level - b.debit
 bucket_next b (Succeeded now generation worth) level = min (level + worth) b.capacity
 bucket_next b (Ended slots) level = level
-bucket_next b (Returned cost) level = min (level + cost) b.capacity
+bucket_next b (Returned cost slots) level = min (level + cost) b.capacity
 bucket_next b (Closed now) level = level
 
 abbrev pub bucket_refusal : Bucket → Call → ℕ → Option Refusal
@@ -41,7 +41,7 @@ bucket_refusal b (Draw now cost slots) level = if nat_lt level (b.floor + cost) 
 bucket_refusal b (Failed now generation) level = None
 bucket_refusal b (Succeeded now generation worth) level = None
 bucket_refusal b (Ended slots) level = None
-bucket_refusal b (Returned cost) level = None
+bucket_refusal b (Returned cost slots) level = None
 bucket_refusal b (Closed now) level = None
 
 -- a success gives the credit, or with refund what the last granted draw of its request took

@@ -22,14 +22,14 @@ abbrev pub retried : InFlight → ℕ → ℕ → ℕ
 retried k requests retries =
     if nat_lt retries (bound k requests) then requests * 4294967296 + (retries + 1) else requests * 4294967296 + retries
 
--- a draw gives back first what the request's earlier retries hold, and so does its end
+-- a draw gives back first what the request's earlier retries hold, and so do its cancelling and the request's end
 abbrev pub flight_next : InFlight → Call → ℕ → ℕ
 flight_next k (Admit now random before) word = if nat_lt (requests_of word) 4294967295 then word + 4294967296 else word
 flight_next k (Draw now cost slots) word = retried k (requests_of word) (retries_of word - slots)
 flight_next k (Failed now generation) word = word
 flight_next k (Succeeded now generation worth) word = word
 flight_next k (Ended slots) word = (requests_of word - 1) * 4294967296 + (retries_of word - slots)
-flight_next k (Returned cost) word = word
+flight_next k (Returned cost slots) word = requests_of word * 4294967296 + (retries_of word - slots)
 flight_next k (Closed now) word = word
 
 abbrev pub flight_refusal : InFlight → Call → ℕ → Option Refusal
@@ -39,5 +39,5 @@ flight_refusal k (Draw now cost slots) word =
 flight_refusal k (Failed now generation) word = None
 flight_refusal k (Succeeded now generation worth) word = None
 flight_refusal k (Ended slots) word = None
-flight_refusal k (Returned cost) word = None
+flight_refusal k (Returned cost slots) word = None
 flight_refusal k (Closed now) word = None

@@ -43,7 +43,7 @@ debited call found left = 0
 
 abbrev pub credited : Call → ℕ → ℕ → ℕ
 credited (Succeeded now generation worth) found left = left - found
-credited (Returned cost) found left = left - found
+credited (Returned cost slots) found left = left - found
 credited call found left = 0
 
 -- the level, and what was granted and debited, is the capacity and what was credited

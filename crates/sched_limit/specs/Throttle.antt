@@ -39,7 +39,7 @@ throttle_next t (Failed now generation) word = word
 throttle_next t (Succeeded now generation worth) word =
     if is_open_to (window_at t now) word then accepted_in (window_at t now) word else word
 throttle_next t (Ended slots) word = word
-throttle_next t (Returned cost) word = word
+throttle_next t (Returned cost slots) word = word
 throttle_next t (Closed now) word =
     if is_open_to (window_at t now - 1) word then closed_in (window_at t now - 1) word else word
 
@@ -59,5 +59,5 @@ throttle_refusal t (Draw now cost slots) word = None
 throttle_refusal t (Failed now generation) word = None
 throttle_refusal t (Succeeded now generation worth) word = None
 throttle_refusal t (Ended slots) word = None
-throttle_refusal t (Returned cost) word = None
+throttle_refusal t (Returned cost slots) word = None
 throttle_refusal t (Closed now) word = None

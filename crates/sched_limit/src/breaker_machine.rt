@@ -14,7 +14,7 @@ use sched_limit_word::{Call, Machine};
 use sched_time::{FAR, Moment};
 
 /// The last moment of a breaker's clock, from its start on: more than four years.
-const LAST: u64 = 137438953471;
+pub const LAST_MOMENT: u64 = 137438953471;
 
 impl Breaker {
     /// The moment on the breaker's clock.
@@ -22,7 +22,7 @@ impl Breaker {
         ensures moment { result ≡ since_start self.now now }
         ensures small { result < 137438953472 }
     {
-        now.get().saturating_sub(self.start).min(LAST)
+        now.get().saturating_sub(self.start).min(LAST_MOMENT)
     }
 
     /// How long it is open at this trip.
@@ -47,7 +47,7 @@ impl Breaker {
         requires trip { trip < 64 }
         ensures { result ≡ opens self.now at trip word }
     {
-        let until = at.saturating_add(self.open_for(trip)).min(LAST);
+        let until = at.saturating_add(self.open_for(trip)).min(LAST_MOMENT);
         tripped(word::generation_of(word), trip, until, 0, 0)
     }
 
@@ -279,7 +279,7 @@ impl Machine for Breaker {
                 }
             }
             Call::Ended(_) => word,
-            Call::Returned(_) => word,
+            Call::Returned(_, _) => word,
             Call::Closed(_) => word,
         }
     }
@@ -302,7 +302,7 @@ impl Refuses for Breaker {
             Call::Failed(_, _) => None,
             Call::Succeeded(_, _, _) => None,
             Call::Ended(_) => None,
-            Call::Returned(_) => None,
+            Call::Returned(_, _) => None,
             Call::Closed(_) => None,
         }
     }

@@ -110,7 +110,7 @@ impl Machine for Bucket {
             Call::Draw(_, cost, _) => self.drawn(cost, level),
             Call::Failed(_, _) => level.saturating_sub(self.debit),
             Call::Succeeded(_, _, worth) => level.saturating_add(worth).min(self.capacity),
-            Call::Returned(cost) => level.saturating_add(cost).min(self.capacity),
+            Call::Returned(cost, _) => level.saturating_add(cost).min(self.capacity),
             Call::Admit(_, _, _) => level,
             Call::Ended(_) => level,
             Call::Closed(_) => level,
@@ -138,7 +138,7 @@ impl Refuses for Bucket {
             }
             Call::Failed(_, _) => None,
             Call::Succeeded(_, _, _) => None,
-            Call::Returned(_) => None,
+            Call::Returned(_, _) => None,
             Call::Admit(_, _, _) => None,
             Call::Ended(_) => None,
             Call::Closed(_) => None,

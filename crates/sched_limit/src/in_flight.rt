@@ -84,7 +84,7 @@ impl Machine for InFlight {
             }
             Call::Failed(_, _) => word,
             Call::Succeeded(_, _, _) => word,
-            Call::Returned(_) => word,
+            Call::Returned(_, slots) => requests * REQUEST + retries.saturating_sub(slots),
             Call::Closed(_) => word,
         }
     }
@@ -120,7 +120,7 @@ impl Refuses for InFlight {
             Call::Ended(_) => None,
             Call::Failed(_, _) => None,
             Call::Succeeded(_, _, _) => None,
-            Call::Returned(_) => None,
+            Call::Returned(_, _) => None,
             Call::Closed(_) => None,
         }
     }

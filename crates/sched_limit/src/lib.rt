@@ -16,6 +16,7 @@ mod window;
 mod word;
 
 pub use breaker::{Breaker, MAX_PROBES, MAX_TRIPS};
+pub use breaker_machine::LAST_MOMENT;
 pub use bucket::{Bucket, MAX_CAPACITY};
 pub use in_flight::InFlight;
 pub use refusal::Refusal;

@@ -165,7 +165,7 @@ impl Machine for Throttle {
             Call::Draw(_, _, _) => word,
             Call::Failed(_, _) => word,
             Call::Ended(_) => word,
-            Call::Returned(_) => word,
+            Call::Returned(_, _) => word,
         }
     }
 }
@@ -197,7 +197,7 @@ impl Refuses for Throttle {
             Call::Draw(_, _, _) => None,
             Call::Failed(_, _) => None,
             Call::Ended(_) => None,
-            Call::Returned(_) => None,
+            Call::Returned(_, _) => None,
         }
     }
 

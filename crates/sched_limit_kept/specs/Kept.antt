@@ -5,15 +5,15 @@ use Rattle.sched_limit_word.specs.declared.call.Call.TheVariants as call
 use Rattle.sched_limit.specs.declared.refusal.Refusal.{Refusal}
 use Rattle.sched_limit.specs.declared.refusal.Refusal.TheVariants.{OutOfTurn}
 use Rattle.sched_limit_request.specs.Asks.{Answer}
-use Rattle.sched_limit_request.specs.Requests.{nothing, admitted, drew, Rules}
+use Rattle.sched_limit_request.specs.Requests.{nothing, admitted, drew, undrawn, Rules}
 use Rattle.sched_limit_request.specs.declared.request.Request.{Request}
 use Rattle.sched_limit_kept.specs.declared.told.Told.{Told}
 use Rattle.sched_limit_kept.specs.declared.told.Told.TheVariants.{Admit, Draw, Failed, Succeeded, Cancelled, Ended}
 
 -- what a retry gives back that was drawn, if one was
-abbrev pub returned_of : Option ℕ → Option Call
-returned_of None = None
-returned_of (Some cost) = Some (call.Returned cost)
+abbrev pub returned_of : Option ℕ → ℕ → Option Call
+returned_of None slots = None
+returned_of (Some cost) slots = Some (call.Returned cost slots)
 
 -- the call that a request makes with what it tells, if it makes one: it is admitted once, and draws while it is
 -- admitted
@@ -22,7 +22,7 @@ call_of m (Admit now) r = if r.counted then None else Some (call.Admit now 0 0)
 call_of m (Draw now cost) r = if r.counted then Some (call.Draw now cost r.slots) else None
 call_of m (Failed now) r = Some (call.Failed now r.generation)
 call_of m (Succeeded now) r = Some (call.Succeeded now r.generation (m.worth r.drawn))
-call_of m Cancelled r = returned_of r.drawn
+call_of m Cancelled r = returned_of r.drawn r.slots
 call_of m Ended r = if r.counted then Some (call.Ended r.slots) else None
 
 -- the word after a call, if there is one
@@ -73,5 +73,5 @@ request_after m (Draw now cost) r word =
     held_drawn (answer_of m (Draw now cost) r word) cost (m.stamp (word_after m (Draw now cost) r word)) r
 request_after m (Failed now) r word = r
 request_after m (Succeeded now) r word = r
-request_after m Cancelled r word = record r { drawn = None }
+request_after m Cancelled r word = undrawn r.drawn r
 request_after m Ended r word = nothing

@@ -144,7 +144,7 @@ fn ask<M: Refuses>(machine: &M, call: &Call, word: &mut u64) -> Result<u64, Refu
     }
 }
 
-/// Gives back what the last draw cost.
+/// Gives back what the last draw cost, and its slot.
 fn cancel<M: Refuses>(machine: &M, request: &mut Request, word: &mut u64)
     ensures request { let m = rules M.next M.refusal M.generation M.worth machine.now in
         request.new ≡ request_after m told_as.Cancelled request.old word.old }
@@ -152,7 +152,8 @@ fn cancel<M: Refuses>(machine: &M, request: &mut Request, word: &mut u64)
         word.new ≡ word_after m told_as.Cancelled request.old word.old }
 {
     if let Some(cost) = request.drawn {
-        *word = machine.next(Call::Returned(cost), *word);
+        *word = machine.next(Call::Returned(cost, request.slots), *word);
+        request.slots = 0;
         request.drawn = None;
     }
 }

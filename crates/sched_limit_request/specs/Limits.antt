@@ -8,7 +8,7 @@ use Rattle.sched_limit_word.specs.declared.call.Call.TheVariants.{Admit, Draw, F
 use Rattle.sched_limit.specs.declared.refusal.Refusal.{Refusal}
 use Rattle.sched_limit.specs.declared.refusal.Refusal.TheVariants.{RacesLost, OutOfTurn}
 use Rattle.sched_limit_request.specs.Asks.{Answer, Asked}
-use Rattle.sched_limit_request.specs.Requests.{nothing, admitted, drew, Rules, Granted, Denied, Lost}
+use Rattle.sched_limit_request.specs.Requests.{nothing, admitted, drew, undrawn, Rules, Granted, Denied, Lost}
 use Rattle.sched_limit_request.specs.Requests.{NotGranted, Told}
 use Rattle.sched_limit_request.specs.declared.request.Request.{Request}
 
@@ -59,15 +59,15 @@ module _ {M : Type 0} (rules : M → Rules) where
       (e.limit ≡ d.limit) × (e.request ≡ d.request)
       × Told (rules_of d).next (Succeeded now d.request.generation ((rules_of d).worth d.request.drawn)) d.pass e.pass
 
-  -- what the request's last draw cost comes back, once
-  abbrev pub Returns : Next → Option ℕ → Held → Held → Type 0
-  Returns next (Some cost) p q = Told next (Returned cost) p q
-  Returns next None p q = q ≡ p
+  -- what the request's last draw cost comes back, once, with the slots that it holds
+  abbrev pub Returns : Next → Request → Option ℕ → Held → Held → Type 0
+  Returns next r (Some cost) p q = Told next (Returned cost r.slots) p q
+  Returns next r None p q = q ≡ p
 
   abbrev pub Cancels : OfLimit M → OfLimit M → Type 0
   Cancels d e =
-      (e.limit ≡ d.limit) × (e.request ≡ record d.request { drawn = None })
-      × Returns (rules_of d).next d.request.drawn d.pass e.pass
+      (e.limit ≡ d.limit) × (e.request ≡ undrawn d.request.drawn d.request)
+      × Returns (rules_of d).next d.request d.request.drawn d.pass e.pass
 
   -- the request is over, and its slots are given back; where there was none, nothing happens
   abbrev pub Ends : OfLimit M → OfLimit M → Type 0

@@ -15,7 +15,7 @@ module _ {A B : Type 0} (a : Asked A) (b : Asked B) where
       × b.admits d.second now random (Err why) e.second)
 
   -- both grant the draw; or the first one refuses, and the second is as it was; or the second one refuses, and the draw
-  -- of the first is cancelled, which gives back what it cost
+  -- of the first is cancelled, which gives back what it cost and its slot
   abbrev pub BothDraw : Both A B → ℕ → ℕ → ℕ → Answer → Both A B → Type 0
   BothDraw d now cost random (Ok x) e =
       a.draws d.first now cost random (Ok x) e.first × b.draws d.second now cost random (Ok x) e.second

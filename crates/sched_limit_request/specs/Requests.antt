@@ -20,6 +20,11 @@ admitted generation = record { counted = true; slots = 0; drawn = None; generati
 abbrev pub drew : ℕ → ℕ → Request
 drew cost generation = record { counted = true; slots = 1; drawn = Some cost; generation = generation }
 
+-- one whose last draw was cancelled, if it was granted any: it holds neither what that cost nor a slot
+abbrev pub undrawn : Option ℕ → Request → Request
+undrawn None r = r
+undrawn (Some cost) r = record r { slots = 0; drawn = None }
+
 -- a machine, what it refuses, the generation of a word, and what a success is worth
 pub record Rules : Type 0 where
   pub next : Next

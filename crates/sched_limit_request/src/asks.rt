@@ -28,7 +28,8 @@ pub trait Asks: Drop {
     fn succeeded(&mut self, now: Moment)
         ensures { asked.succeeds self.old now self.new };
 
-    /// Tells that the retry that was drawn last is cancelled while it waits: what it cost comes back, once.
+    /// Tells that the retry that was drawn last is cancelled while it waits: what it cost comes back, once, and so does
+    /// its slot.
     fn cancelled(&mut self)
         ensures { asked.cancels self.old self.new };
 

@@ -133,7 +133,12 @@ impl<M: Refuses> Asks for OnLimit<M> {
 
     fn cancelled(&mut self) {
         if let Some(cost) = self.request.drawn {
-            tell(&mut self.pass, &*self.limit, Call::Returned(cost));
+            tell(
+                &mut self.pass,
+                &*self.limit,
+                Call::Returned(cost, self.request.slots),
+            );
+            self.request.slots = 0;
             self.request.drawn = None;
         }
     }

@@ -16,8 +16,8 @@ pub enum Call {
     Succeeded(Moment, u64, u64),
     /// A request is over, with so many slots that its retries hold.
     Ended(u64),
-    /// A retry that was drawn at this cost was cancelled while it waited.
-    Returned(u64),
+    /// A retry that was drawn at this cost was cancelled, with so many slots that it holds.
+    Returned(u64, u64),
     /// The window before that of this moment takes no more counts.
     Closed(Moment),
 }

@@ -1,5 +1,5 @@
 //! What was expected where a plan has its fault, and what was found. Nothing is proved of these texts.
-use crate::found::push_found;
+use crate::found::{push_found, push_shown};
 use crate::nodes::{foreign, nearest, spelling};
 use sched_plan::PlanFault;
 use sched_plan_json::ReadFault;
@@ -63,7 +63,9 @@ fn push_name_hint(
         write!(text, "expected {form}")?;
         return push_found(alloc, text, value);
     }
-    write!(text, "no node is called \"{name}\"")?;
+    text.push_str("no node is called \"")?;
+    push_shown(text, name)?;
+    text.push_str("\"")?;
     let near = match foreign(name) {
         Some(node) => Some(node),
         None => nearest(alloc, name)?,

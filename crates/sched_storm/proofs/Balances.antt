@@ -1,7 +1,7 @@
 -- What the events of a storm balance: calls and their ends, tickets and retries, requests and their ends.
-use Rattle.std.proofs.Common.{◌≡◌, ℕ, zero, suc, ◌+◌, ◌<◌, ◌≤◌, Bool, true, false, cond, List, [], ◌∷◌, Option, Some}
-use Rattle.std.proofs.Common.{None, refl, sym, ap, ◌∙◌, arith}
-use Rattle.std.specs.Prelude.{nat_le, nat_lt, count_by, sum_by}
+use Rattle.std.proofs.Common.{◌≡◌, ℕ, ◌+◌, ◌≤◌, Bool, true, false, cond, List, [], ◌∷◌, Option, Some}
+use Rattle.std.proofs.Common.{None, ◌++◌, if◌then◌else◌, refl, sym, ap, arith}
+use Rattle.std.specs.Prelude.{◌==◌, nat_le, nat_lt, count_by, sum_by}
 use Rattle.std.proofs.lemmas.List.Sums.{sum_by-cons}
 use Rattle.std.proofs.lemmas.Bool.{false≢true, le-leb, le-ltb, leb-true}
 use Rattle.sched_time.specs.Decision.{start_of}
@@ -13,8 +13,8 @@ use Rattle.sched_storm_trace.specs.Trace.{Due, Event, Answer, AreAnswered, IsBeg
 use Rattle.sched_storm_trace.proofs.Sums.{balance, at_most, sum_none, told_sum, told_sum_ge, told_sum_le}
 use Rattle.sched_storm_report.specs.Moments.{is_request, is_retry, is_call, is_granted, latest}
 use Rattle.sched_storm_report.specs.Laws.{is_turned_away, turned_away}
+use Rattle.sched_storm_report.specs.Peer.{none_busy}
 use Rattle.sched_storm_report.specs.declared.moments.Failure.{Failure}
-use Rattle.sched_storm_report.specs.declared.moments.Failure.TheVariants as failure
 use Rattle.sched_storm_report.specs.declared.moments.Then.{Then}
 use Rattle.sched_storm_report.specs.declared.moments.Then.TheVariants.{Lost, Denied, Waits}
 use Rattle.sched_storm_report.specs.declared.moments.Happening.{Happening}
@@ -22,9 +22,10 @@ use Rattle.sched_storm_report.specs.declared.moments.Happening.TheVariants as ha
 use Rattle.sched_storm_report.specs.declared.moments.Moment.{Moment}
 use Rattle.sched_storm_limit.specs.Limits as limits
 use Rattle.sched_storm_limit.specs.Limits.{LimitState}
-use Rattle.sched_storm_limit.specs.Ranges.{is_limited}
+use Rattle.sched_storm_limit.specs.Ranges.{has_draws, is_limited}
 use Rattle.sched_storm_limit.specs.declared.draws.Draws.{Draws}
 use Rattle.sched_storm_limit.specs.declared.draws.Draws.TheVariants.{Nothing, Budget, Quota, Limited}
+use Rattle.sched_storm.specs.Populations.{population_of, draws_of, storm_of}
 use Rattle.sched_storm.specs.Parameters.{all_requests, comes_at}
 use Rattle.sched_storm.specs.Calls.{called}
 use Rattle.sched_storm.specs.Tickets.{draw_at}
@@ -32,6 +33,7 @@ use Rattle.sched_storm.specs.Drivers.{input_of, with_failure}
 use Rattle.sched_storm.specs.Plays.{Stage, begins, retries, succeeds, fails, Shared, start_at, if_by, first, ending}
 use Rattle.sched_storm.specs.Plays.{coming, ended, is_late, drawing, going_on, failing, with_request, arriving}
 use Rattle.sched_storm.specs.Plays.{playing, played}
+use Rattle.sched_storm.specs.Reported.{told_on, reported}
 use Rattle.sched_storm.proofs.Played.{due_next}
 use Rattle.sched_storm.specs.declared.parameters.Parameters.{Parameters}
 use Rattle.sched_storm.specs.declared.calls.CallEnd.{CallEnd}
@@ -197,15 +199,16 @@ module _ (f : Stage → ℕ) (test : Happening → Bool) (comes : f begins ≡ c
   same_told p plan s r t succeeds = won (comes_at p r)
   same_told p plan s r t (fails fault h) =
       by_failure (λ (a : Answer Stage Shared Moment). f (fails fault h) ≡ cond (test a.told.what) 1 0) p r t fault
-      (λ s. failed fault h Lost) (λ s. failed fault h Denied) (λ s h' start. failed fault h Waits) plan s h
+      (λ s. failed fault h Lost) (λ s. failed fault h Denied) (λ s h' start.
+      failed fault h (Waits (has_draws p.draws))) plan s h
 
-  count_told : (p : Parameters) (plan : Schedule) (s : Shared) (es : List (Event Stage)) (last : Shared) →
-      AreAnswered (played p plan) s es last →
+  count_told : (p : Parameters) (plans : ℕ → Schedule) (s : Shared) (es : List (Event Stage)) (last : Shared) →
+      AreAnswered (played p plans) s es last →
       sum_by (λ (e : Event Stage). f e.due.what) es ≡ count_by (λ (m : Moment). test m.what) (told_by
-      (played p plan) s es)
-  count_told p plan s es last answered =
-      told_sum (played p plan) (λ e. f e.due.what) (λ m. cond (test m.what) 1 0)
-      (λ s r d. same_told p plan s r d.at d.what) s es last answered
+      (played p plans) s es)
+  count_told p plans s es last answered =
+      told_sum (played p plans) (λ e. f e.due.what) (λ m. cond (test m.what) 1 0)
+      (λ s r d. same_told (storm_of p r) (plans (population_of p r)) s r d.at d.what) s es last answered
 
 -- a retry is due
 abbrev is_again : Stage → ℕ
@@ -361,84 +364,100 @@ told_at p plan s r t (fails fault h) =
     by_failure (λ (a : Answer Stage Shared Moment). a.told.at
     ≡ t) p r t fault (λ s. refl) (λ s. refl) (λ s h' start. refl) plan s h
 
-latest_by : (p : Parameters) (plan : Schedule) (s : Shared) (es : List (Event Stage)) (at : ℕ) → at ≤ p.until →
-    AreUntil p.until es →
-    latest at (told_by (played p plan) s es) ≤ p.until
-latest_by p plan s [] at early by = early
-latest_by p plan s (e ∷ es) at early by =
-    let answer = played p plan s e.request e.due in
-    let same = told_at p plan s e.request e.due.at e.due.what in
+-- ---- the last that is told, of all requests or of those of one population
+
+latest_on : (p : Parameters) (of : Option ℕ) (r : ℕ) (m : Moment) (ms : List Moment) (at : ℕ) → at ≤ p.until →
+    m.at ≤ p.until → ((n : ℕ) → n ≤ p.until → latest n ms ≤ p.until) →
+    latest at (told_on p of r m ++ ms) ≤ p.until
+latest_on p None r m ms at early here rest = rest m.at here
+latest_on p (Some k) r m ms at early here rest = elim (population_of p r == k) as (λ b.
+    latest at ((if b then record m { busy = none_busy } ∷ [] else []) ++ ms) ≤ p.until) [
+      | true ↦ rest m.at here
+      | false ↦ rest at early
+    ]
+
+latest_by : (p : Parameters) (plans : ℕ → Schedule) (of : Option ℕ) (s : Shared) (es : List (Event Stage)) (at : ℕ) →
+    at ≤ p.until → AreUntil p.until es →
+    latest at (reported p plans of s es) ≤ p.until
+latest_by p plans of s [] at early by = early
+latest_by p plans of s (e ∷ es) at early by =
+    let a = played p plans s e.request e.due in
+    let same = told_at (storm_of p e.request) (plans (population_of p e.request)) s e.request e.due.at e.due.what in
     let here = by.0 in
-    latest_by p plan answer.shared es answer.told.at (omega arith) by.1
+    latest_on p of e.request a.told (reported p plans of a.shared es) at early (omega arith)
+    (λ n few. latest_by p plans of a.shared es n few by.1)
 
 -- ---- all events of a storm
 
-module _ (p : Parameters) (plan : Schedule) (es : List (Event Stage)) (due : ℕ → Option (Due Stage)) (last : Shared)
-    (h : IsBeginning (played p plan) (first p) (start_at p) es due last) where
+module _ (p : Parameters) (plans : ℕ → Schedule) (es : List (Event Stage)) (due : ℕ → Option (Due Stage))
+    (last : Shared)
+    (h : IsBeginning (played p plans) (first p) (start_at p) es due last) where
   abbrev ms : List Moment
-  ms = told_by (played p plan) (start_at p) es
+  ms = told_by (played p plans) (start_at p) es
 
   requests_told : sum_by (λ (e : Event Stage). comes e.due.what) es ≡ count_by (λ (m : Moment). is_request m.what) ms
-  requests_told = count_told comes is_request refl refl (λ h. refl) (λ began. refl) (λ f h next. refl) p plan
+  requests_told = count_told comes is_request refl refl (λ h. refl) (λ began. refl) (λ f h next. refl) p plans
       (start_at p) es last h.answers
 
   retries_told : sum_by (λ (e : Event Stage). is_again e.due.what) es ≡ count_by (λ (m : Moment). is_retry m.what) ms
-  retries_told = count_told is_again is_retry refl refl (λ h. refl) (λ began. refl) (λ f h next. refl) p plan
+  retries_told = count_told is_again is_retry refl refl (λ h. refl) (λ began. refl) (λ f h next. refl) p plans
       (start_at p) es last h.answers
 
   ends_told : sum_by (λ (e : Event Stage). is_end e.due.what) es ≡ count_by (λ (m : Moment). ends_call m.what) ms
-  ends_told = count_told is_end ends_call refl refl (λ h. refl) (λ began. refl) (λ f h next. refl) p plan
+  ends_told = count_told is_end ends_call refl refl (λ h. refl) (λ began. refl) (λ f h next. refl) p plans
       (start_at p) es last h.answers
 
   -- where there is no limit no request is denied before its first call
-  pub none_turned_away : is_limited p.draws ≡ false → turned_away ms ≡ 0
+  pub none_turned_away : ((k : ℕ) → is_limited (draws_of p k) ≡ false) → turned_away ms ≡ 0
   none_turned_away none =
-      let few = told_sum_le (played p plan) (λ e. 0) (λ m. cond (is_turned_away m.what) 1 0)
-      (λ s r d. none_step p plan none s r d.at d.what) (start_at p) es last h.answers in
+      let few = told_sum_le (played p plans) (λ e. 0) (λ m. cond (is_turned_away m.what) 1 0)
+      (λ s r d. none_step (storm_of p r) (plans (population_of p r)) (none (population_of p r)) s r d.at d.what)
+      (start_at p) es last h.answers in
       let zero = sum_none es in
       omega arith
 
   -- each call ends once at most
   pub ends-le : count_by (λ (m : Moment). ends_call m.what) ms ≤ count_by (λ (m : Moment). is_call m.what) ms
   ends-le =
-      let all = balance (played p plan) (weighed is_end) (λ e. is_end e.due.what) (λ e. weighed is_end e.next)
+      let all = balance (played p plans) (weighed is_end) (λ e. is_end e.due.what) (λ e. weighed is_end e.next)
       (λ s r d. omega arith) (first p) (all_requests p)
       (λ r. let k = first_weight is_end 0 (omega arith) p r in
       omega arith) (first_late p) (start_at p) es due last h in
-      let calls = told_sum_ge (played p plan) (λ e. weighed is_end e.next) (λ m. cond (is_call m.what) 1 0)
-      (λ s r d. ends_step p plan s r d.at d.what) (start_at p) es last h.answers in
+      let calls = told_sum_ge (played p plans) (λ e. weighed is_end e.next) (λ m. cond (is_call m.what) 1 0)
+      (λ s r d. ends_step (storm_of p r) (plans (population_of p r)) s r d.at d.what) (start_at p) es last h.answers in
       let ends = ends_told in
       omega arith
 
   -- no retry begins that was not granted
   pub retries-le : count_by (λ (m : Moment). is_retry m.what) ms ≤ count_by (λ (m : Moment). is_granted m.what) ms
   retries-le =
-      let all = balance (played p plan) (weighed is_again) (λ e. is_again e.due.what) (λ e. weighed is_again e.next)
+      let all = balance (played p plans) (weighed is_again) (λ e. is_again e.due.what) (λ e. weighed is_again e.next)
       (λ s r d. omega arith) (first p) (all_requests p)
       (λ r. let k = first_weight is_again 0 (omega arith) p r in
       omega arith) (first_late p) (start_at p) es due last h in
-      let granted = told_sum_ge (played p plan) (λ e. weighed is_again e.next) (λ m. cond (is_granted m.what) 1 0)
-      (λ s r d. granted_step p plan s r d.at d.what) (start_at p) es last h.answers in
+      let granted = told_sum_ge (played p plans) (λ e. weighed is_again e.next) (λ m. cond (is_granted m.what) 1 0)
+      (λ s r d. granted_step (storm_of p r) (plans (population_of p r)) s r d.at d.what)
+      (start_at p) es last h.answers in
       let again = retries_told in
       omega arith
 
   -- each request ends once at most
   pub over-le : count_by (λ (m : Moment). ends_request m.what) ms ≤ count_by (λ (m : Moment). is_request m.what) ms
   over-le =
-      let all = balance (played p plan) (weighed goes_on) (λ e. is_over e.due.what e.next) (λ e. comes e.due.what)
-      (λ s r d. over_step p plan s r d.at d.what) (first p) (all_requests p)
+      let all = balance (played p plans) (weighed goes_on) (λ e. is_over e.due.what e.next) (λ e. comes e.due.what)
+      (λ s r d. over_step (storm_of p r) (plans (population_of p r)) s r d.at d.what) (first p) (all_requests p)
       (λ r. let k = first_weight goes_on 0 (omega arith) p r in
       omega arith) (first_late p) (start_at p) es due last h in
-      let over = told_sum_le (played p plan) (λ e. is_over e.due.what e.next) (λ m. cond (ends_request m.what) 1 0)
-      (λ s r d. over_told p plan s r d.at d.what) (start_at p) es last h.answers in
+      let over = told_sum_le (played p plans) (λ e. is_over e.due.what e.next) (λ m. cond (ends_request m.what) 1 0)
+      (λ s r d. over_told (storm_of p r) (plans (population_of p r)) s r d.at d.what) (start_at p) es last h.answers in
       let requests = requests_told in
       omega arith
 
   -- no more come than there are
   pub requests-le : count_by (λ (m : Moment). is_request m.what) ms ≤ all_requests p
   requests-le =
-      let all = at_most (played p plan) (weighed comes) (λ e. comes e.due.what)
-      (λ s r d. comes_step p plan s r d.at d.what) (first p)
+      let all = at_most (played p plans) (weighed comes) (λ e. comes e.due.what)
+      (λ s r d. comes_step (storm_of p r) (plans (population_of p r)) s r d.at d.what) (first p)
       (all_requests p) (λ r. first_weight comes 1 (omega arith) p r) (first_late p) (start_at p) es due last h in
       let requests = requests_told in
       omega arith
@@ -446,12 +465,12 @@ module _ (p : Parameters) (plan : Schedule) (es : List (Event Stage)) (due : ℕ
   -- no event is played after the end
   pub by_until : AreUntil p.until es
   by_until =
-      let all = balance (played p plan) (lateness p.until) (λ e. cond (nat_le e.due.at p.until) 0 1) (λ e. 0)
-      (λ s r d. let k = in_time p.until (played p plan s r d).next (λ d' e.
-      (due_next p plan s r d.at d.what d' e).by) in omega arith)
+      let all = balance (played p plans) (lateness p.until) (λ e. cond (nat_le e.due.at p.until) 0 1) (λ e. 0)
+      (λ s r d. let k = in_time p.until (played p plans s r d).next (λ d' e.
+      (due_next (storm_of p r) (plans (population_of p r)) s r d.at d.what d' e).by) in omega arith)
       (first p) (all_requests p) (first_in_time p) (first_late p) (start_at p) es due last h in
       let none = sum_none es in
       are_until p.until es (omega arith)
 
-  pub latest-le : latest 0 ms ≤ p.until
-  latest-le = latest_by p plan (start_at p) es 0 (omega arith) by_until
+  pub latest-le : (of : Option ℕ) → latest 0 (reported p plans of (start_at p) es) ≤ p.until
+  latest-le of = latest_by p plans of (start_at p) es 0 (omega arith) by_until

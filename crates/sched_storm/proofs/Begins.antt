@@ -1,5 +1,5 @@
 -- A course before the first event.
-use Rattle.std.proofs.Common.{◌≡◌, ℕ, ◌≤◌, Bool, false, cond, ltb, le-ltb, List, [], length, get_or, vec_len, Option}
+use Rattle.std.proofs.Common.{◌≡◌, ℕ, ◌≤◌, false, cond, ltb, le-ltb, [], get_or, vec_len}
 use Rattle.std.proofs.Common.{Some, None, refl, sym, ◌∙◌, ap, subst, arith}
 use Rattle.rand_xoshiro.specs.Xoshiro128.{of_seed}
 use Rattle.rand_xoshiro.specs.SplitMix64.{splitmix_seed}
@@ -9,17 +9,17 @@ use Rattle.sched_storm_report.specs.Told.{AreTold}
 use Rattle.sched_storm_report.specs.declared.peer.Peer.{Peer}
 use Rattle.sched_storm_limit.specs.Limits.{state_at_first}
 use Rattle.sched_storm_limit.specs.States.{state_of}
-use Rattle.sched_storm.specs.Parameters.{AreInRange, all_requests, comes_at}
+use Rattle.sched_storm.specs.Parameters.{AreInRange, comes_at}
 use Rattle.sched_storm.specs.Calls.{AreFew}
 use Rattle.sched_storm.specs.Tickets.{none_drawn, asked_of, given_of}
 use Rattle.sched_storm.specs.Drivers.{DriverStands}
-use Rattle.sched_storm.specs.Plays.{Stage, begins, Shared, words_of, start_at, first}
+use Rattle.sched_storm.specs.Plays.{Stage, words_of, start_at, first}
 use Rattle.sched_storm.specs.Keys.{Holds}
-use Rattle.sched_storm.specs.Course.{shared_of, slot_of, Drives, IsNear, Stands}
+use Rattle.sched_storm.specs.Clients.{Meet}
+use Rattle.sched_storm.specs.Course.{shared_of, client_of, slot_of, IsNear, Stands}
 use Rattle.sched_storm.specs.declared.course.Course.{Course}
-use Rattle.sched_storm.specs.declared.tickets.Drawn.{Drawn}
 use Rattle.sched_storm.proofs.Called.{few_none}
-use Rattle.sched_storm.proofs.Taken.{ComesBy, comes_by}
+use Rattle.sched_storm.proofs.Taken.{comes_by}
 
 no_more : (a : ℕ) → a ≤ a
 no_more a = omega arith
@@ -37,10 +37,12 @@ pub record HasNothing (c : Course) : Type 0 where
   pub slots : c.drivers.slots.items ≡ []
   pub slots_len : vec_len c.drivers.slots ≡ 0
   pub agenda : Holds c.agenda (λ _. None)
-  pub told : (peer : Peer) → AreTold peer [] c.tally
-  pub window : c.tally.window ≡ c.storm.window
-  pub from : c.tally.from ≡ 0
-  pub said : c.tally.said ≡ 0
+  pub clients : Meet c.storm c.clients
+  pub told : (peer : Peer) → AreTold peer [] c.reporter.tally
+  pub window : c.reporter.tally.window ≡ c.storm.window
+  pub from : c.reporter.tally.from ≡ 0
+  pub said : c.reporter.tally.said ≡ 0
+  pub events : c.reporter.events ≡ 0
 
 module _ (c : Course) (h : HasNothing c) where
   shared_is : start_at c.storm ≡ shared_of c
@@ -74,7 +76,7 @@ module _ (c : Course) (h : HasNothing c) where
         begun = no_more (comes_at c.storm r);
         placed = omega arith;
         told = omega arith;
-        drives = subst (λ o. DriverStands c.plan o []) (sym (no_slot r)) refl;
+        drives = subst (λ o. DriverStands (client_of c r).plan o []) (sym (no_slot r)) refl;
       })
 
   none_came : (r : ℕ) → first c.storm r ≡ cond (ltb r c.requests) None (first c.storm r)
@@ -101,8 +103,10 @@ module _ (c : Course) (h : HasNothing c) where
     calls = h.calls;
     few_calls = (let calls = h.calls in omega arith);
     busy = subst (λ b. AreFew b) (sym h.busy) few_none;
+    clients = h.clients;
     asked = (let asked = ap asked_of h.drawn in let requests = h.requests in omega arith);
     given = (let given = ap given_of h.drawn in omega arith);
-    said = h.said;
+    said = (let said = h.said in let events = h.events in omega arith);
+    number = h.events;
     window = h.window;
   }

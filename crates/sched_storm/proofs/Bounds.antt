@@ -1,15 +1,16 @@
 -- Requests that are counted and tickets that are drawn keep the bounds on tickets.
-use Rattle.std.proofs.Common.{◌≡◌, ℕ, ◌+◌, ◌*◌, ◌/◌, ◌<◌, ◌≤◌, min, Bool, true, false, cond, refl, ◌∙◌, arith, ltb-true}
+use Rattle.std.proofs.Common.{◌≡◌, ℕ, ◌+◌, ◌*◌, ◌/◌, ◌<◌, ◌≤◌, Bool, true, false, cond, refl, ap, ◌∙◌}
+use Rattle.std.proofs.Common.{arith, ltb-true}
 use native.Mathlib.Nat.{div-mul-le_self, mul-add}
 use Rattle.std.proofs.lemmas.Nat.{mul-le, le-div}
 use Rattle.std.specs.Prelude.{nat_lt}
 use Rattle.sched_ticket_quota.specs.declared.view.Terms.{Terms}
 use Rattle.sched_ticket_quota.specs.Held.{AreTerms}
 use Rattle.sched_ticket_quota.specs.Windows.{allowed}
-use Rattle.sched_storm_limit.specs.Ranges.{AreDraws}
+use Rattle.sched_storm_limit.specs.Ranges.{AreDraws, has_draws}
 use Rattle.sched_storm.specs.Tickets.{asked_of, given_of, turned, at_moment, with_request, counted}
 use Rattle.sched_storm.specs.Tickets.{may_draw, with_ticket, draw_at}
-use Rattle.sched_storm.specs.Tickets.{tickets_of, most_before, last_window, AreGiven, IsLawful, AreFew}
+use Rattle.sched_storm.specs.Tickets.{tickets_of, IsLawful, AreFew}
 use Rattle.sched_storm_limit.specs.declared.draws.Draws.{Draws}
 use Rattle.sched_storm_limit.specs.declared.draws.Draws.TheVariants.{Nothing, Budget, Quota, Limited}
 use Rattle.sched_storm.specs.declared.tickets.Drawn.{Drawn}
@@ -55,11 +56,18 @@ moment_given (Budget limit) t d = refl
 moment_given (Quota terms) t d = turned_given (t / terms.period) d
 moment_given (Limited limit) t d = refl
 
-pub counted_asked : (draws : Draws) (t : ℕ) (d : Drawn) → asked_of (counted draws t d) ≡ asked_of d + 1
-counted_asked draws t d = let same = moment_asked draws t d in omega arith
+pub counted_asked : (draws : Draws) (t : ℕ) (d : Drawn) →
+    asked_of (counted draws t d) ≡ asked_of d + cond (has_draws draws) 1 0
+counted_asked Nothing t d = omega arith
+counted_asked (Budget limit) t d = omega arith
+counted_asked (Quota terms) t d = let same = turned_asked (t / terms.period) d in omega arith
+counted_asked (Limited limit) t d = omega arith
 
 pub counted_given : (draws : Draws) (t : ℕ) (d : Drawn) → given_of (counted draws t d) ≡ given_of d
-counted_given draws t d = moment_given draws t d
+counted_given Nothing t d = refl
+counted_given (Budget limit) t d = refl
+counted_given (Quota terms) t d = turned_given (t / terms.period) d
+counted_given (Limited limit) t d = refl
 
 ticket_asked : (draws : Draws) (d : Drawn) → asked_of (with_ticket draws d) ≡ asked_of d
 ticket_asked Nothing d = refl
@@ -68,12 +76,11 @@ ticket_asked (Quota terms) d = refl
 ticket_asked (Limited limit) d = refl
 
 -- a ticket more, where retries draw on anything
-ticket_given : (draws : Draws) (d : Drawn) (n : ℕ) → given_of d ≡ tickets_of draws n →
-    given_of (with_ticket draws d) ≡ tickets_of draws (n + 1)
-ticket_given Nothing d n h = h
-ticket_given (Budget limit) d n h = omega arith
-ticket_given (Quota terms) d n h = omega arith
-ticket_given (Limited limit) d n h = omega arith
+ticket_given : (draws : Draws) (d : Drawn) → given_of (with_ticket draws d) ≡ given_of d + cond (has_draws draws) 1 0
+ticket_given Nothing d = omega arith
+ticket_given (Budget limit) d = omega arith
+ticket_given (Quota terms) d = omega arith
+ticket_given (Limited limit) d = omega arith
 
 pub drawn_asked : (draws : Draws) (may : Bool) (t : ℕ) (d : Drawn) → asked_of (draw_at draws may t d).1 ≡ asked_of d
 drawn_asked draws may t d =
@@ -100,11 +107,11 @@ drawn_given draws may t d =
       | false ↦ omega arith
     ]
 
-pub granted_given : (draws : Draws) (may : Bool) (t : ℕ) (d : Drawn) (n : ℕ) → (draw_at draws may t d).0 ≡ true →
-    given_of d ≡ tickets_of draws n → given_of (draw_at draws may t d).1 ≡ tickets_of draws (n + 1)
-granted_given draws may t d n is h =
+pub granted_given : (draws : Draws) (may : Bool) (t : ℕ) (d : Drawn) → (draw_at draws may t d).0 ≡ true →
+    given_of (draw_at draws may t d).1 ≡ given_of d + cond (has_draws draws) 1 0
+granted_given draws may t d is =
     let e = at_moment draws t d in
-    rw is (ticket_given draws e n (moment_given draws t d ∙ h))
+    rw is (ticket_given draws e ∙ ap (λ n. n + cond (has_draws draws) 1 0) (moment_given draws t d))
 
 pub refused_given : (draws : Draws) (may : Bool) (t : ℕ) (d : Drawn) → (draw_at draws may t d).0 ≡ false →
     given_of (draw_at draws may t d).1 ≡ given_of d
@@ -158,8 +165,11 @@ lawful_request (Limited limit) until d law = record { here = tt; before = law.be
 
 pub lawful_counted : (draws : Draws) (until t : ℕ) (d : Drawn) → AreDraws draws → t ≤ until → IsLawful draws until d →
     IsLawful draws until (counted draws t d)
-lawful_counted draws until t d ok by law = lawful_request draws until (at_moment draws t d)
-    (lawful_at draws until t d ok by law)
+lawful_counted Nothing until t d ok by law = law
+lawful_counted (Budget limit) until t d ok by law = lawful_request (Budget limit) until d law
+lawful_counted (Quota terms) until t d ok by law = lawful_request (Quota terms) until (turned (t / terms.period) d)
+    (lawful_at (Quota terms) until t d ok by law)
+lawful_counted (Limited limit) until t d ok by law = lawful_request (Limited limit) until d law
 
 lawful_ticket : (draws : Draws) (may : Bool) (until : ℕ) (d : Drawn) → may_draw draws may d ≡ true →
     IsLawful draws until d → IsLawful draws until (with_ticket draws d)
@@ -198,6 +208,20 @@ tickets-le (Quota k) until d law =
     let reserve = mul-le k.reserve (d.window + 1) k.reserve (until / k.period + 1) (omega arith) (omega arith) in
     omega arith
 tickets-le (Limited limit) until d law = tt
+
+-- more requests allow no fewer
+pub few_more : (draws : Draws) (until a b g : ℕ) → a ≤ b → AreFew draws until a g → AreFew draws until b g
+few_more Nothing until a b g more h = h
+few_more (Budget limit) until a b g more h = h
+few_more (Quota k) until a b g more h = let rise = mul-le k.share a k.share b (omega arith) more in omega arith
+few_more (Limited limit) until a b g more h = tt
+
+-- one retry more that is granted
+pub tickets_more : (draws : Draws) (n : ℕ) → tickets_of draws n + cond (has_draws draws) 1 0 ≡ tickets_of draws (n + 1)
+tickets_more Nothing n = refl
+tickets_more (Budget limit) n = refl
+tickets_more (Quota terms) n = refl
+tickets_more (Limited limit) n = refl
 
 -- no more tickets than retries were granted
 pub tickets_of_le : (draws : Draws) (n : ℕ) → tickets_of draws n ≤ n

@@ -4,7 +4,7 @@ use Rattle.std.proofs.Common.{◌≡◌, ℕ, suc, ◌+◌, ◌*◌, ◌≤◌, 
 use Rattle.std.proofs.lemmas.List.Sums.{sum_by-cons}
 use Rattle.std.specs.Prelude.{count_by}
 use Rattle.sched_plan.specs.Schedule.{Schedule}
-use Rattle.sched_storm_trace.specs.Trace.{Due, Event, Answer, IsBeginning, told_by}
+use Rattle.sched_storm_trace.specs.Trace.{Due, Event, IsBeginning, told_by}
 use Rattle.sched_storm_report.specs.Moments.{is_request, is_call}
 use Rattle.sched_storm_report.specs.Laws.{is_turned_away, turned_away}
 use Rattle.sched_storm_report.specs.declared.moments.Happening.{Happening}
@@ -55,23 +55,23 @@ away-le (m ∷ ms) =
     let b = sum_by-cons (one is_request) m ms in
     omega arith
 
-told_length : (p : Parameters) (plan : Schedule) (s : Shared) (es : List (Event Stage)) →
-    length (told_by (played p plan) s es) ≡ length es
-told_length p plan s [] = refl
-told_length p plan s (e ∷ es) =
-    let a = played p plan s e.request e.due in
-    let rest = told_length p plan a.shared es in
+told_length : (p : Parameters) (plans : ℕ → Schedule) (s : Shared) (es : List (Event Stage)) →
+    length (told_by (played p plans) s es) ≡ length es
+told_length p plans s [] = refl
+told_length p plans s (e ∷ es) =
+    let a = played p plans s e.request e.due in
+    let rest = told_length p plans a.shared es in
     ap (λ n. suc n) rest
 
-pub few_events : (p : Parameters) (plan : Schedule) (es : List (Event Stage)) (due : ℕ → Option (Due Stage))
+pub few_events : (p : Parameters) (plans : ℕ → Schedule) (es : List (Event Stage)) (due : ℕ → Option (Due Stage))
     (last : Shared) →
-    IsBeginning (played p plan) (first p) (start_at p) es due last →
-    length es ≤ 2 * calls_of p plan es + all_requests p
-few_events p plan es due last h =
-    let ms : List Moment = told_by (played p plan) (start_at p) es in
-    let ends = ends-le p plan es due last h in
-    let requests = requests-le p plan es due last h in
+    IsBeginning (played p plans) (first p) (start_at p) es due last →
+    length es ≤ 2 * calls_of p plans es + all_requests p
+few_events p plans es due last h =
+    let ms : List Moment = told_by (played p plans) (start_at p) es in
+    let ends = ends-le p plans es due last h in
+    let requests = requests-le p plans es due last h in
     let kinds = all_kinds ms in
     let away = away-le ms in
-    let same = told_length p plan (start_at p) es in
+    let same = told_length p plans (start_at p) es in
     omega arith

@@ -1,5 +1,6 @@
 -- Lemmas that the proofs of `sched_storm` cite.
 pub mod Arrivals
+pub mod Drawing
 pub mod Peer
 pub mod Called
 pub mod Keys
@@ -19,3 +20,4 @@ pub mod OfKind
 pub mod Balances
 pub mod Lawful
 pub mod AddsUp
+pub mod Worked

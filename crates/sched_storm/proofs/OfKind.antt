@@ -4,7 +4,6 @@ use Rattle.sched_plan.specs.declared.history.Event.{Event}
 use Rattle.sched_storm_report.specs.declared.moments.Failure.{Failure}
 use Rattle.sched_storm.specs.Plays.{Stage, begins, retries, succeeds, fails}
 use Rattle.sched_storm.specs.Turns.{kind_of}
-use Rattle.sched_storm.specs.declared.turns.Kind.{Kind}
 use Rattle.sched_storm.specs.declared.turns.Kind.TheVariants.{Begins, Retries, Succeeds, Fails}
 
 same_failure : (f g : Failure) → Fails f ≡ Fails g → f ≡ g

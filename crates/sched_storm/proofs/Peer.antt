@@ -1,5 +1,5 @@
 -- What the peer can have done never falls, and how much it is at most.
-use Rattle.std.proofs.Common.{◌≡◌, ℕ, ◌+◌, ◌-◌, ◌*◌, ◌<◌, ◌≤◌, min, Option, Some, None, arith}
+use Rattle.std.proofs.Common.{ℕ, ◌-◌, ◌*◌, ◌≤◌, Option, Some, None, arith}
 use Rattle.std.proofs.lemmas.Nat.{mul-le}
 use Rattle.sched_storm_report.specs.Peer.{millis_in, work_by}
 use Rattle.sched_storm_report.specs.declared.peer.Span.{Span}

@@ -1,6 +1,6 @@
 -- What becomes of a request where something is due of it: what is due next, and the tickets.
-use Rattle.std.proofs.Common.{◌≡◌, ℕ, ◌+◌, ◌<◌, ◌≤◌, Bool, true, false, cond, List, [], Option, Some, None, refl, sym}
-use Rattle.std.proofs.Common.{◌∙◌, ap, subst, arith, leb-true}
+use Rattle.std.proofs.Common.{◌≡◌, ℕ, ◌+◌, ◌<◌, ◌≤◌, Bool, true, false, cond, List, [], Option, Some, None, refl}
+use Rattle.std.proofs.Common.{ap, subst, arith, leb-true}
 use Rattle.std.specs.Prelude.{nat_le}
 use Rattle.sched_time.specs.Decision.{start_of}
 use Rattle.sched_plan.specs.Schedule.{Schedule}
@@ -10,6 +10,7 @@ use Rattle.sched_task.specs.Words.{next_four}
 use Rattle.sched_storm_trace.specs.Trace.{Due}
 use Rattle.sched_storm_report.specs.Moments.{is_call}
 use Rattle.sched_storm_limit.specs.Limits as limits
+use Rattle.sched_storm_limit.specs.Ranges.{has_draws}
 use Rattle.sched_storm_report.specs.declared.moments.Failure.{Failure}
 use Rattle.sched_storm.specs.Calls.{called}
 use Rattle.sched_storm.specs.Tickets.{asked_of, given_of, draw_at}
@@ -21,7 +22,6 @@ use Rattle.sched_storm.specs.Course.{IsPlacedAt, came}
 use Rattle.sched_storm.specs.declared.parameters.Parameters.{Parameters}
 use Rattle.sched_storm.specs.declared.calls.CallEnd.{CallEnd}
 use Rattle.sched_storm.specs.declared.calls.CallEnd.TheVariants.{Succeeded, Failed}
-use Rattle.sched_storm.specs.declared.tickets.Drawn.{Drawn}
 use Rattle.sched_storm.proofs.Bounds.{counted_asked, counted_given, drawn_asked, drawn_given}
 
 -- whether a call begins is what is told
@@ -166,12 +166,18 @@ drawn_arriving : (p : Parameters) (s : Shared) (t : ℕ) (b : Bool) → (arrivin
 drawn_arriving p s t true = refl
 drawn_arriving p s t false = refl
 
+one_at_most : (b : Bool) → cond {A = ℕ} b 1 0 ≤ 1
+one_at_most true = omega arith
+one_at_most false = omega arith
+
 pub played_asked : (p : Parameters) (plan : Schedule) (s : Shared) (r t : ℕ) (what : Stage) →
-    asked_of (playing p plan s r t what).shared.drawn ≡ asked_of s.drawn + came (kind_of what)
+    asked_of (playing p plan s r t what).shared.drawn ≤ asked_of s.drawn + came (kind_of what)
 played_asked p plan s r t begins =
     let may = limits.admitting p.draws t r s.limit in
-    ap asked_of (drawn_arriving p (with_request p t (record s { limit = may.1 })) t may.0)
-    ∙ counted_asked p.draws t s.drawn
+    let arrived = ap asked_of (drawn_arriving p (with_request p t (record s { limit = may.1 })) t may.0) in
+    let counted = counted_asked p.draws t s.drawn in
+    let one = one_at_most (has_draws p.draws) in
+    omega arith
 played_asked p plan s r t (retries h) = omega arith
 played_asked p plan s r t succeeds = omega arith
 played_asked p plan s r t (fails failure before) =

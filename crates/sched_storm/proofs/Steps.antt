@@ -1,34 +1,39 @@
 -- What is due is played: the course stands as one event more leaves it.
-use Rattle.std.proofs.Common.{◌≡◌, ◌≢◌, ℕ, ◌+◌, ◌*◌, ◌<◌, ◌≤◌, Bool, true, false, cond, eqb, eqb-true, eq-eqb, ltb}
+use Rattle.std.proofs.Common.{◌≡◌, ◌≢◌, ℕ, ◌+◌, ◌<◌, ◌≤◌, Bool, true, false, cond, eqb, eqb-true, eq-eqb, ltb}
 use Rattle.std.proofs.Common.{ltb-true, ltb-false, lt-ltb, le-ltb, List, [], ◌∷◌, ◌++◌, length, length-append, Option}
-use Rattle.std.proofs.Common.{Some, None, IsTrue, refl, sym, ◌∙◌, ap, subst, inl, inr, arith, rules, vec_len}
+use Rattle.std.proofs.Common.{Some, None, IsTrue, refl, sym, ◌∙◌, ap, subst, inl, inr, arith}
 use Rattle.std.proofs.lemmas.Bool.{false≢true, cases_lt}
 use Rattle.std.proofs.lemmas.List.Sums.{sum_by-append, sum_by-cons}
-use Rattle.std.specs.Prelude.{nat_le, nat_lt, count_by}
+use Rattle.std.specs.Prelude.{count_by}
 use Rattle.sched_plan.specs.Schedule.{Schedule}
 use Rattle.sched_storm_trace.specs.Trace.{Due, Event, Answer, updated, NotAfter, IsBeginning, told_by}
+use Rattle.sched_storm.specs.Populations.{population_of, storm_of}
+use Rattle.sched_storm.specs.Clients.{client_at, plans_of, Meet}
+use Rattle.sched_storm.specs.Reported.{reported}
+use Rattle.sched_storm.specs.declared.clients.Client.{Client}
+use Rattle.sched_storm.proofs.Reports.{reported_push}
 use Rattle.sched_storm_trace.proofs.Traces.{one_more, told_push}
 use Rattle.sched_storm_report.specs.Told.{AreTold}
 use Rattle.sched_storm_report.specs.declared.peer.Peer.{Peer}
 use Rattle.sched_storm_report.specs.declared.moments.Moment.{Moment}
 use Rattle.sched_storm.specs.Parameters.{all_requests, comes_at, peer_of}
 use Rattle.sched_storm.specs.Tickets.{asked_of, given_of}
-use Rattle.sched_storm.specs.Plays.{Stage, begins, retries, succeeds, fails, Shared, start_at, first, if_by}
-use Rattle.sched_storm.specs.Plays.{playing, played}
-use Rattle.sched_storm.specs.Turns.{kind_of, begins_call, turn_for, turn_if}
+use Rattle.sched_storm.specs.Plays.{Stage, Shared, start_at, first}
+use Rattle.sched_storm.specs.Plays.{played}
+use Rattle.sched_storm.specs.Turns.{kind_of, begins_call, turn_if}
 use Rattle.sched_storm.specs.Keys.{Holds}
 use Rattle.sched_storm.specs.Storms.{calls_of}
 use Rattle.sched_storm_report.specs.Moments.{is_call}
-use Rattle.sched_storm.specs.Course.{shared_of, slot_of, Drives, calls_told, HasAnswered, Rests, IsPlacedAt}
+use Rattle.sched_storm.specs.Course.{shared_of, client_of, slot_of, Drives, calls_told, HasAnswered, Rests, IsPlacedAt}
 use Rattle.sched_storm.specs.Course.{IsPlacedBy, came}
-use Rattle.sched_storm.specs.Course.{AreCounted, IsCounted, keys_of, IsOther, IsTakenOut, IsOut, IsNear, Stands}
+use Rattle.sched_storm.specs.Course.{IsCounted, keys_of, IsOther, IsOut, IsNear, Stands}
 use Rattle.sched_storm.specs.Course.{IsLeast, IsTurnOf, StandsAfter}
 use Rattle.sched_storm.specs.declared.parameters.Parameters.{Parameters}
 use Rattle.sched_storm.specs.declared.turns.Kind.{Kind}
 use Rattle.sched_storm.specs.declared.turns.Kind.TheVariants.{Begins, Retries, Succeeds, Fails}
 use Rattle.sched_storm.specs.declared.turns.Turn.{Turn}
 use Rattle.sched_storm.specs.declared.course.Course.{Course}
-use Rattle.sched_storm.proofs.Played.{IsDueNext, due_next, played_asked, played_given, call_told}
+use Rattle.sched_storm.proofs.Played.{due_next, played_asked, played_given, call_told}
 
 up : (a b c : ℕ) → a ≤ b → b ≤ c → a ≤ c
 up a b c h k = omega arith
@@ -92,16 +97,30 @@ module _ (old new : Course) (turn : Turn) (d : Due Stage) (next : Option Turn) (
     (due_is : was.due turn.request ≡ Some d) (not_held : was.held turn.request ≡ None)
     (placed : IsPlacedAt (kind_of d.what) turn.request old.requests)
     (least : IsLeast was.due d.at turn.request)
-    (answered : HasAnswered (played old.storm old.plan (shared_of old) turn.request d) d.at turn.request old new next)
+    (answered : HasAnswered (played old.storm (plans_of old.clients) (shared_of old) turn.request d) d.at turn.request
+    old new next)
     (rests : Rests d.at turn.request old new)
     (counted : IsCounted (kind_of d.what) old new)
-    (room : IsTrue (begins_call old.storm (shared_of old) turn.request d.at (kind_of d.what)) →
+    (room : IsTrue (begins_call (storm_of old.storm turn.request) (shared_of old) turn.request d.at (kind_of d.what)) →
     old.calls < old.storm.calls) where
   abbrev r : ℕ
   r = turn.request
 
+  -- the plans, and the storm and the plan as the request's population has them
+  abbrev plans : ℕ → Schedule
+  plans = plans_of old.clients
+
+  abbrev p : Parameters
+  p = storm_of old.storm r
+
+  abbrev plan : Schedule
+  plan = plans (population_of old.storm r)
+
+  same_client : (q : ℕ) → client_of new q ≡ client_of old q
+  same_client q = λ i. client_at (population_of (rests.storm i) q) (rests.clients i)
+
   abbrev after : Answer Stage Shared Moment
-  after = played old.storm old.plan (shared_of old) r d
+  after = played old.storm plans (shared_of old) r d
 
   abbrev event : Event Stage
   event = record { request = r; due = d; next = after.next }
@@ -115,31 +134,37 @@ module _ (old new : Course) (turn : Turn) (d : Due Stage) (next : Option Turn) (
   near_here : IsNear old r d
   near_here = was.near r d due_is
 
-  begun_old : IsBeginning (played old.storm old.plan) (first old.storm) (start_at old.storm) events due after.shared
-  begun_old = one_more (played old.storm old.plan) (first old.storm) (start_at old.storm) was.events was.due
+  begun_old : IsBeginning (played old.storm plans) (first old.storm) (start_at old.storm) events due after.shared
+  begun_old = one_more (played old.storm plans) (first old.storm) (start_at old.storm) was.events was.due
       (shared_of old) event was.begun due_is refl
       least answered.later
 
-  begun_new : IsBeginning (played new.storm new.plan) (first new.storm) (start_at new.storm) events due (shared_of new)
+  begun_new : IsBeginning (played new.storm (plans_of new.clients)) (first new.storm) (start_at new.storm) events due
+      (shared_of new)
   begun_new =
-      subst (λ p. IsBeginning (played p new.plan) (first p) (start_at p) events due (shared_of new)) (sym rests.storm)
-      (subst (λ plan. IsBeginning (played old.storm plan) (first old.storm) (start_at old.storm) events due
-      (shared_of new)) (sym rests.plan)
-      (subst (λ s. IsBeginning (played old.storm old.plan) (first old.storm) (start_at old.storm) events due s)
+      subst (λ p. IsBeginning (played p (plans_of new.clients)) (first p) (start_at p) events due (shared_of new))
+      (sym rests.storm)
+      (subst (λ cs. IsBeginning (played old.storm (plans_of cs)) (first old.storm) (start_at old.storm) events due
+      (shared_of new)) (sym rests.clients)
+      (subst (λ s. IsBeginning (played old.storm plans) (first old.storm) (start_at old.storm) events due s)
       (sym answered.shared_is) begun_old))
 
   told_new : (peer : Peer) → peer ≡ peer_of new.storm →
-      AreTold peer (told_by (played new.storm new.plan) (start_at new.storm) events) new.tally
+      AreTold peer (reported new.storm (plans_of new.clients) new.reporter.of (start_at new.storm) events)
+      new.reporter.tally
   told_new peer is =
       let is_old : peer ≡ peer_of old.storm = is ∙ ap peer_of rests.storm in
-      let told = answered.told peer (told_by (played old.storm old.plan) (start_at old.storm) was.events) is_old
+      let told = answered.told peer (reported old.storm plans old.reporter.of (start_at old.storm) was.events) is_old
       (was.told peer is_old) in
-      let pushed = told_push (played old.storm old.plan) (start_at old.storm) was.events
+      let pushed = reported_push old.storm plans old.reporter.of (start_at old.storm) was.events
       (shared_of old) event was.begun.answers in
-      subst (λ p. AreTold peer (told_by (played p new.plan) (start_at p) events) new.tally) (sym rests.storm)
-      (subst (λ plan. AreTold peer (told_by (played old.storm plan) (start_at old.storm) events) new.tally)
-      (sym rests.plan)
-      (subst (λ ms. AreTold peer ms new.tally) (sym pushed) told))
+      subst (λ p. AreTold peer (reported p (plans_of new.clients) new.reporter.of (start_at p) events)
+      new.reporter.tally) (sym rests.storm)
+      (subst (λ cs. AreTold peer (reported old.storm (plans_of cs) new.reporter.of (start_at old.storm) events)
+      new.reporter.tally) (sym rests.clients)
+      (subst (λ o. AreTold peer (reported old.storm plans o (start_at old.storm) events) new.reporter.tally)
+      (sym rests.of)
+      (subst (λ ms. AreTold peer ms new.reporter.tally) (sym pushed) told)))
 
   requests_new : new.requests ≡ old.requests + came (kind_of d.what)
   requests_new = counted.requests_are
@@ -154,7 +179,7 @@ module _ (old new : Course) (turn : Turn) (d : Due Stage) (next : Option Turn) (
     is_due = ap (λ b. cond b (Some e) (was.due r)) (eq-eqb r r refl);
     turn_is = refl;
     not_held = not_held;
-    placed = (due_next old.storm old.plan (shared_of old) r d.at d.what e at).placed r new.requests came_here;
+    placed = (due_next p plan (shared_of old) r d.at d.what e at).placed r new.requests came_here;
   }
 
   other_if : (o : Option (Due Stage)) (q : ℕ) → IsOther (turn_if r o) q → (b : Bool) → eqb r q ≡ b →
@@ -175,7 +200,7 @@ module _ (old new : Course) (turn : Turn) (d : Due Stage) (next : Option Turn) (
   near_if : (q : ℕ) (e : Due Stage) (b : Bool) → eqb r q ≡ b → cond b after.next (was.due q) ≡ Some e → IsNear new q e
   near_if q e true s at =
       let same : r ≡ q = eqb-true r q s in
-      let next_is = due_next old.storm old.plan (shared_of old) r d.at d.what e at in
+      let next_is = due_next p plan (shared_of old) r d.at d.what e at in
       let later = answered.later e at in
       let by = next_is.by in
       let begun = near_here.begun in
@@ -186,7 +211,8 @@ module _ (old new : Course) (turn : Turn) (d : Due Stage) (next : Option Turn) (
         begun = rw rests.storm (up (comes_at old.storm r) d.at e.at begun later);
         placed = placed_by (kind_of e.what) r new.requests (next_is.placed r new.requests came_here);
         told = omega arith;
-        drives = subst (λ plan. Drives plan (slot_of new r) e.at e.what) (sym rests.plan) (answered.drives e at);
+        drives = subst (λ (u : Client). Drives u.plan (slot_of new r) e.at e.what) (sym (same_client r))
+            (answered.drives e at);
       })
   near_if q e false s at =
       let apart : q ≢ r = λ same. false≢true (sym s ∙ eq-eqb r q (sym same)) in
@@ -200,27 +226,28 @@ module _ (old new : Course) (turn : Turn) (d : Due Stage) (next : Option Turn) (
         placed = rw requests_new (placed_later (kind_of d.what)
             (kind_of e.what) r q old.requests placed apart near.placed);
         told = omega arith;
-        drives = subst (λ plan. Drives plan (slot_of new q) e.at e.what) (sym rests.plan)
-            (subst (λ o. Drives old.plan o e.at e.what) (sym (rests.others q apart)) near.drives);
+        drives = subst (λ (u : Client). Drives u.plan (slot_of new q) e.at e.what) (sym (same_client q))
+            (subst (λ o. Drives (client_of old q).plan o e.at e.what) (sym (rests.others q apart)) near.drives);
       }
 
-  calls_more : calls_of old.storm old.plan events ≡ calls_of old.storm old.plan was.events + calls_told after.told
+  calls_more : calls_of old.storm plans events ≡ calls_of old.storm plans was.events + calls_told after.told
   calls_more =
-      let ms : List Moment = told_by (played old.storm old.plan) (start_at old.storm) was.events in
+      let ms : List Moment = told_by (played old.storm plans) (start_at old.storm) was.events in
       let pushed = ap (λ ms. count_by (λ (m : Moment). is_call m.what) ms)
-      (told_push (played old.storm old.plan) (start_at old.storm) was.events (shared_of old) event was.begun.answers) in
+      (told_push (played old.storm plans) (start_at old.storm) was.events (shared_of old) event was.begun.answers) in
       let all = sum_by-append (λ (m : Moment). cond (is_call m.what) 1 0) ms (after.told ∷ []) in
       let one = sum_by-cons (λ (m : Moment). cond (is_call m.what) 1 0) after.told [] in
       omega arith
 
-  calls_same : calls_of new.storm new.plan events ≡ calls_of old.storm old.plan events
-  calls_same = ap (λ p. calls_of p new.plan events) rests.storm ∙ ap (λ plan. calls_of old.storm plan events) rests.plan
+  calls_same : calls_of new.storm (plans_of new.clients) events ≡ calls_of old.storm plans events
+  calls_same = ap (λ p. calls_of p (plans_of new.clients) events) rests.storm
+      ∙ ap (λ cs. calls_of old.storm (plans_of cs) events) rests.clients
 
   few_calls_new : new.calls ≤ old.storm.calls
   few_calls_new =
       let calls = answered.calls in
       let few = few_calls_if (is_call after.told.what) old.calls old.storm.calls was.few_calls
-      (λ is. room (subst (λ b. IsTrue b) (call_told old.storm old.plan (shared_of old) r d.at d.what) is)) in
+      (λ is. room (subst (λ b. IsTrue b) (call_told p plan (shared_of old) r d.at d.what) is)) in
       omega arith
 
   length_more : length events ≡ length was.events + 1
@@ -233,6 +260,8 @@ module _ (old new : Course) (turn : Turn) (d : Due Stage) (next : Option Turn) (
     held = was.held;
     begun = begun_new;
     told = told_new;
+    clients = subst (λ p. Meet p new.clients) (sym rests.storm)
+        (subst (λ cs. Meet old.storm cs) (sym rests.clients) was.clients);
     holds = subst (λ a. Holds a (keys_of was.held)) (sym rests.agenda) was.holds;
     out = subst (λ o. IsOut new.requests due was.held o) (sym answered.next_is) (out_if after.next refl);
     others = λ q other. other_if after.next q (subst (λ o. IsOther o q) answered.next_is other) (eqb r q) refl;
@@ -249,17 +278,18 @@ module _ (old new : Course) (turn : Turn) (d : Due Stage) (next : Option Turn) (
     busy = rests.busy;
     asked =
         let shared = ap (λ (s : Shared). asked_of s.drawn) answered.shared_is in
-        let asked = played_asked old.storm old.plan (shared_of old) r d.at d.what in
+        let asked = played_asked p plan (shared_of old) r d.at d.what in
         let before = was.asked in
         let more = requests_new in
         omega arith;
     given =
         let shared = ap (λ (s : Shared). given_of s.drawn) answered.shared_is in
-        let given = played_given old.storm old.plan (shared_of old) r d.at d.what in
+        let given = played_given p plan (shared_of old) r d.at d.what in
         let before = was.given in
         let more = length_more in
         omega arith;
-    said = let said = rests.said in let before = was.said in let more = length_more in omega arith;
+    said = rests.said;
+    number = let events = rests.events in let before = was.number in let more = length_more in omega arith;
     window = rests.window ∙ (was.window ∙ ap (λ (p : Parameters). p.window) (sym rests.storm));
   }
 

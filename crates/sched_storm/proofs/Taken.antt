@@ -1,20 +1,20 @@
 -- What is least due is taken out of the agenda, or is the next request; and what is due later is put in.
-use Rattle.std.proofs.Common.{◌≡◌, ◌≢◌, ℕ, ◌+◌, ◌*◌, ◌/◌, ◌<◌, ◌≤◌, Bool, true, false, cond, eqb, eqb-true, eq-eqb, ltb}
-use Rattle.std.proofs.Common.{ltb-true, ltb-false, lt-ltb, le-ltb, List, Option, Some, None, IfSome, refl, sym, ◌∙◌, ap}
+use Rattle.std.proofs.Common.{◌≡◌, ◌≢◌, ℕ, ◌*◌, ◌/◌, ◌<◌, ◌≤◌, Bool, true, false, cond, eqb, eqb-true, eq-eqb, ltb}
+use Rattle.std.proofs.Common.{ltb-true, lt-ltb, le-ltb, Option, Some, None, IfSome, refl, sym, ◌∙◌, ap}
 use Rattle.std.proofs.Common.{subst, inl, inr, arith}
 use Rattle.std.proofs.lemmas.Bool.{false≢true, cases_lt, leb-true, le-leb}
 use Rattle.std.proofs.lemmas.Nat.{mul-le, le-div}
 use native.Mathlib.Nat.{div-mul-le_self}
-use Rattle.std.specs.Prelude.{nat_le, nat_lt}
+use Rattle.std.specs.Prelude.{nat_le}
 use Rattle.sched_calendar.specs.Calendar.{times}
 use Rattle.sched_storm_trace.specs.Trace.{Due, updated, NotAfter}
 use Rattle.sched_storm.specs.Rates.{phases_of}
 use Rattle.sched_storm.specs.Parameters.{RequestsAreInRange, all_requests, comes_at}
-use Rattle.sched_storm.specs.Plays.{Stage, begins, if_by, first}
+use Rattle.sched_storm.specs.Plays.{Stage, begins, first}
 use Rattle.sched_storm.specs.Turns.{kind_of, turn_for, turn_if}
 use Rattle.sched_storm.specs.Keys.{key_of, request_in, turn_of, is_this, AreHeld, Holds, Pops, IsBeforeAny, ComesFirst}
-use Rattle.sched_storm.specs.Course.{IsPlacedAt, IsPlacedBy, key_if, keys_of, IsOther, IsTakenOut, IsNear, Stands}
-use Rattle.sched_storm.specs.Course.{IsLeast, StandsFirst, StandsAfter}
+use Rattle.sched_storm.specs.Course.{IsPlacedAt, IsPlacedBy, key_if, keys_of, Stands}
+use Rattle.sched_storm.specs.Course.{StandsFirst, StandsAfter}
 use Rattle.sched_storm.specs.declared.parameters.Parameters.{Parameters}
 use Rattle.sched_storm.specs.declared.turns.Kind.{Kind}
 use Rattle.sched_storm.specs.declared.turns.Kind.TheVariants.{Begins, Retries, Succeeds, Fails}
@@ -233,6 +233,7 @@ module _ (old : Course) (a : Agenda) (was : Stands old None) where
       held = updated was.held r None;
       begun = was.begun;
       told = was.told;
+      clients = was.clients;
       holds = held_by (times a.keys) (updated (keys_of was.held) r None) (keys_of (updated was.held r None))
           (λ q. none_in q (was.held q) (eqb r q)) h.left;
       out = record {
@@ -265,6 +266,7 @@ module _ (old : Course) (a : Agenda) (was : Stands old None) where
       asked = was.asked;
       given = was.given;
       said = was.said;
+      number = was.number;
       window = was.window;
     }
 
@@ -293,6 +295,7 @@ module _ (old : Course) (a : Agenda) (was : Stands old None) where
       held = was.held;
       begun = was.begun;
       told = was.told;
+      clients = was.clients;
       holds = same;
       out = tt;
       others = was.others;
@@ -316,6 +319,7 @@ module _ (old : Course) (a : Agenda) (was : Stands old None) where
       asked = was.asked;
       given = was.given;
       said = was.said;
+      number = was.number;
       window = was.window;
     }
 
@@ -346,6 +350,7 @@ module _ (old : Course) (a : Agenda) (was : Stands old None) where
             held = was.held;
             begun = was.begun;
             told = was.told;
+            clients = was.clients;
             holds = same;
             out = record {
               call = n;
@@ -375,6 +380,7 @@ module _ (old : Course) (a : Agenda) (was : Stands old None) where
             asked = was.asked;
             given = was.given;
             said = was.said;
+            number = was.number;
             window = was.window;
           };
           first_is = λ q e at. elim (cases_lt q r) [
@@ -444,6 +450,7 @@ module _ (old : Course) (a : Agenda) (t q : ℕ) (next : Turn) (h : StandsAfter 
     held = updated was.held next.request (Some was.out.call);
     begun = was.begun;
     told = was.told;
+    clients = was.clients;
     holds = held_by (times a.keys) (updated (keys_of was.held) next.request (Some (key_of next)))
         (keys_of (updated was.held next.request (Some was.out.call)))
         (λ s. some_in next.request s was.out.call next (was.held s) was.out.turn_is (eqb next.request s) refl) put;
@@ -469,6 +476,7 @@ module _ (old : Course) (a : Agenda) (t q : ℕ) (next : Turn) (h : StandsAfter 
     asked = was.asked;
     given = was.given;
     said = was.said;
+    number = was.number;
     window = was.window;
   }
 

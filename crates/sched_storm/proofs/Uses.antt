@@ -1,11 +1,11 @@
 -- The windows of a quota, each within its reserve and share.
-use Rattle.std.proofs.Common.{◌≡◌, ℕ, ◌+◌, ◌/◌, ◌<◌, ◌≤◌, Bool, true, false, cond, List, [], ◌∷◌, refl, arith, ltb-true}
+use Rattle.std.proofs.Common.{◌≡◌, ℕ, ◌+◌, ◌/◌, ◌<◌, Bool, true, false, cond, [], ◌∷◌, refl, arith, ltb-true}
 use Rattle.std.proofs.lemmas.List.Sums.{sum_by-cons}
 use Rattle.std.specs.Prelude.{nat_lt}
 use Rattle.sched_ticket_quota.specs.declared.view.Terms.{Terms}
-use Rattle.sched_storm.specs.Tickets.{asked_of, given_of, turned, at_moment, with_request, counted, may_draw}
+use Rattle.sched_storm.specs.Tickets.{asked_of, given_of, at_moment, counted, may_draw}
 use Rattle.sched_storm.specs.Tickets.{with_ticket, draw_at}
-use Rattle.sched_storm.specs.Tickets.{Use, AreWithin, AreUses, HasUses, IsLawful}
+use Rattle.sched_storm.specs.Tickets.{Use, HasUses, IsLawful}
 use Rattle.sched_storm_limit.specs.declared.draws.Draws.{Draws}
 use Rattle.sched_storm_limit.specs.declared.draws.Draws.TheVariants.{Nothing, Budget, Quota, Limited}
 use Rattle.sched_storm.specs.declared.tickets.Drawn.{Drawn}
@@ -51,7 +51,10 @@ past_at (Limited limit) until t d law past = tt
 
 pub past_counted : (draws : Draws) (until t : ℕ) (d : Drawn) → IsLawful draws until d → Past draws d →
     Past draws (counted draws t d)
-past_counted draws until t d law past = past_at draws until t d law past
+past_counted Nothing until t d law past = tt
+past_counted (Budget limit) until t d law past = tt
+past_counted (Quota k) until t d law past = past_at (Quota k) until t d law past
+past_counted (Limited limit) until t d law past = tt
 
 past_ticket : (draws : Draws) (d : Drawn) → Past draws d → Past draws (with_ticket draws d)
 past_ticket Nothing d past = tt

@@ -1,10 +1,13 @@
 -- What the contracts of `sched_storm` cite.
 pub mod Rates
+pub mod Populations
 pub mod Parameters
 pub mod Calls
 pub mod Tickets
+pub mod Clients
 pub mod Drivers
 pub mod Plays
+pub mod Reported
 pub mod Turns
 pub mod Keys
 pub mod Storms

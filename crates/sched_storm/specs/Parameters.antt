@@ -5,6 +5,7 @@ use Rattle.sched_storm_report.specs.declared.peer.BrownOut.{BrownOut}
 use Rattle.sched_storm_report.specs.declared.peer.Peer.{Peer}
 use Rattle.sched_storm_limit.specs.Ranges.{AreDraws}
 use Rattle.sched_storm.specs.Rates.{phases_of, AreRates, thousandths_by, arrives}
+use Rattle.sched_storm.specs.Populations.{AreOthers}
 use Rattle.sched_storm.specs.declared.parameters.Parameters.{Parameters}
 
 -- the peer that the calls come to, as each of its replicas works
@@ -64,3 +65,4 @@ pub record AreInRange (p : Parameters) : Type 0 where
   pub peer : PeerIsInRange p
   pub report : ReportIsInRange p
   pub draws : AreDraws p.draws
+  pub others : AreOthers p.others

@@ -1,5 +1,5 @@
 -- How a storm is played: what becomes of a request where something is due of it.
-use Rattle.std.specs.Prelude.{◌≡◌, ℕ, ◌+◌, ◌≤◌, Bool, true, false, nat_lt, nat_le, if◌then◌else◌, List, [], ◌∷◌, Option}
+use Rattle.std.specs.Prelude.{ℕ, ◌+◌, Bool, true, false, nat_lt, nat_le, if◌then◌else◌, List, [], Option}
 use Rattle.std.specs.Prelude.{Some, None}
 use Rattle.rand_core.specs.Stream.{Stream}
 use Rattle.rand_core.specs.Steps.{stream_of, steps_u32}
@@ -22,6 +22,8 @@ use Rattle.sched_storm_report.specs.declared.moments.Moment.{Moment}
 use Rattle.sched_storm_report.specs.declared.peer.Busy.{Busy}
 use Rattle.sched_storm_limit.specs.Limits as limits
 use Rattle.sched_storm_limit.specs.Limits.{LimitState, state_at_first}
+use Rattle.sched_storm_limit.specs.Ranges.{has_draws}
+use Rattle.sched_storm.specs.Populations.{population_of, storm_of}
 use Rattle.sched_storm.specs.Parameters.{all_requests, comes_at}
 use Rattle.sched_storm.specs.Calls.{called, busy_after}
 use Rattle.sched_storm.specs.Tickets.{none_drawn, counted, draw_at}
@@ -99,7 +101,11 @@ ended p s r t failure next = record {
 -- A retry was granted, or was not: it is due, or its request is denied.
 abbrev pub drawing : Parameters → Shared → ℕ → ℕ → Failure → List Event → ℕ → Bool → Answer Stage Shared Moment
 drawing p s r t failure h start true =
-    record { next = if_by p.until start (retries h); shared = s; told = moment_at t (happening.Failed failure Waits) s }
+    record {
+      next = if_by p.until start (retries h);
+      shared = s;
+      told = moment_at t (happening.Failed failure (Waits (has_draws p.draws))) s;
+    }
 drawing p s r t failure h start false = ended p s r t failure Denied
 
 -- a call came late, after which a bucket's draw may cost more
@@ -123,8 +129,8 @@ failing p plan s r t failure before = let words = next_four s.words in
     going_on p (record s { words = words.1; limit = limits.failing p.draws t r s.limit }) r t failure h
     (start_of (answer plan h).decision)
 
--- A request that comes is counted, before anything else of it. Where the limit admits it its first call comes to the
--- peer, and else it is denied and makes no call.
+-- A request that comes is counted, where its retries draw on anything, before anything else of it. Where the limit
+-- admits it its first call comes to the peer, and else it is denied and makes no call.
 abbrev pub with_request : Parameters → ℕ → Shared → Shared
 with_request p t s = record s { drawn = counted p.draws t s.drawn }
 
@@ -132,7 +138,7 @@ abbrev pub arriving : Parameters → Shared → ℕ → Bool → Answer Stage Sh
 arriving p s t true = coming p s t [] happening.Request (called p s.calls s.busy t)
 arriving p s t false = record { next = None; shared = s; told = moment_at t happening.Refused s }
 
--- What becomes of a request where something is due of it at a moment.
+-- What becomes of a request of a population where something is due of it at a moment.
 abbrev pub playing : Parameters → Schedule → Shared → ℕ → ℕ → Stage → Answer Stage Shared Moment
 playing p plan s r t begins = let asked = limits.admitting p.draws t r s.limit in
     arriving p (with_request p t (record s { limit = asked.1 })) t asked.0
@@ -144,5 +150,6 @@ playing p plan s r t succeeds = record {
 }
 playing p plan s r t (fails failure h) = failing p plan s r t failure h
 
-abbrev pub played : Parameters → Schedule → Shared → ℕ → Due Stage → Answer Stage Shared Moment
-played p plan s r due = playing p plan s r due.at due.what
+-- What becomes of a request of any population, each of which has its plan.
+abbrev pub played : Parameters → (ℕ → Schedule) → Shared → ℕ → Due Stage → Answer Stage Shared Moment
+played p plans s r due = playing (storm_of p r) (plans (population_of p r)) s r due.at due.what

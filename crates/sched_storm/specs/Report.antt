@@ -7,6 +7,7 @@ use Rattle.sched_storm_report.specs.declared.report.Report.{Report}
 use Rattle.sched_storm_report.specs.declared.report.Totals.{Totals}
 use Rattle.sched_storm_limit.specs.Ranges.{is_limited}
 use Rattle.sched_storm.specs.Parameters.{all_requests, end_of_trouble}
+use Rattle.sched_storm.specs.Populations.{draws_of, AllDraw}
 use Rattle.sched_storm.specs.Tickets.{tickets_of, HasUses, AreFew}
 use Rattle.sched_storm.specs.declared.parameters.Parameters.{Parameters}
 
@@ -14,15 +15,24 @@ use Rattle.sched_storm.specs.declared.parameters.Parameters.{Parameters}
 abbrev pub turned_away_in : Totals → ℕ
 turned_away_in t = calls_in t.counts - t.calls
 
+-- In each window of a quota the tickets never pass its reserve and the share of the requests counted in it. Those of
+-- populations that draw on nothing are not counted.
+pub record AreInWindows (p : Parameters) (requests tickets : ℕ) : Type 0 where
+  pub window : ℕ
+  pub asked : ℕ
+  pub uses : HasUses p.draws window asked tickets
+  pub few : asked ≤ requests
+  pub all : AllDraw p → asked ≡ requests
+
 -- Each call that failed has ended its request, or a retry was granted for it. No retry began that was not granted, and
--- each that was granted has its ticket, where retries draw on anything.
+-- each that was granted has its ticket, where the retries of all populations draw on anything.
 pub record AreGranted (p : Parameters) (t : Totals) : Type 0 where
   pub granted : ℕ
   pub failures : failed_in t.counts + turned_away_in t ≡ t.lost + t.denied + granted
   pub retries : t.counts.retries ≤ granted
-  pub tickets : t.tickets ≡ tickets_of p.draws granted
-  -- in each window of a quota the tickets never pass its reserve and the share of the requests counted in it
-  pub uses : ∥ ((w : ℕ) × HasUses p.draws w t.counts.requests t.tickets) ∥₁
+  pub few : t.tickets ≤ granted
+  pub tickets : AllDraw p → t.tickets ≡ tickets_of p.draws granted
+  pub uses : ∥ AreInWindows p t.counts.requests t.tickets ∥₁
   -- in all they never pass what the budget or the quota allows
   pub limit : AreFew p.draws p.until t.counts.requests t.tickets
 
@@ -37,7 +47,7 @@ pub record AddsUp (p : Parameters) (r : Report) : Type 0 where
   -- each request and each retry begins a call, but for a request that is denied before it
   pub calls : r.totals.calls ≤ calls_in r.totals.counts
   pub turned_away : turned_away_in r.totals ≤ r.totals.denied
-  pub none_away : is_limited p.draws ≡ false → r.totals.calls ≡ calls_in r.totals.counts
+  pub none_away : ((k : ℕ) → is_limited (draws_of p k) ≡ false) → r.totals.calls ≡ calls_in r.totals.counts
   pub hundredths : r.totals.hundredths ≡ hundredths_of r.totals.calls r.totals.counts.requests
   pub times : AreTimes r.totals
   pub recovered : r.totals.recovered ≡ recovered_in (end_of_trouble p) r.windows.items

@@ -2,6 +2,7 @@
 use Rattle.std.specs.Prelude.{◌≡◌, ℕ, ◌+◌, ◌*◌, ◌/◌, ◌<◌, ◌≤◌, Bool, true, nat_lt, if◌then◌else◌, List, [], ◌∷◌, sum_by}
 use Rattle.sched_ticket_quota.specs.declared.view.Terms.{Terms}
 use Rattle.sched_ticket_quota.specs.Windows.{allowed}
+use Rattle.sched_storm_limit.specs.Ranges.{has_draws}
 use Rattle.sched_storm_limit.specs.declared.draws.Draws.{Draws}
 use Rattle.sched_storm_limit.specs.declared.draws.Draws.TheVariants.{Nothing, Budget, Quota, Limited}
 use Rattle.sched_storm.specs.declared.tickets.Drawn.{Drawn}
@@ -30,12 +31,12 @@ at_moment (Budget limit) t d = d
 at_moment (Quota terms) t d = turned (t / terms.period) d
 at_moment (Limited limit) t d = d
 
--- a request is counted
+-- a request is counted, where its retries draw on anything
 abbrev pub with_request : Drawn → Drawn
 with_request d = record d { asked = d.asked + 1 }
 
 abbrev pub counted : Draws → ℕ → Drawn → Drawn
-counted draws t d = with_request (at_moment draws t d)
+counted draws t d = if has_draws draws then with_request (at_moment draws t d) else d
 
 -- A window of so many requests has given no more tickets than it has; a budget has one window, which does not end.
 -- What a limit grants depends on no window.

@@ -1,8 +1,8 @@
 -- What is due of a request, as it is kept.
-use Rattle.std.specs.Prelude.{ℕ, nat_le, Bool, true, false, if◌then◌else◌, List, [], Option, Some, None, is_some}
-use Rattle.sched_plan.specs.declared.history.Event.{Event}
+use Rattle.std.specs.Prelude.{ℕ, nat_le, Bool, true, false, if◌then◌else◌, Option, Some, None, is_some}
 use Rattle.sched_storm_trace.specs.Trace.{Due}
 use Rattle.sched_storm_limit.specs.Limits.{LimitState, admitting, drawing_if, ending_if}
+use Rattle.sched_storm_limit.specs.Ranges.{has_draws}
 use Rattle.sched_storm.specs.Plays.{Stage, begins, retries, succeeds, fails, Shared, is_late}
 use Rattle.sched_storm_report.specs.declared.moments.Failure.{Failure}
 use Rattle.sched_storm_report.specs.declared.moments.Then.{Then}
@@ -50,7 +50,11 @@ turn_by until t r kind = if nat_le t until then Some (record { at = t; request =
 -- what follows a call that failed, where a retry was granted that begins at a start, or was not
 abbrev pub next_drawn : Parameters → ℕ → ℕ → Bool × Drawn → Next
 next_drawn p r start drawn =
-    if drawn.0 then record { next = turn_by p.until start r Retries; «then» = Waits; drawn = drawn.1 }
+    if drawn.0 then record {
+      next = turn_by p.until start r Retries;
+      «then» = Waits (has_draws p.draws);
+      drawn = drawn.1;
+    }
     else record { next = None; «then» = Denied; drawn = drawn.1 }
 
 -- what follows it where its policy plans a start, for which a limit has granted a retry or not, or is done
@@ -62,7 +66,7 @@ next_at p granted drawn t r (Some start) = next_drawn p r start (draw_at p.draws
 abbrev pub is_over : Then → Bool
 is_over Lost = true
 is_over Denied = true
-is_over Waits = false
+is_over (Waits ticket) = false
 
 -- the limit is asked where the policy plans a start, and told of the end where the request is over
 abbrev pub asking : Parameters → Failure → ℕ → ℕ → Option ℕ → LimitState → Bool × LimitState

@@ -1,29 +1,32 @@
 //! The course of a storm: its events, one after another.
-ghost use Rattle.std.specs.Prelude.{◌≡◌, ◌≢◌, ℕ, ◌+◌, ◌*◌, ◌<◌, ◌≤◌, true, false, List, Option, Some, None, vec_len};
-ghost use Rattle.std.specs.Prelude.{IsTrue, IfOk, IfSome, OnOk};
+ghost use Rattle.std.specs.Prelude.{◌≡◌, ◌≢◌, ℕ, ◌+◌, ◌*◌, ◌/◌, ◌<◌, ◌≤◌, true, false, List, Option, Some, None};
+ghost use Rattle.std.specs.Prelude.{vec_len, IsTrue, IfOk, IfSome, OnOk};
 ghost use Rattle.sched_plan.specs.declared.history.Event.{Event};
 ghost use Rattle.sched_storm.specs.Drivers.{MayFail};
-ghost use Rattle.sched_storm.specs.Plays.{Stage, begins, retries, succeeds, fails, playing};
-ghost use Rattle.sched_storm.specs.Turns.{kind_of, begins_call};
+ghost use Rattle.sched_storm.specs.Clients.{plans_of, Meet};
+ghost use Rattle.sched_storm.specs.Plays.{Stage, begins, retries, succeeds, fails};
+ghost use Rattle.sched_storm.specs.Turns.{kind_of};
 ghost use Rattle.sched_storm.specs.Keys.{Holds};
 ghost use Rattle.sched_storm.specs.Parameters.{comes_at};
 ghost use Rattle.sched_storm.specs.Plays.{first};
 ghost use Rattle.sched_storm.specs.Turns.{turn_if};
-ghost use Rattle.sched_storm.specs.Storms.{Reports};
+ghost use Rattle.sched_storm.specs.Storms.{ReportsOn};
 ghost use Rattle.sched_storm.specs.Report.{AddsUp};
-ghost use Rattle.sched_storm.specs.Course.{shared_of, slot_of, Drives, IsReady, HasAnswered, Rests, IsPlaced, IsDriven};
+ghost use Rattle.sched_storm.specs.Course.{client_of, answer_to, begins_now, slot_of, Drives, IsReady, HasAnswered};
+ghost use Rattle.sched_storm.specs.Course.{Rests, IsPlaced, IsDriven};
 ghost use Rattle.sched_storm.specs.Course.{IsCounted, Stands, StandsFirst, StandsAfter, IsOver};
 
 use crate::agenda::Agenda;
+use crate::clients::Clients;
 use crate::drivers::Drivers;
+use crate::reporter::Reporter;
 use crate::storm::Storm;
 use crate::tickets::Drawn;
 use crate::turns::{Kind, Turn};
 use rand_core::SeedableRng;
 use rand_xoshiro::Xoshiro128PlusPlus;
-use sched_driver_stepper::Compiled;
 use sched_storm_limit::Stand;
-use sched_storm_report::{Busy, Ends, Failure, Happening, Moment, Report, Tally};
+use sched_storm_report::{Busy, Ends, Failure, Happening, Report, Tally};
 use sched_task::four_words;
 use sched_time::NoMemory;
 use std::alloc::Global;
@@ -32,7 +35,7 @@ use std::alloc::Global;
 #[derive(Drop)]
 pub(crate) struct Course {
     pub(crate) storm: Storm,
-    pub(crate) plan: Compiled,
+    pub(crate) clients: Clients,
     words: Xoshiro128PlusPlus,
     /// How many requests came.
     requests: u64,
@@ -47,21 +50,29 @@ pub(crate) struct Course {
     drivers: Drivers,
     /// What is due of the requests that came.
     agenda: Agenda,
-    tally: Tally,
+    pub(crate) reporter: Reporter,
 }
 
 impl Course {
-    /// Before the first event, of which nothing is due yet.
-    pub(crate) fn new(alloc: Global, storm: Storm, plan: Compiled, agenda: Agenda) -> Course
-        requires { Holds agenda (λ _. None) }
+    /// Before the first event, of which nothing is due yet. Its report is of one population, or of all.
+    pub(crate) fn new(
+        alloc: Global,
+        storm: Storm,
+        clients: Clients,
+        agenda: Agenda,
+        of: Option<u64>,
+    ) -> Course
+        requires nothing { Holds agenda (λ _. None) }
+        requires clients { Meet storm clients }
         ensures stands { Stands result None }
         ensures storm { result.storm ≡ storm }
-        ensures plan { result.plan ≡ plan }
+        ensures clients { result.clients ≡ clients }
+        ensures of { result.reporter.of ≡ of }
     {
         let parameters = storm.parameters();
         Course {
             storm,
-            plan,
+            clients,
             words: Xoshiro128PlusPlus::seed_from_u64(parameters.words),
             requests: 0,
             comes: storm.comes_at(0),
@@ -71,7 +82,11 @@ impl Course {
             limit: Stand::new(alloc, storm.draws(), parameters.words),
             drivers: Drivers::new(alloc),
             agenda,
-            tally: Tally::new(alloc, parameters.window),
+            reporter: Reporter {
+                tally: Tally::new(alloc, parameters.window),
+                of,
+                events: 0,
+            },
         }
     }
 
@@ -80,7 +95,8 @@ impl Course {
         requires { Stands self.old None }
         ensures over { IfOk result (IsOver self.new) }
         ensures storm { self.new.storm ≡ self.old.storm }
-        ensures plan { self.new.plan ≡ self.old.plan }
+        ensures clients { self.new.clients ≡ self.old.clients }
+        ensures of { OnOk result (self.new.reporter.of ≡ self.old.reporter.of) }
     {
         let mut next = self.take_next();
         while let Some(turn) = next {
@@ -98,10 +114,10 @@ impl Course {
     fn is_full(&self, turn: Turn) -> Result<bool, NoMemory>
         requires near { turn.at ≤ 7200000 }
         ensures yes { IfOk result (λ full. full ≡ true →
-            IsTrue (begins_call self.now.storm (shared_of self.now) turn.request turn.at turn.kind)
+            IsTrue (begins_now (client_of self.now turn.request) self.now turn)
             × (self.now.calls ≡ self.now.storm.calls)) }
         ensures no { IfOk result (λ full. full ≡ false →
-            IsTrue (begins_call self.now.storm (shared_of self.now) turn.request turn.at turn.kind) →
+            IsTrue (begins_now (client_of self.now turn.request) self.now turn) →
             self.now.calls ≢ self.now.storm.calls) }
     {
         if self.calls != self.storm.parameters().calls {
@@ -114,10 +130,13 @@ impl Course {
     fn begins_call(&self, turn: Turn) -> Result<bool, NoMemory>
         requires near { turn.at ≤ 7200000 }
         ensures { IfOk result (λ yes.
-            yes ≡ begins_call self.now.storm (shared_of self.now) turn.request turn.at turn.kind) }
+            yes ≡ begins_now (client_of self.now turn.request) self.now turn) }
     {
         match turn.kind {
-            Kind::Begins => self.storm.admits(&self.limit, turn),
+            Kind::Begins => {
+                let client = self.clients.at(self.storm.population_of(turn.request));
+                client.storm.admits(&self.limit, turn)
+            }
             Kind::Retries => Ok(true),
             Kind::Succeeds | Kind::Fails(_) => Ok(false),
         }
@@ -126,16 +145,20 @@ impl Course {
     /// The report of the events so far.
     pub(crate) fn into_report(self, is_cut: bool) -> Result<Report, NoMemory>
         requires { IsOver self is_cut }
-        ensures reports { IfOk result (Reports self.storm self.plan) }
-        ensures adds_up { IfOk result (AddsUp self.storm) }
+        ensures reports { IfOk result (ReportsOn self.storm (plans_of self.clients) self.reporter.of) }
+        ensures adds_up { self.reporter.of ≡ None → IfOk result (AddsUp self.storm) }
+        ensures windows { IfOk result (λ r. vec_len r.windows ≤ self.storm.until / self.storm.window + 1) }
     {
-        let Course { storm, tally, .. } = self;
+        let Course {
+            storm,
+            reporter,
+            ..
+        } = self;
         let ends = Ends {
             trouble: storm.end_of_trouble(),
-            draws: storm.has_draws(),
             is_cut,
         };
-        let report = tally.into_report(&storm.peer(), ends)?;
+        let report = reporter.tally.into_report(&storm.peer(), ends)?;
         Ok(report)
     }
 
@@ -145,8 +168,8 @@ impl Course {
         requires { StandsAfter turn.at turn.request self.old after }
         ensures first { IfOk result (StandsFirst self.new) }
         ensures storm { self.new.storm ≡ self.old.storm }
-        ensures plan { self.new.plan ≡ self.old.plan }
-        ensures said { self.new.tally.said ≡ self.old.tally.said }
+        ensures clients { self.new.clients ≡ self.old.clients }
+        ensures events { self.new.reporter ≡ self.old.reporter }
     {
         let Some(next) = after else {
             return Ok(self.take_next());
@@ -163,8 +186,8 @@ impl Course {
         requires { Stands self.old None }
         ensures first { StandsFirst self.new result }
         ensures storm { self.new.storm ≡ self.old.storm }
-        ensures plan { self.new.plan ≡ self.old.plan }
-        ensures said { self.new.tally.said ≡ self.old.tally.said }
+        ensures clients { self.new.clients ≡ self.old.clients }
+        ensures events { self.new.reporter ≡ self.old.reporter }
     {
         let first = self.next_request();
         match self.agenda.pop_before(first) {
@@ -194,12 +217,13 @@ impl Course {
     // Plays what is due, and answers what is due of its request from then on.
     fn step(&mut self, alloc: Global, turn: Turn) -> Result<Option<Turn>, NoMemory>
         requires first { StandsFirst self.old (Some turn) }
-        requires room { IsTrue (begins_call self.old.storm (shared_of self.old) turn.request turn.at turn.kind) →
+        requires room { IsTrue (begins_now (client_of self.old turn.request) self.old turn) →
             self.old.calls < self.old.storm.calls }
         ensures after { IfOk result (StandsAfter turn.at turn.request self.new) }
         ensures storm { self.new.storm ≡ self.old.storm }
-        ensures plan { self.new.plan ≡ self.old.plan }
-        ensures said { OnOk result (self.new.tally.said ≡ self.old.tally.said + 1) }
+        ensures clients { self.new.clients ≡ self.old.clients }
+        ensures of { OnOk result (self.new.reporter.of ≡ self.old.reporter.of) }
+        ensures events { OnOk result (self.new.reporter.events ≡ self.old.reporter.events + 1) }
     {
         let next = self.play(alloc, turn)?;
         Ok(next)
@@ -211,14 +235,14 @@ impl Course {
         requires placed { IsPlaced self.old turn }
         requires may { IsDriven self.old turn }
         ensures answered { (what : Stage) → kind_of what ≡ turn.kind →
-            Drives self.old.plan (slot_of self.old turn.request) turn.at what →
+            Drives (client_of self.old turn.request).plan (slot_of self.old turn.request) turn.at what →
             IfOk result (HasAnswered
-            (playing self.old.storm self.old.plan (shared_of self.old) turn.request turn.at what)
+            (answer_to (client_of self.old turn.request) self.old turn.request turn.at what)
             turn.at turn.request self.old self.new) }
         ensures rests { OnOk result (Rests turn.at turn.request self.old self.new) }
         ensures counts { OnOk result (IsCounted turn.kind self.old self.new) }
         ensures storm { self.new.storm ≡ self.old.storm }
-        ensures plan { self.new.plan ≡ self.old.plan }
+        ensures clients { self.new.clients ≡ self.old.clients }
     {
         match turn.kind {
             Kind::Begins => self.begin(turn),
@@ -233,33 +257,31 @@ impl Course {
         requires ready { IsReady self.old turn.at turn.request }
         requires placed { turn.request ≡ self.old.requests }
         ensures answered { IfOk result (HasAnswered
-            (playing self.old.storm self.old.plan (shared_of self.old) turn.request turn.at begins)
+            (answer_to (client_of self.old turn.request) self.old turn.request turn.at begins)
             turn.at turn.request self.old self.new) }
         ensures rests { OnOk result (Rests turn.at turn.request self.old self.new) }
         ensures counts { OnOk result (IsCounted Kind.Begins self.old self.new) }
         ensures storm { self.new.storm ≡ self.old.storm }
-        ensures plan { self.new.plan ≡ self.old.plan }
+        ensures clients { self.new.clients ≡ self.old.clients }
     {
+        let client = self.clients.at(self.storm.population_of(turn.request));
         self.drivers.add()?;
-        self.drawn = self.storm.count(self.drawn, turn.at);
+        self.drawn = client.storm.count(self.drawn, turn.at);
         self.requests += 1;
         self.comes = self.storm.comes_at(self.requests);
-        let is_admitted = self.storm.admit(&mut self.limit, turn)?;
+        let is_admitted = client.storm.admit(&mut self.limit, turn)?;
         if !is_admitted {
-            self.tally.tell(
-                &self.storm.peer(),
-                moment_of(turn.at, Happening::Refused, self.busy),
-            )?;
+            self.reporter
+                .tell(&self.storm, turn, Happening::Refused, self.busy)?;
             return Ok(None);
         }
-        let called = self.storm.call(self.calls, &mut self.busy, turn.at);
+        let called = client.storm.call(self.calls, &mut self.busy, turn.at);
         self.calls += 1;
-        self.tally.tell(
-            &self.storm.peer(),
-            moment_of(turn.at, Happening::Request, self.busy),
-        )?;
+        self.reporter
+            .tell(&self.storm, turn, Happening::Request, self.busy)?;
         Ok(
-            self.storm
+            client
+                .storm
                 .turn_by(called.ends, turn.request, Kind::after(called.how)),
         )
     }
@@ -268,23 +290,24 @@ impl Course {
     fn retry(&mut self, turn: Turn) -> Result<Option<Turn>, NoMemory>
         requires ready { IsReady self.old turn.at turn.request }
         requires placed { turn.request < self.old.requests }
-        ensures answered { (h : List Event) → Drives self.old.plan (slot_of self.old turn.request) turn.at (retries h) →
+        ensures answered { (h : List Event) →
+            Drives (client_of self.old turn.request).plan (slot_of self.old turn.request) turn.at (retries h) →
             IfOk result (HasAnswered
-            (playing self.old.storm self.old.plan (shared_of self.old) turn.request turn.at (retries h))
+            (answer_to (client_of self.old turn.request) self.old turn.request turn.at (retries h))
             turn.at turn.request self.old self.new) }
         ensures rests { OnOk result (Rests turn.at turn.request self.old self.new) }
         ensures counts { OnOk result (IsCounted Kind.Retries self.old self.new) }
         ensures storm { self.new.storm ≡ self.old.storm }
-        ensures plan { self.new.plan ≡ self.old.plan }
+        ensures clients { self.new.clients ≡ self.old.clients }
     {
-        let called = self.storm.call(self.calls, &mut self.busy, turn.at);
+        let client = self.clients.at(self.storm.population_of(turn.request));
+        let called = client.storm.call(self.calls, &mut self.busy, turn.at);
         self.calls += 1;
-        self.tally.tell(
-            &self.storm.peer(),
-            moment_of(turn.at, Happening::Retry, self.busy),
-        )?;
+        self.reporter
+            .tell(&self.storm, turn, Happening::Retry, self.busy)?;
         Ok(
-            self.storm
+            client
+                .storm
                 .turn_by(called.ends, turn.request, Kind::after(called.how)),
         )
     }
@@ -294,20 +317,19 @@ impl Course {
         requires ready { IsReady self.old turn.at turn.request }
         requires placed { turn.request < self.old.requests }
         ensures answered { IfOk result (HasAnswered
-            (playing self.old.storm self.old.plan (shared_of self.old) turn.request turn.at succeeds)
+            (answer_to (client_of self.old turn.request) self.old turn.request turn.at succeeds)
             turn.at turn.request self.old self.new) }
         ensures rests { OnOk result (Rests turn.at turn.request self.old self.new) }
         ensures counts { OnOk result (IsCounted Kind.Succeeds self.old self.new) }
         ensures storm { self.new.storm ≡ self.old.storm }
-        ensures plan { self.new.plan ≡ self.old.plan }
+        ensures clients { self.new.clients ≡ self.old.clients }
     {
-        self.storm.tell_succeeded(&mut self.limit, turn)?;
+        let client = self.clients.at(self.storm.population_of(turn.request));
+        client.storm.tell_succeeded(&mut self.limit, turn)?;
         self.drivers.end(turn.request);
         let began = self.storm.comes_at(turn.request);
-        self.tally.tell(
-            &self.storm.peer(),
-            moment_of(turn.at, Happening::Won { began }, self.busy),
-        )?;
+        self.reporter
+            .tell(&self.storm, turn, Happening::Won { began }, self.busy)?;
         Ok(None)
     }
 
@@ -320,39 +342,33 @@ impl Course {
     ) -> Result<Option<Turn>, NoMemory>
         requires ready { IsReady self.old turn.at turn.request }
         requires placed { turn.request < self.old.requests }
-        requires may { MayFail self.old.plan (slot_of self.old turn.request) turn.at }
+        requires may { MayFail (client_of self.old turn.request).plan (slot_of self.old turn.request) turn.at }
         ensures answered { (h : List Event) →
-            Drives self.old.plan (slot_of self.old turn.request) turn.at (fails failure h) →
+            Drives (client_of self.old turn.request).plan (slot_of self.old turn.request) turn.at (fails failure h) →
             IfOk result (HasAnswered
-            (playing self.old.storm self.old.plan (shared_of self.old) turn.request turn.at (fails failure h))
+            (answer_to (client_of self.old turn.request) self.old turn.request turn.at (fails failure h))
             turn.at turn.request self.old self.new) }
         ensures rests { OnOk result (Rests turn.at turn.request self.old self.new) }
         ensures counts { OnOk result (IsCounted (Kind.Fails failure) self.old self.new) }
         ensures storm { self.new.storm ≡ self.old.storm }
-        ensures plan { self.new.plan ≡ self.old.plan }
+        ensures clients { self.new.clients ≡ self.old.clients }
     {
-        self.storm.tell_failed(&mut self.limit, turn);
+        let client = self.clients.at(self.storm.population_of(turn.request));
+        client.storm.tell_failed(&mut self.limit, turn);
         let words = four_words(&mut self.words);
         let start = self
             .drivers
-            .fail(alloc, &self.plan, turn.request, turn.at, words, failure)?;
-        let is_granted = self.storm.ask(&mut self.limit, turn, failure, &start)?;
-        let after = self.storm.next(is_granted, self.drawn, turn, start);
-        self.storm.tell_ended(&mut self.limit, turn, after.then)?;
+            .fail(alloc, &client.plan, turn.request, turn.at, words, failure)?;
+        let is_granted = client.storm.ask(&mut self.limit, turn, failure, &start)?;
+        let after = client.storm.next(is_granted, self.drawn, turn, start);
+        client.storm.tell_ended(&mut self.limit, turn, after.then)?;
         self.drivers.keep_if(turn.request, after.next.is_some());
         self.drawn = after.drawn;
         let what = Happening::Failed {
             failure,
             then: after.then,
         };
-        self.tally
-            .tell(&self.storm.peer(), moment_of(turn.at, what, self.busy))?;
+        self.reporter.tell(&self.storm, turn, what, self.busy)?;
         Ok(after.next)
     }
-}
-
-fn moment_of(at: u64, what: Happening, busy: Busy) -> Moment
-    ensures { result ≡ record { at = at; what = what; busy = busy } }
-{
-    Moment { at, what, busy }
 }

@@ -9,17 +9,22 @@
 
 mod agenda;
 mod calls;
+mod clients;
 mod course;
 mod drivers;
 mod limits;
 mod parameters;
 mod plays;
+mod populations;
 mod rates;
+mod reporter;
 mod storm;
 mod tickets;
 mod turns;
 
+pub use clients::Plans;
 pub use parameters::Parameters;
+pub use populations::{MAX_SHARE, Others, Population};
 pub use rates::{MAX_PHASES, Phase, Rates};
 pub use sched_storm_limit::{Draws, Limit};
 pub use sched_storm_report::{BrownOut, Counts, Failure, Report, Span, Totals, Window};

@@ -1,4 +1,5 @@
 //! What a storm is made of.
+use crate::populations::Others;
 use crate::rates::Rates;
 use sched_storm_limit::Draws;
 use sched_storm_report::{BrownOut, Span};
@@ -38,6 +39,9 @@ pub struct Parameters {
     pub words: u64,
     /// What retries draw on.
     pub draws: Draws,
+    /// The populations of clients beside the first one, if there are any. `patience` and `draws` are those of the
+    /// first.
+    pub others: Others,
 }
 
 impl Default for Parameters {
@@ -63,6 +67,7 @@ impl Default for Parameters {
             calls: 16777216,
             words: 0,
             draws: Draws::Nothing,
+            others: Others::NONE,
         }
     }
 }

@@ -77,6 +77,23 @@ impl Storm {
         }
     }
 
+    /// The same storm, with this patience, and of which retries draw on this.
+    pub(crate) fn with(&self, patience: u64, draws: Draws) -> Storm
+        requires some { 1 ≤ patience }
+        requires few { patience ≤ 3600000 }
+        requires draws { AreDraws draws }
+        ensures { result ≡ record self.now { patience = patience; draws = draws } }
+    {
+        Storm {
+            parameters: Parameters {
+                patience,
+                draws,
+                ..self.parameters
+            },
+            requests: self.requests,
+        }
+    }
+
     /// What it is made of.
     pub fn parameters(&self) -> &Parameters
         ensures value { result.now ≡ self.now }
@@ -151,6 +168,7 @@ fn are_in_range(parameters: &Parameters) -> bool
         && is_peer(parameters)
         && is_report(parameters)
         && parameters.draws.are_in_range()
+        && parameters.others.are_in_range()
 }
 
 fn are_requests(p: &Parameters) -> bool

@@ -59,13 +59,16 @@ impl Drawn {
 }
 
 impl Storm {
-    /// Counts a request at this moment.
+    /// Counts a request at this moment, where its retries draw on anything.
     pub(crate) fn count(&self, drawn: Drawn, at: u64) -> Drawn
         requires asked { asked_of drawn < 2 ^ 63 }
         requires given { given_of drawn < 2 ^ 63 }
         ensures value { result ≡ counted self.now.draws at drawn }
         ensures draws { AreDraws self.now.draws }
     {
+        if !self.has_draws() {
+            return drawn;
+        }
         let here = self.at_moment(drawn, at);
         Drawn {
             asked: here.asked + 1,

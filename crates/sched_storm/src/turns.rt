@@ -120,7 +120,7 @@ pub(crate) fn is_over(then: Then) -> bool
 {
     match then {
         Then::Lost | Then::Denied => true,
-        Then::Waits => false,
+        Then::Waits { .. } => false,
     }
 }
 
@@ -160,7 +160,9 @@ impl Storm {
         if is_granted {
             Next {
                 next: self.turn_by(start.get(), turn.request, Kind::Retries),
-                then: Then::Waits,
+                then: Then::Waits {
+                    ticket: self.has_draws(),
+                },
                 drawn,
             }
         } else {

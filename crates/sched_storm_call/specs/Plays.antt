@@ -1,18 +1,19 @@
--- What the call that plays a storm does and tells.
-use Rattle.std.specs.Prelude.{◌≡◌, ◌≢◌, ℕ, ◌<◌, ◌≤◌, List, ◌++◌, length, drop, map, Option, Some, None, Result, Ok, Err}
+-- What the calls that play a storm do and tell.
+use Rattle.std.specs.Prelude.{◌≡◌, ◌⊎◌, ℕ, ◌<◌, ◌≤◌, List, ◌++◌, length, drop, map, Option, Some, None, Result, Ok, Err}
 use Rattle.sched_plan.specs.Schedule.{Schedule}
+use Rattle.sched_storm.specs.Clients.{plan_at}
 use Rattle.sched_storm.specs.Report.{AddsUp}
-use Rattle.sched_storm.specs.Storms.{Reports}
+use Rattle.sched_storm.specs.Storms.{ReportsOn}
+use Rattle.sched_storm.specs.declared.clients.Plans.{Plans}
 use Rattle.sched_storm.specs.declared.parameters.Parameters.{Parameters}
 use Rattle.sched_storm_report.specs.declared.report.Report.{Report}
-use Rattle.sched_handle.specs.Held.{kind_of}
+use Rattle.sched_handle.specs.Fills.{HasNoPolicy}
 use Rattle.sched_handle.specs.declared.held.Held.{Held}
 use Rattle.sched_handle.specs.declared.held.Held.TheVariants.{Policy}
-use Rattle.sched_handle.specs.declared.held.Kind.TheVariants as kind
 use Rattle.sched_handle.specs.Status.{code_of}
 use Rattle.sched_handle.specs.declared.status.Status.{Status}
 use Rattle.sched_handle.specs.declared.status.Status.TheVariants.{Empty, WrongKind, NoMemory, NoRoom, OutOfRange}
-use Rattle.sched_storm_call.specs.Told.{IsGiven, IsOf, room_given, window_told, totals_told}
+use Rattle.sched_storm_call.specs.Told.{IsGiven, IsOf, of_given, room_given, window_told, totals_told}
 use Rattle.sched_storm_call.specs.declared.records.StormGiven.{StormGiven}
 use Rattle.sched_storm_call.specs.declared.records.WindowTold.{WindowTold}
 use Rattle.sched_storm_call.specs.declared.records.TotalsTold.{TotalsTold}
@@ -28,31 +29,29 @@ pub record HasRoom (g : StormGiven) (t : Told) : Type 0 where
   pub given : IsGiven g
   pub room : room_given g ≤ length t.windows
 
--- the report is that of the storm of requests that all have the policy that is held
-pub record IsReported (held : Held) (p : Parameters) (r : Report) : Type 0 where
-  pub plan : Schedule
-  pub holds : held ≡ Policy plan
-  pub reports : Reports p plan r
-
--- the storm of these parameters is given, and its report
-pub record IsStormOf (g : StormGiven) (held : Option Held) (r : Report) : Type 0 where
+-- the storm of these parameters is given, of requests of populations that have these plans, and its report, which is on
+-- the requests that it says
+pub record IsStormOf (g : StormGiven) (plans : ℕ → Schedule) (r : Report) : Type 0 where
   pub parameters : Parameters
   pub are : IsOf g parameters
-  pub policy : Held
-  pub holds : held ≡ Some policy
-  pub reported : IsReported policy parameters r
-  pub adds_up : AddsUp parameters r
+  pub reports : ReportsOn parameters plans (of_given g.of) r
+  pub adds_up : g.of ≡ 0 → AddsUp parameters r
 
--- What is played where a handle holds this: the storm of the policy that it holds, with a report that adds up, or none
--- for this reason. Of several reasons it is the first.
-abbrev pub Plays : StormGiven → Told → Option Held → Result Report Status → Type 0
-Plays g t held (Ok report) = HasRoom g t × IsStormOf g held report
-Plays g t held (Err OutOfRange) = ¬ IsGiven g
-Plays g t held (Err NoRoom) = IsGiven g × (length t.windows < room_given g)
-Plays g t held (Err Empty) = HasRoom g t × (held ≡ None)
-Plays g t held (Err WrongKind) = HasRoom g t × ((u : Held) × (held ≡ Some u) × (kind_of u ≢ kind.Policy))
-Plays g t held (Err NoMemory) = HasRoom g t × ((u : Held) × (held ≡ Some u) × (kind_of u ≡ kind.Policy))
-Plays g t held (Err _) = ⊥
+-- there is no memory for the plans, or none for what is made of them
+abbrev pub IsShort : Result (ℕ → Schedule) Status → Type 0
+IsShort (Ok plans) = Unit {0}
+IsShort (Err s) = s ≡ NoMemory
+
+-- What is played where these are the plans of the populations, or there are none for a reason: the storm, with a report
+-- that adds up where it is on all requests, or none for this reason. Of several reasons it is the first.
+abbrev pub Plays : StormGiven → Told → Result (ℕ → Schedule) Status → Result Report Status → Type 0
+Plays g t given (Ok report) = HasRoom g t × ((plans : ℕ → Schedule) × (given ≡ Ok plans) × IsStormOf g plans report)
+Plays g t given (Err OutOfRange) = ¬ IsGiven g
+Plays g t given (Err NoRoom) = IsGiven g × (length t.windows < room_given g)
+Plays g t given (Err Empty) = HasRoom g t × (given ≡ Err Empty)
+Plays g t given (Err WrongKind) = HasRoom g t × (given ≡ Err WrongKind)
+Plays g t given (Err NoMemory) = HasRoom g t × IsShort given
+Plays g t given (Err _) = ⊥
 
 -- what C is told of that
 abbrev pub Tells : StormGiven → Told → Result Report Status → ℕ → Told → Type 0
@@ -64,6 +63,67 @@ Tells g old (Ok report) code new = (code ≡ 0) × (new ≡ record {
 Tells g old (Err NoRoom) code new = (code ≡ code_of NoRoom) × (new ≡ record old { count = room_given g })
 Tells g old (Err s) code new = (code ≡ code_of s) × (new ≡ old)
 
--- a storm is played and told
+-- a storm of these plans is played and told
+abbrev pub PlaysPlans : StormGiven → Result (ℕ → Schedule) Status → Told → ℕ → Told → Type 0
+PlaysPlans g given old code new = (r : Result Report Status) × Plays g old given r × Tells g old r code new
+
+-- all populations have the plan of the policy that a handle holds
+abbrev pub HaveIts : Option Held → Result (ℕ → Schedule) Status → Type 0
+HaveIts held (Ok plans) = (plan : Schedule) × (held ≡ Some (Policy plan)) × (plans ≡ (λ k. plan))
+HaveIts held (Err s) = HasNoPolicy held s
+
+-- a storm is played and told, of requests that all have the policy that is held
 abbrev pub PlaysStorm : StormGiven → Option Held → Told → ℕ → Told → Type 0
-PlaysStorm g held old code new = (r : Result Report Status) × Plays g old held r × Tells g old r code new
+PlaysStorm g held old code new =
+    (given : Result (ℕ → Schedule) Status) × HaveIts held given × PlaysPlans g given old code new
+
+-- what the handles of the populations' policies hold
+pub record Policies : Type 0 where
+  pub first : Option Held
+  pub second : Option Held
+  pub third : Option Held
+  pub fourth : Option Held
+
+-- the plan of a population beside the first one: that of the policy that is held, or the first one's where none is
+abbrev pub IsPlanOf : Option Held → Schedule → Schedule → Type 0
+IsPlanOf None first plan = plan ≡ first
+IsPlanOf (Some u) first plan = u ≡ Policy plan
+
+-- there is none for it, for this reason
+abbrev pub HasNoPlan : Option Held → Status → Type 0
+HasNoPlan None s = s ≡ NoMemory
+HasNoPlan (Some u) s = HasNoPolicy (Some u) s
+
+pub record ArePlansOf (hs : Policies) (ps : Plans) : Type 0 where
+  pub first : hs.first ≡ Some (Policy ps.first)
+  pub second : IsPlanOf hs.second ps.first ps.second
+  pub third : IsPlanOf hs.third ps.first ps.third
+  pub fourth : IsPlanOf hs.fourth ps.first ps.fourth
+
+-- the first one has a policy, and a further one no plan, for this reason
+pub record LackOne (hs : Policies) (s : Status) : Type 0 where
+  pub plan : Schedule
+  pub first : hs.first ≡ Some (Policy plan)
+  pub lacks : HasNoPlan hs.second s ⊎ (HasNoPlan hs.third s ⊎ HasNoPlan hs.fourth s)
+
+-- each population has its plan
+abbrev pub HaveTheirs : Policies → Result (ℕ → Schedule) Status → Type 0
+HaveTheirs hs (Ok plans) = (ps : Plans) × ArePlansOf hs ps × (plans ≡ (λ k. plan_at k ps))
+HaveTheirs hs (Err s) = HasNoPolicy hs.first s ⊎ LackOne hs s
+
+-- a storm is played and told, of requests of populations of which each has its policy
+abbrev pub PlaysPopulations : StormGiven → Policies → Told → ℕ → Told → Type 0
+PlaysPopulations g hs old code new =
+    (given : Result (ℕ → Schedule) Status) × HaveTheirs hs given × PlaysPlans g given old code new
+
+-- what the code has of the plans
+abbrev pub plans_of : Result Plans Status → Result (ℕ → Schedule) Status
+plans_of (Ok ps) = Ok (λ k. plan_at k ps)
+plans_of (Err s) = Err s
+
+-- why a storm that is given, with room, may have no plans
+abbrev pub IsReason : Status → Type 0
+IsReason Empty = Unit {0}
+IsReason WrongKind = Unit {0}
+IsReason NoMemory = Unit {0}
+IsReason _ = ⊥

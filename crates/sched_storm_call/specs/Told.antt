@@ -10,8 +10,11 @@ use Rattle.sched_storm_limit.specs.Ranges.{IsLimit}
 use Rattle.sched_ticket_quota.specs.Held.{AreTerms}
 use Rattle.sched_limit.specs.declared.bucket.Bucket.{Bucket}
 use Rattle.sched_storm.specs.declared.parameters.Parameters.{Parameters}
+use Rattle.sched_storm.specs.declared.populations.Population.{Population}
+use Rattle.sched_storm.specs.declared.populations.Others.{Others}
 use Rattle.sched_storm_report.specs.declared.tally.Window.{Window}
 use Rattle.sched_storm_report.specs.declared.report.Totals.{Totals}
+use Rattle.sched_storm_call.specs.declared.records.PopulationGiven.{PopulationGiven}
 use Rattle.sched_storm_call.specs.declared.records.StormGiven.{StormGiven}
 use Rattle.sched_storm_call.specs.declared.records.WindowTold.{WindowTold}
 use Rattle.sched_storm_call.specs.declared.records.TotalsTold.{TotalsTold}
@@ -24,6 +27,21 @@ down_of g = if g.down == 0 then g.replicas else g.down
 abbrev pub slow_of : StormGiven → Option BrownOut
 slow_of g = if g.slow_percent == 0 then None
     else Some (record { span = record { from = g.slow_from; to = g.slow_to }; percent = g.slow_percent })
+
+-- a population is given; 1 says that its retries draw on what those of the first one draw on
+abbrev pub population_given : PopulationGiven → Population
+population_given u = record { share = u.share; patience = u.patience; is_limited = u.limited == 1 }
+
+abbrev pub others_of : StormGiven → Others
+others_of g = record {
+  second = population_given g.second;
+  third = population_given g.third;
+  fourth = population_given g.fourth;
+}
+
+-- the population, from 0, that the report is on; C counts them from 1, and says 0 for all requests
+abbrev pub of_given : ℕ → Option ℕ
+of_given k = if k == 0 then None else Some (k - 1)
 
 abbrev pub bucket_of : StormGiven → Bucket
 bucket_of g = record {
@@ -67,6 +85,7 @@ parameters_of g draws = record {
   calls = g.calls;
   words = g.words;
   draws = draws;
+  others = others_of g;
 }
 
 -- the parameters are those that are given
@@ -77,6 +96,19 @@ pub record IsOf (g : StormGiven) (p : Parameters) : Type 0 where
 -- where there is no brown-out its moments are 0
 abbrev pub HasItsBrownOut : StormGiven → Type 0
 HasItsBrownOut g = g.slow_percent ≡ 0 → (g.slow_from ≡ 0) × (g.slow_to ≡ 0)
+
+-- each population is limited, or is not
+pub record ArePopulationsGiven (g : StormGiven) : Type 0 where
+  pub second : g.second.limited ≤ 1
+  pub third : g.third.limited ≤ 1
+  pub fourth : g.fourth.limited ≤ 1
+
+-- the report is on all requests, or on those of a population that there is
+pub record IsOnSome (g : StormGiven) : Type 0 where
+  pub few : g.of ≤ 4
+  pub second : g.of ≡ 2 → 1 ≤ g.second.share
+  pub third : g.of ≡ 3 → 1 ≤ g.third.share
+  pub fourth : g.of ≡ 4 → 1 ≤ g.fourth.share
 
 pub record IsBreakerGiven (g : StormGiven) : Type 0 where
   pub failures : 1 ≤ g.failures
@@ -111,6 +143,8 @@ pub record AreDrawsInRange (g : StormGiven) : Type 0 where
 -- a storm is given
 pub record IsGiven (g : StormGiven) : Type 0 where
   pub slow : HasItsBrownOut g
+  pub populations : ArePopulationsGiven g
+  pub report_on : IsOnSome g
   pub draws : AreDrawsGiven g
   pub draws_in_range : AreDrawsInRange g
   pub in_range : AreInRange (parameters_of g Nothing)

@@ -1,10 +1,10 @@
-//! The call of the library that plays a storm, for programs in other languages. include/hikebox.h names it with `hikebox_`
-//! before its name: there are its refusals, and what the caller owes. What it writes adds up, and is what `sched_storm`
-//! reports, on which it stands.
+//! The calls of the library that play a storm, for programs in other languages. include/hikebox.h names them with
+//! `hikebox_` before their names: there are their refusals, and what the caller owes. What they write is what
+//! `sched_storm` reports, on which they stand; it adds up where it is on all requests.
 #![tactic(auto)]
 
 mod plays;
 mod records;
 
-pub use plays::storm_play;
-pub use records::{SizedStorm, SizedTotals, StormGiven, TotalsTold, WindowTold};
+pub use plays::{storm_play, storm_play_populations};
+pub use records::{PopulationGiven, SizedStorm, SizedTotals, StormGiven, TotalsTold, WindowTold};

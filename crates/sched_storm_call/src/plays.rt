@@ -1,17 +1,19 @@
 //! Playing a storm.
-ghost use Rattle.std.specs.Prelude.{◌≡◌, ◌≢◌, map, IfOk, IfErr, Err};
+ghost use Rattle.std.specs.Prelude.{◌≡◌, ◌≢◌, ◌≤◌, map, None, IfOk, IfErr, Err, vec_len};
+ghost use Rattle.sched_storm.specs.Clients.{plan_at};
 ghost use Rattle.sched_storm.specs.Report.{AddsUp};
-ghost use Rattle.sched_handle.specs.Held.{Wants};
-ghost use Rattle.sched_handle.specs.declared.held.Kind.TheVariants as kind;
-ghost use Rattle.sched_storm_call.specs.Told.{window_told};
+ghost use Rattle.sched_storm.specs.Storms.{ReportsOn};
+ghost use Rattle.sched_storm_call.specs.Told.{room_of, window_told};
 ghost use Rattle.sched_handle.specs.declared.status.Status.TheVariants as status;
-ghost use Rattle.sched_storm_call.specs.Plays.{PlaysStorm, Tells, IsReported};
+ghost use Rattle.sched_storm_call.specs.Plays.{PlaysStorm, PlaysPopulations, PlaysPlans, Tells, HaveIts, HaveTheirs};
+ghost use Rattle.sched_storm_call.specs.Plays.{IsPlanOf, HasNoPlan, IsReason, plans_of};
 
 use crate::records::{
     STORM_SIZE, SizedStorm, SizedTotals, StormGiven, TOTALS_SIZE, TotalsTold, WindowTold, room_of,
 };
-use sched_handle::{Handle, Held, Status};
-use sched_storm::{Report, Storm, Window};
+use sched_handle::{Handle, Status};
+use sched_plan::SharedPlan;
+use sched_storm::{Plans, Report, Storm, Window};
 use sched_time::NoMemory;
 use std::alloc::Global;
 
@@ -25,11 +27,11 @@ pub fn storm_play(
     totals: &mut SizedTotals,
 ) -> u32
     ensures kept { policy.new.held ≡ policy.old.held }
-    ensures played { storm.now.size ≡ 1064 → totals.old.size ≡ 128 →
+    ensures played { storm.now.size ≡ 1144 → totals.old.size ≡ 128 →
         PlaysStorm storm.now.storm policy.old.held
         (record { windows = windows.old; count = count.old; totals = totals.old.totals }) result
         (record { windows = windows.new; count = count.new; totals = totals.new.totals }) }
-    ensures wrong_storm { storm.now.size ≢ 1064 → Tells storm.now.storm
+    ensures wrong_storm { storm.now.size ≢ 1144 → Tells storm.now.storm
         (record { windows = windows.old; count = count.old; totals = totals.old.totals }) (Err status.WrongSize) result
         (record { windows = windows.new; count = count.new; totals = totals.new.totals }) }
     ensures wrong_totals { totals.old.size ≢ 128 → Tells storm.now.storm
@@ -40,9 +42,10 @@ pub fn storm_play(
     if storm.size != STORM_SIZE || totals.size != TOTALS_SIZE {
         return Status::WrongSize.code();
     }
+    let plans = its_plans(alloc, policy);
     tell_storm(
         alloc,
-        policy,
+        plans,
         &storm.storm,
         windows,
         count,
@@ -50,21 +53,131 @@ pub fn storm_play(
     )
 }
 
+/// Plays a storm of requests of several populations, each under its policy, and writes its windows, their number and
+/// its totals.
+pub fn storm_play_populations(
+    alloc: Global,
+    policy: &mut Handle,
+    second: &mut Handle,
+    third: &mut Handle,
+    fourth: &mut Handle,
+    storm: &SizedStorm,
+    windows: &mut [WindowTold],
+    count: &mut usize,
+    totals: &mut SizedTotals,
+) -> u32
+    ensures kept { policy.new.held ≡ policy.old.held }
+    ensures kept_second { second.new.held ≡ second.old.held }
+    ensures kept_third { third.new.held ≡ third.old.held }
+    ensures kept_fourth { fourth.new.held ≡ fourth.old.held }
+    ensures played { storm.now.size ≡ 1144 → totals.old.size ≡ 128 →
+        PlaysPopulations storm.now.storm (record {
+          first = policy.old.held;
+          second = second.old.held;
+          third = third.old.held;
+          fourth = fourth.old.held;
+        })
+        (record { windows = windows.old; count = count.old; totals = totals.old.totals }) result
+        (record { windows = windows.new; count = count.new; totals = totals.new.totals }) }
+    ensures wrong_storm { storm.now.size ≢ 1144 → Tells storm.now.storm
+        (record { windows = windows.old; count = count.old; totals = totals.old.totals }) (Err status.WrongSize) result
+        (record { windows = windows.new; count = count.new; totals = totals.new.totals }) }
+    ensures wrong_totals { totals.old.size ≢ 128 → Tells storm.now.storm
+        (record { windows = windows.old; count = count.old; totals = totals.old.totals }) (Err status.WrongSize) result
+        (record { windows = windows.new; count = count.new; totals = totals.new.totals }) }
+    ensures size { totals.new.size ≡ totals.old.size }
+{
+    if storm.size != STORM_SIZE || totals.size != TOTALS_SIZE {
+        return Status::WrongSize.code();
+    }
+    let plans = their_plans(alloc, policy, second, third, fourth);
+    tell_storm(
+        alloc,
+        plans,
+        &storm.storm,
+        windows,
+        count,
+        &mut totals.totals,
+    )
+}
+
+// The plans, where all populations have the policy that the handle holds.
+fn its_plans(alloc: Global, policy: &mut Handle) -> Result<Plans, Status>
+    ensures kept { policy.new.held ≡ policy.old.held }
+    ensures plans { HaveIts policy.old.held (plans_of result) }
+    ensures reason { IfErr result IsReason }
+{
+    let plan = policy.plan(alloc)?;
+    match Plans::all(plan) {
+        Ok(plans) => Ok(plans),
+        Err(_) => Err(Status::NoMemory),
+    }
+}
+
+// The plans of the policies that the handles hold.
+fn their_plans(
+    alloc: Global,
+    first: &mut Handle,
+    second: &mut Handle,
+    third: &mut Handle,
+    fourth: &mut Handle,
+) -> Result<Plans, Status>
+    ensures kept { first.new.held ≡ first.old.held }
+    ensures kept_second { second.new.held ≡ second.old.held }
+    ensures kept_third { third.new.held ≡ third.old.held }
+    ensures kept_fourth { fourth.new.held ≡ fourth.old.held }
+    ensures plans { HaveTheirs (record {
+      first = first.old.held;
+      second = second.old.held;
+      third = third.old.held;
+      fourth = fourth.old.held;
+    })
+        (plans_of result) }
+    ensures reason { IfErr result IsReason }
+{
+    let plan = first.plan(alloc)?;
+    let second = plan_or(alloc, second, &plan)?;
+    let third = plan_or(alloc, third, &plan)?;
+    let fourth = plan_or(alloc, fourth, &plan)?;
+    Ok(Plans {
+        first: plan,
+        second,
+        third,
+        fourth,
+    })
+}
+
+// The plan of the policy that the handle holds, or the first one where it holds nothing.
+fn plan_or(alloc: Global, handle: &mut Handle, first: &SharedPlan) -> Result<SharedPlan, Status>
+    ensures kept { handle.new.held ≡ handle.old.held }
+    ensures ok { IfOk result (IsPlanOf handle.old.held first.now) }
+    ensures err { IfErr result (HasNoPlan handle.old.held) }
+    ensures reason { IfErr result IsReason }
+{
+    if handle.is_full(alloc) {
+        return handle.plan(alloc);
+    }
+    match first.share() {
+        Ok(plan) => Ok(plan),
+        Err(_) => Err(Status::NoMemory),
+    }
+}
+
 // Plays the storm that is given, and writes what comes of it.
 fn tell_storm(
     alloc: Global,
-    policy: &mut Handle,
-    storm: &StormGiven,
+    plans: Result<Plans, Status>,
+    given: &StormGiven,
     windows: &mut [WindowTold],
     count: &mut usize,
     totals: &mut TotalsTold,
 ) -> u32
-    ensures kept { policy.new.held ≡ policy.old.held }
-    ensures played { PlaysStorm storm.now policy.old.held
+    requires { IfErr plans IsReason }
+    ensures { PlaysPlans given.now (plans_of plans)
         (record { windows = windows.old; count = count.old; totals = totals.old }) result
         (record { windows = windows.new; count = count.new; totals = totals.new }) }
 {
-    let Some(storm) = storm.storm() else {
+    let Some(storm) = given.storm() else {
         return Status::OutOfRange.code();
     };
     let room = room_of(&storm);
@@ -72,37 +185,36 @@ fn tell_storm(
         *count = room;
         return Status::NoRoom.code();
     }
-    let Some(held) = policy.take(alloc) else {
-        return Status::Empty.code();
+    let plans = match plans {
+        Ok(plans) => plans,
+        Err(status) => return status.code(),
     };
-    let played = play(alloc, &held, &storm);
-    policy.put(held);
-    match played {
+    match play(alloc, plans, &storm, given.of()) {
         Ok((report, told)) => {
             windows[..told.len()].copy_from_slice(&told);
             *count = told.len();
             *totals = TotalsTold::of(&report.totals);
             0
         }
-        Err(status) => status.code(),
+        Err(_) => Status::NoMemory.code(),
     }
 }
 
-// The storm under the policy that a handle holds, and its windows as C is told of them.
-fn play(alloc: Global, held: &Held, storm: &Storm) -> Result<(Report, Vec<WindowTold>), Status>
-    ensures reported { IfOk result (λ played. IsReported held.now storm.now played.0) }
-    ensures sums { IfOk result (λ played. AddsUp storm.now played.0) }
+// The report on the storm of these plans, and its windows as C is told of them.
+fn play(
+    alloc: Global,
+    plans: Plans,
+    storm: &Storm,
+    of: Option<u64>,
+) -> Result<(Report, Vec<WindowTold>), NoMemory>
+    ensures reports { IfOk result (λ played. ReportsOn storm.now (λ k. plan_at k plans) of played.0) }
+    ensures sums { of ≡ None → IfOk result (λ played. AddsUp storm.now played.0) }
+    ensures few { IfOk result (λ played. vec_len played.0.windows ≤ room_of storm.now) }
     ensures told { IfOk result (λ played. played.1.items ≡ map window_told played.0.windows.items) }
-    ensures err { IfErr result (Wants kind.Policy held.now) }
 {
-    let plan = held.plan()?;
-    let Ok(report) = storm.play(alloc, plan) else {
-        return Err(Status::NoMemory);
-    };
-    match windows_told(alloc, &report.windows) {
-        Ok(told) => Ok((report, told)),
-        Err(_) => Err(Status::NoMemory),
-    }
+    let report = storm.play_populations(alloc, plans, of)?;
+    let told = windows_told(alloc, &report.windows)?;
+    Ok((report, told))
 }
 
 // Windows, as C is told of them.

@@ -1,13 +1,26 @@
 //! What C gives of a storm, and what it is told.
 ghost use Rattle.std.specs.Prelude.{◌≡◌, ◌≤◌, ◌↔◌, IsTrue, IsSome, IfSome};
 ghost use Rattle.sched_storm_call.specs.Told.{IsGiven, HasItsBrownOut, IsBreakerGiven, IsThrottleGiven, AreDrawsGiven};
-ghost use Rattle.sched_storm_call.specs.Told.{AreDrawsOf, IsOf, down_of, slow_of, parameters_of, room_of, window_told};
-ghost use Rattle.sched_storm_call.specs.Told.{totals_told};
+ghost use Rattle.sched_storm_call.specs.Told.{ArePopulationsGiven, IsOnSome, AreDrawsOf, IsOf, down_of, slow_of};
+ghost use Rattle.sched_storm_call.specs.Told.{population_given, others_of, of_given, parameters_of, room_of};
+ghost use Rattle.sched_storm_call.specs.Told.{window_told, totals_told};
 
 use sched_limit::{Breaker, Bucket, InFlight, Throttle};
-use sched_storm::{BrownOut, Draws, Limit, Parameters, Phase, Rates, Span, Storm, Totals, Window};
+use sched_storm::{
+    BrownOut, Draws, Limit, Others, Parameters, Phase, Population, Rates, Span, Storm, Totals,
+    Window,
+};
 use sched_ticket_quota::Terms;
 use sched_time::{Millis, Moment};
+
+/// A population of clients beside the first one.
+#[repr(C)]
+#[derive(Clone, Copy)]
+pub struct PopulationGiven {
+    pub share: u64,
+    pub patience: u64,
+    pub limited: u64,
+}
 
 /// The parameters of a storm.
 #[repr(C)]
@@ -51,6 +64,10 @@ pub struct StormGiven {
     pub down: u64,
     pub phase_count: u64,
     pub phases: [Phase; 16],
+    pub second: PopulationGiven,
+    pub third: PopulationGiven,
+    pub fourth: PopulationGiven,
+    pub of: u64,
 }
 
 /// The parameters of a storm, after the size in bytes that C gives of this struct.
@@ -62,7 +79,7 @@ pub struct SizedStorm {
 }
 
 /// The size of it.
-pub(crate) const STORM_SIZE: usize = 1064;
+pub(crate) const STORM_SIZE: usize = 1144;
 
 /// A window of a storm.
 #[repr(C)]
@@ -112,6 +129,25 @@ pub struct SizedTotals {
 /// The size of it.
 pub(crate) const TOTALS_SIZE: usize = 128;
 
+impl PopulationGiven {
+    // Whether it says if its retries draw on what those of the first population draw on.
+    fn is_given(self) -> bool
+        ensures { IsTrue result ↔ (self.limited ≤ 1) }
+    {
+        self.limited <= 1
+    }
+
+    fn population(self) -> Population
+        ensures { result ≡ population_given self }
+    {
+        Population {
+            share: self.share,
+            patience: self.patience,
+            is_limited: self.limited == 1,
+        }
+    }
+}
+
 impl StormGiven {
     /// The storm, or `None` where a parameter is outside its range.
     pub(crate) fn storm(&self) -> Option<Storm>
@@ -119,10 +155,21 @@ impl StormGiven {
         ensures value { IfSome result (IsOf self.now) }
     {
         let draws = self.draws()?;
-        if !self.has_its_brown_out() {
+        if !self.has_its_brown_out() || !self.are_populations_given() || !self.is_on_some() {
             return None;
         }
         Storm::new(self.parameters(draws))
+    }
+
+    /// The population, from 0, that the report is on; none where it is on all requests.
+    pub(crate) fn of(&self) -> Option<u64>
+        ensures { result ≡ of_given self.now.of }
+    {
+        if self.of == 0 {
+            None
+        } else {
+            Some(self.of - 1)
+        }
     }
 
     fn parameters(&self, draws: Draws) -> Parameters
@@ -151,6 +198,36 @@ impl StormGiven {
             calls: self.calls,
             words: self.words,
             draws,
+            others: self.others(),
+        }
+    }
+
+    fn others(&self) -> Others
+        ensures { result ≡ others_of self.now }
+    {
+        Others {
+            second: self.second.population(),
+            third: self.third.population(),
+            fourth: self.fourth.population(),
+        }
+    }
+
+    fn are_populations_given(&self) -> bool
+        ensures { IsTrue result ↔ ArePopulationsGiven self.now }
+    {
+        self.second.is_given() && self.third.is_given() && self.fourth.is_given()
+    }
+
+    // Whether the report is on all requests, or on those of a population that there is.
+    fn is_on_some(&self) -> bool
+        ensures { IsTrue result ↔ IsOnSome self.now }
+    {
+        match self.of {
+            0 | 1 => true,
+            2 => self.second.share > 0,
+            3 => self.third.share > 0,
+            4 => self.fourth.share > 0,
+            _ => false,
         }
     }
 

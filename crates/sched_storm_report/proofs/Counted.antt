@@ -6,8 +6,8 @@ use Rattle.std.proofs.lemmas.List.Sums.{sum_by_push, sum_by-cons}
 use Rattle.sched_storm_report.specs.Counts.{no_counts, with_request, with_retry, with_won, with_success, with_failure}
 use Rattle.sched_storm_report.specs.Counts.{with_happening, score_after}
 use Rattle.sched_storm_report.specs.Moments.{is_request, is_retry, is_call, is_success, is_refused, is_shed, is_late}
-use Rattle.sched_storm_report.specs.Moments.{is_lost, is_denied, is_granted, is_won_from, counts_where, always}
-use Rattle.sched_storm_report.specs.Moments.{score_of}
+use Rattle.sched_storm_report.specs.Moments.{is_lost, is_denied, is_granted, is_ticket, is_won_from, counts_where}
+use Rattle.sched_storm_report.specs.Moments.{always, score_of}
 use Rattle.sched_storm_report.specs.Told.{credited}
 use Rattle.sched_storm_report.specs.declared.moments.Failure.TheVariants as failed
 use Rattle.sched_storm_report.specs.declared.moments.Then.TheVariants.{Lost, Denied, Waits}
@@ -32,13 +32,14 @@ same_counts a b requests won retries succeeded refused shed late = λ i. record 
 }
 
 same_score : (a b : Score) → a.all ≡ b.all → a.calls ≡ b.calls → a.lost ≡ b.lost → a.denied ≡ b.denied →
-    a.granted ≡ b.granted → a ≡ b
-same_score a b all calls lost denied granted = λ i. record {
+    a.granted ≡ b.granted → a.tickets ≡ b.tickets → a ≡ b
+same_score a b all calls lost denied granted tickets = λ i. record {
   all = all i;
   calls = calls i;
   lost = lost i;
   denied = denied i;
   granted = granted i;
+  tickets = tickets i;
 }
 
 module _ (here : ℕ → Bool) (told : List Moment) (m : Moment) where
@@ -150,22 +151,28 @@ counts_elsewhere here told at what busy fails = let m : Moment = record { at = a
 grown : (what : Happening) (s t : Score) → t.all ≡ with_happening what (credited always what s.all) →
     t.calls ≡ s.calls + cond (is_call what) 1 0 → t.lost ≡ s.lost + cond (is_lost what) 1 0 →
     t.denied ≡ s.denied + cond (is_denied what) 1 0 → t.granted ≡ s.granted + cond (is_granted what) 1 0 →
+    t.tickets ≡ s.tickets + cond (is_ticket what) 1 0 →
     t ≡ score_after what (record s { all = credited always what s.all })
-grown Request s t all calls lost denied granted = same_score t (score_after Request s) all calls (omega arith)
-    (omega arith) (omega arith)
-grown Retry s t all calls lost denied granted = same_score t (score_after Retry s) all calls (omega arith)
-    (omega arith) (omega arith)
-grown (Won began) s t all calls lost denied granted =
+grown Request s t all calls lost denied granted tickets =
+    same_score t (score_after Request s) all calls (omega arith) (omega arith) (omega arith) (omega arith)
+grown Retry s t all calls lost denied granted tickets =
+    same_score t (score_after Retry s) all calls (omega arith) (omega arith) (omega arith) (omega arith)
+grown (Won began) s t all calls lost denied granted tickets =
     same_score t (score_after (Won began) (record s { all = with_won s.all })) all (omega arith) (omega arith)
-    (omega arith) (omega arith)
-grown (Failed failure Lost) s t all calls lost denied granted =
-    same_score t (score_after (Failed failure Lost) s) all (omega arith) lost (omega arith) (omega arith)
-grown (Failed failure Denied) s t all calls lost denied granted =
+    (omega arith) (omega arith) (omega arith)
+grown (Failed failure Lost) s t all calls lost denied granted tickets =
+    same_score t (score_after (Failed failure Lost) s) all (omega arith) lost (omega arith) (omega arith) (omega arith)
+grown (Failed failure Denied) s t all calls lost denied granted tickets =
     same_score t (score_after (Failed failure Denied) s) all (omega arith) (omega arith) denied (omega arith)
-grown (Failed failure Waits) s t all calls lost denied granted =
-    same_score t (score_after (Failed failure Waits) s) all (omega arith) (omega arith) (omega arith) granted
-grown Refused s t all calls lost denied granted = same_score t (score_after Refused s) all (omega arith)
-    (omega arith) denied (omega arith)
+    (omega arith)
+grown (Failed failure (Waits true)) s t all calls lost denied granted tickets =
+    same_score t (score_after (Failed failure (Waits true)) s) all (omega arith) (omega arith) (omega arith)
+    granted tickets
+grown (Failed failure (Waits false)) s t all calls lost denied granted tickets =
+    same_score t (score_after (Failed failure (Waits false)) s) all (omega arith) (omega arith) (omega arith)
+    granted (omega arith)
+grown Refused s t all calls lost denied granted tickets =
+    same_score t (score_after Refused s) all (omega arith) (omega arith) denied (omega arith) (omega arith)
 
 pub score_more : (told : List Moment) (at : ℕ) (what : Happening) (busy : Busy) →
     score_of (told ++ record { at = at; what = what; busy = busy } ∷ []) ≡
@@ -175,7 +182,7 @@ score_more told at what busy = let m : Moment = record { at = at; what = what; b
     count_by (λ m. test m.what) told + cond (test what) 1 0 = λ test.
     sum_by_push (λ m. cond (test m.what) 1 0) told m in
     grown what (score_of told) (score_of (told ++ m ∷ [])) (counts_here always told at what busy refl)
-    (count is_call) (count is_lost) (count is_denied) (count is_granted)
+    (count is_call) (count is_lost) (count is_denied) (count is_granted) (count is_ticket)
 
 -- No moment of the list passes the test, and no request began at one that does.
 pub record IsOutside (here : ℕ → Bool) (m : Moment) : Type 0 where

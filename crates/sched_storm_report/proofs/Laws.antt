@@ -1,12 +1,12 @@
 -- What holds of the report of every list of moments.
-use Rattle.std.proofs.Common.{◌≡◌, ℕ, ◌+◌, Bool, cond, List, [], ◌∷◌, length, count_by, refl}
+use Rattle.std.proofs.Common.{◌≡◌, ℕ, ◌+◌, ◌≤◌, Bool, true, false, cond, List, [], ◌∷◌, length, count_by, refl}
 use Rattle.std.proofs.Common.{sym, ap, ◌∙◌, arith}
 use Rattle.std.specs.List.{cons_option}
 use Rattle.std.proofs.lemmas.List.Sums.{sum_by-cons}
 use Rattle.sched_storm_report.specs.Laws.{is_turned_away, turned_away, AreTimes, ScoreAddsUp}
 use Rattle.sched_storm_report.specs.Moments.{is_request, is_retry, is_call, is_success, is_refused, is_shed, is_late}
-use Rattle.sched_storm_report.specs.Moments.{is_lost, is_denied, is_granted, is_won_from, always, score_of, time_at}
-use Rattle.sched_storm_report.specs.Moments.{times_of}
+use Rattle.sched_storm_report.specs.Moments.{is_lost, is_denied, is_granted, is_ticket, is_won_from, always, score_of}
+use Rattle.sched_storm_report.specs.Moments.{time_at, times_of}
 use Rattle.sched_storm_report.specs.Report.{in_order, IsReport}
 use Rattle.sched_storm_report.proofs.Sorted.{in_order_sorted, length_in_order}
 use Rattle.sched_storm_report.specs.declared.moments.Failure.TheVariants as failed
@@ -39,14 +39,24 @@ failure_is Retry = refl
 failure_is (Won began) = refl
 failure_is (Failed failed.Refused Lost) = refl
 failure_is (Failed failed.Refused Denied) = refl
-failure_is (Failed failed.Refused Waits) = refl
+failure_is (Failed failed.Refused (Waits ticket)) = refl
 failure_is (Failed failed.Shed Lost) = refl
 failure_is (Failed failed.Shed Denied) = refl
-failure_is (Failed failed.Shed Waits) = refl
+failure_is (Failed failed.Shed (Waits ticket)) = refl
 failure_is (Failed failed.Late Lost) = refl
 failure_is (Failed failed.Late Denied) = refl
-failure_is (Failed failed.Late Waits) = refl
+failure_is (Failed failed.Late (Waits ticket)) = refl
 failure_is Refused = refl
+
+ticket_is : (what : Happening) → cond {A = ℕ} (is_ticket what) 1 0 ≤ cond {A = ℕ} (is_granted what) 1 0
+ticket_is Request = omega arith
+ticket_is Retry = omega arith
+ticket_is (Won began) = omega arith
+ticket_is (Failed failure Lost) = omega arith
+ticket_is (Failed failure Denied) = omega arith
+ticket_is (Failed failure (Waits true)) = omega arith
+ticket_is (Failed failure (Waits false)) = omega arith
+ticket_is Refused = omega arith
 
 success_is : (what : Happening) → cond {A = ℕ} (is_success what) 1 0 ≡ cond {A = ℕ} (is_won_from always what) 1 0
 success_is Request = refl
@@ -93,8 +103,22 @@ failures (m ∷ ms) =
     let g = sum_by-cons (one is_granted) m ms in
     omega arith
 
+tickets : (told : List Moment) → count_by (λ m. is_ticket m.what) told ≤ count_by (λ m. is_granted m.what) told
+tickets [] = omega arith
+tickets (m ∷ ms) =
+    let rest = tickets ms in
+    let first = ticket_is m.what in
+    let a = sum_by-cons (one is_ticket) m ms in
+    let b = sum_by-cons (one is_granted) m ms in
+    omega arith
+
 pub score_adds_up : (told : List Moment) → ScoreAddsUp told (score_of told)
-score_adds_up told = record { successes = successes told; calls = calls told; failures = failures told }
+score_adds_up told = record {
+  successes = successes told;
+  calls = calls told;
+  failures = failures told;
+  tickets = tickets told;
+}
 
 -- each request that was won has its time
 time_is : (at : ℕ) (what : Happening) (ts : List ℕ) →

@@ -47,7 +47,7 @@ slow_peer = record { capacity = 100; slow = None }
 abbrev with_retry : List Moment
 with_retry =
     moment 0 Request 100000 ∷ moment 5 Request 200000 ∷ moment 8 Request 300000 ∷ moment 10 (Won 0) 300000 ∷
-    moment 20 (Won 5) 300000 ∷ moment 23 (Failed failed.Late Waits) 300000 ∷ moment 25 Retry 400000 ∷
+    moment 20 (Won 5) 300000 ∷ moment 23 (Failed failed.Late (Waits true)) 300000 ∷ moment 25 Retry 400000 ∷
     moment 40 (Won 8) 400000 ∷ []
 
 windows_with_retry : windows_of slow_peer 20 with_retry ≡
@@ -55,7 +55,7 @@ windows_with_retry : windows_of slow_peer 20 with_retry ≡
 windows_with_retry = refl
 
 -- four calls for three requests; they took 10, 15 and 32 ms
-totals_with_retry : totals slow_peer (record { trouble = 0; draws = true; is_cut = false }) 20 with_retry ≡ record {
+totals_with_retry : totals slow_peer (record { trouble = 0; is_cut = false }) 20 with_retry ≡ record {
   counts = counts 3 3 1 3 0 0 1;
   lost = 0;
   denied = 0;
@@ -73,6 +73,42 @@ totals_with_retry : totals slow_peer (record { trouble = 0; draws = true; is_cut
 }
 totals_with_retry = refl
 
+-- Two requests in an outage; a ticket is given for the first's retry, and the second's is granted without one.
+abbrev with_one_ticket : List Moment
+with_one_ticket =
+    moment 0 Request 0 ∷ moment 0 (Failed failed.Refused (Waits true)) 0 ∷ moment 2 Request 0 ∷
+    moment 2 (Failed failed.Refused (Waits false)) 0 ∷ moment 10 Retry 200000 ∷ moment 12 Retry 300000 ∷
+    moment 20 (Won 0) 300000 ∷ moment 30 (Won 2) 300000 ∷ []
+
+score_with_one_ticket : score_of with_one_ticket ≡ record {
+  all = counts 2 2 2 2 2 0 0;
+  calls = 4;
+  lost = 0;
+  denied = 0;
+  granted = 2;
+  tickets = 1;
+}
+score_with_one_ticket = refl
+
+-- they took 20 and 28 ms
+totals_with_one_ticket : totals slow_peer (record { trouble = 5; is_cut = false }) 40 with_one_ticket ≡ record {
+  counts = counts 2 2 2 2 2 0 0;
+  lost = 0;
+  denied = 0;
+  «open» = 0;
+  calls = 4;
+  hundredths = 200;
+  most_calls = 4;
+  most_from = 0;
+  tickets = 1;
+  p50 = Some 20;
+  p99 = Some 28;
+  slowest = Some 28;
+  recovered = None;
+  is_cut = false;
+}
+totals_with_one_ticket = refl
+
 -- One request is lost in an outage, one refused before its first call, one shed and denied, one won and one open.
 abbrev that_fail : List Moment
 that_fail =
@@ -85,7 +121,7 @@ windows_that_fail : windows_of slow_peer 10 that_fail ≡
 windows_that_fail = refl
 
 -- no request begins after the window that does not pass, so it has not recovered
-totals_that_fail : totals slow_peer (record { trouble = 10; draws = false; is_cut = true }) 10 that_fail ≡ record {
+totals_that_fail : totals slow_peer (record { trouble = 10; is_cut = true }) 10 that_fail ≡ record {
   counts = counts 5 1 0 1 1 1 0;
   lost = 1;
   denied = 2;
@@ -118,7 +154,7 @@ windows_in_pairs : windows_of browned_out 25 in_pairs ≡
 windows_in_pairs = refl
 
 -- the first of two equal windows has the most calls; of 15, 20, 25 and 30 ms half is the second
-totals_in_pairs : totals browned_out (record { trouble = 20; draws = true; is_cut = false }) 25 in_pairs ≡ record {
+totals_in_pairs : totals browned_out (record { trouble = 20; is_cut = false }) 25 in_pairs ≡ record {
   counts = counts 4 4 0 4 0 0 0;
   lost = 0;
   denied = 0;
@@ -140,7 +176,7 @@ totals_in_pairs = refl
 windows_of_nothing : windows_of slow_peer 10 [] ≡ window 0 no_counts 0 ∷ []
 windows_of_nothing = refl
 
-totals_of_nothing : totals slow_peer (record { trouble = 0; draws = true; is_cut = false }) 10 [] ≡ record {
+totals_of_nothing : totals slow_peer (record { trouble = 0; is_cut = false }) 10 [] ≡ record {
   counts = no_counts;
   lost = 0;
   denied = 0;

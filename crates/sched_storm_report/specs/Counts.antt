@@ -1,5 +1,5 @@
 -- Counts: what one moment adds to them, and which of them add up.
-use Rattle.std.specs.Prelude.{◌≡◌, ℕ, ◌+◌, ◌<◌, ◌≤◌, List, sum_by}
+use Rattle.std.specs.Prelude.{◌≡◌, ℕ, ◌+◌, ◌<◌, ◌≤◌, true, false, List, sum_by}
 use Rattle.sched_storm_report.specs.declared.moments.Failure.{Failure}
 use Rattle.sched_storm_report.specs.declared.moments.Failure.TheVariants as failed
 use Rattle.sched_storm_report.specs.declared.moments.Then.{Then}
@@ -52,7 +52,8 @@ with_happening Refused c = with_request c
 abbrev pub score_then : Then → Score → Score
 score_then Lost s = record s { lost = s.lost + 1 }
 score_then Denied s = record s { denied = s.denied + 1 }
-score_then Waits s = record s { granted = s.granted + 1 }
+score_then (Waits true) s = record s { granted = s.granted + 1; tickets = s.tickets + 1 }
+score_then (Waits false) s = record s { granted = s.granted + 1 }
 
 -- what it adds to the score of all requests, but for a request that is won
 abbrev pub score_after : Happening → Score → Score
@@ -88,6 +89,7 @@ pub record IsBelow (most : ℕ) (s : Score) : Type 0 where
   pub lost : s.lost < most
   pub denied : s.denied < most
   pub granted : s.granted < most
+  pub tickets : s.tickets < most
 
 -- no count is greater than the number of moments
 pub record AreWithin (said : ℕ) (s : Score) : Type 0 where
@@ -102,3 +104,4 @@ pub record AreWithin (said : ℕ) (s : Score) : Type 0 where
   pub lost : s.lost ≤ said
   pub denied : s.denied ≤ said
   pub granted : s.granted ≤ said
+  pub tickets : s.tickets ≤ said

@@ -1,5 +1,5 @@
 -- What holds of every report.
-use Rattle.std.specs.Prelude.{◌≡◌, ℕ, ◌+◌, ◌-◌, Bool, true, false, List, length, slice_get, count_by}
+use Rattle.std.specs.Prelude.{◌≡◌, ℕ, ◌+◌, ◌-◌, ◌≤◌, Bool, true, false, List, length, slice_get, count_by}
 use Rattle.std.specs.Ordering.{nat_cmp}
 use Rattle.std.specs.List.Sorted.{IsSorted}
 use Rattle.sched_storm_report.specs.Counts.{calls_in, failed_in}
@@ -36,3 +36,5 @@ pub record ScoreAddsUp (told : List Moment) (s : Score) : Type 0 where
   pub calls : s.calls + turned_away told ≡ calls_in s.all
   -- each call that failed has ended its request, or a retry was granted for it
   pub failures : failed_in s.all + turned_away told ≡ s.lost + s.denied + s.granted
+  -- each ticket is that of a retry that was granted
+  pub tickets : s.tickets ≤ s.granted

@@ -10,7 +10,8 @@ use Rattle.sched_storm_report.specs.declared.counts.Counts.{Counts}
 use Rattle.sched_storm_report.specs.declared.counts.Score.{Score}
 use Rattle.sched_storm_report.specs.declared.peer.Busy.{Busy}
 
--- What happens: a request comes, a call begins or ends, a request is lost or denied, a retry is granted.
+-- What happens: a request comes, a call begins or ends, a request is lost or denied, a retry is granted, a ticket is
+-- given for it.
 abbrev pub is_request : Happening → Bool
 is_request Request = true
 is_request Refused = true
@@ -51,8 +52,12 @@ is_denied Refused = true
 is_denied _ = false
 
 abbrev pub is_granted : Happening → Bool
-is_granted (Failed failure Waits) = true
+is_granted (Failed failure (Waits ticket)) = true
 is_granted _ = false
+
+abbrev pub is_ticket : Happening → Bool
+is_ticket (Failed failure (Waits ticket)) = ticket
+is_ticket _ = false
 
 -- a request is won that began at a moment that passes the test
 abbrev pub is_won_from : (ℕ → Bool) → Happening → Bool
@@ -85,6 +90,7 @@ score_of told = record {
   lost = count_by (λ m. is_lost m.what) told;
   denied = count_by (λ m. is_denied m.what) told;
   granted = count_by (λ m. is_granted m.what) told;
+  tickets = count_by (λ m. is_ticket m.what) told;
 }
 
 -- how long each request took that was won, from its first call's beginning to its success

@@ -74,6 +74,8 @@ pub(crate) struct Score {
     pub(crate) denied: u64,
     /// The retries that were granted.
     pub(crate) granted: u64,
+    /// The tickets that were given.
+    pub(crate) tickets: u64,
 }
 
 impl Score {
@@ -84,6 +86,7 @@ impl Score {
         lost: 0,
         denied: 0,
         granted: 0,
+        tickets: 0,
     };
 
     /// Counts what happened.
@@ -98,7 +101,12 @@ impl Score {
             Happening::Failed { then, .. } => match then {
                 Then::Lost => self.lost += 1,
                 Then::Denied => self.denied += 1,
-                Then::Waits => self.granted += 1,
+                Then::Waits { ticket } => {
+                    self.granted += 1;
+                    if ticket {
+                        self.tickets += 1;
+                    }
+                }
             },
             Happening::Refused => self.denied += 1,
         }

@@ -20,7 +20,10 @@ pub enum Then {
     /// The request gets no ticket.
     Denied,
     /// A retry is granted, and the request waits for it.
-    Waits,
+    Waits {
+        /// Whether a ticket was given for it.
+        ticket: bool,
+    },
 }
 
 /// What happens at a moment.

@@ -36,7 +36,7 @@ pub struct Totals {
     pub most_calls: u64,
     /// The first moment of the first such window.
     pub most_from: u64,
-    /// The tickets that were given; 0 where retries draw on nothing.
+    /// The tickets that were given.
     pub tickets: u64,
     /// The time from a request's first call to its success that 50 in 100 of those that were won don't pass; `None`
     /// where none was won.
@@ -56,8 +56,6 @@ pub struct Totals {
 pub struct Ends {
     /// When the outage and the brown-out are over.
     pub trouble: u64,
-    /// Whether retries draw on anything.
-    pub draws: bool,
     /// Whether the storm was cut.
     pub is_cut: bool,
 }
@@ -82,7 +80,7 @@ pub(crate) fn in_all(ends: Ends, windows: &[Window], score: Score, times: &[u32]
         hundredths: hundredths(score.calls, all.requests),
         most_calls,
         most_from,
-        tickets: if ends.draws { score.granted } else { 0 },
+        tickets: score.tickets,
         p50: at_percent(times, 50),
         p99: at_percent(times, 99),
         slowest: times.last().map(|time| u64::from(*time)),

@@ -9,6 +9,7 @@ use std::test::Fail;
 
 mod limits;
 mod peers;
+mod populations;
 mod ranges;
 mod rates;
 mod replicas;

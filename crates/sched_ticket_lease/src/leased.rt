@@ -75,7 +75,7 @@ impl Leased {
         }
     }
 
-    /// Draws a ticket at the moment `now`: one that came back, where there is one.
+    /// Draws one of the tickets at hand, at the moment `now`.
     pub fn draw(&mut self, now: Moment) -> Result<Ticket, NoTicket>
         ensures ok { IfOk result (λ t. Draws now self.old t self.new) }
         ensures err { IfErr result (λ why. DrawsNone now self.old why × (self.new ≡ self.old)) }

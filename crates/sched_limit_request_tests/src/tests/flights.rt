@@ -59,3 +59,26 @@ fn shares(rt: HostRuntime) {
         ],
     );
 }
+
+// A retry that is cancelled gives its slot back, once.
+#[test]
+fn cancelled(rt: HostRuntime) {
+    let one = InFlight { least: 1, share: 0 };
+    let on = OnLimit::new(rt.alloc(), one).expect(&rt, "there is memory");
+    acts(
+        &rt,
+        on,
+        &[
+            (0, 0, Act::Admit(None)),
+            (1, 0, Act::Admit(None)),
+            (2, 0, Act::Admit(None)),
+            (0, 0, Act::Draw(0, None)),
+            (1, 0, Act::Draw(0, FULL)),
+            (0, 0, Act::Cancel),
+            (1, 0, Act::Draw(0, None)),
+            (0, 0, Act::Cancel),
+            (0, 0, Act::End),
+            (2, 0, Act::Draw(0, FULL)),
+        ],
+    );
+}

@@ -23,6 +23,28 @@ fn neither_is_charged(rt: HostRuntime) {
     assert!(rt; whole.is_ok(), "all tokens are back");
 }
 
+// The slot of a retry that the bucket refuses comes back at once, and no second time as the request ends.
+#[test]
+fn a_slot_comes_back(rt: HostRuntime) {
+    let one = InFlight { least: 1, share: 0 };
+    let mut pair = Both {
+        first: OnLimit::new(rt.alloc(), one).expect(&rt, "there is memory"),
+        second: OnLimit::new(rt.alloc(), Bucket::aws()).expect(&rt, "there is memory"),
+    };
+    let mut beside = pair.first.split().expect(&rt, "it has parts");
+    let mut last = pair.first.split().expect(&rt, "it has parts");
+    let two = pair.admit(at(0), 0).is_ok() && beside.admit(at(0), 0).is_ok();
+    let all = two && last.admit(at(0), 0).is_ok();
+    assert!(rt; all, "all are admitted");
+    let refused = pair.draw(at(0), 500001, 0).err();
+    assert!(rt; refused == Some(Refusal::LevelLow(500000)), "{refused:?}");
+    let granted = beside.draw(at(0), 0, 0);
+    assert!(rt; granted.is_ok(), "the slot is back");
+    pair.ended();
+    let full = last.draw(at(0), 0, 0).err();
+    assert!(rt; full == Some(Refusal::Full), "{full:?}");
+}
+
 #[test]
 fn a_breaker_stands_second(rt: HostRuntime) {
     let breaker = Breaker::new(at(0), 1, 1, Millis::from(1000), [100; 64], 0);

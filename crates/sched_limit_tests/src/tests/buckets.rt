@@ -55,7 +55,7 @@ fn aws(rt: HostRuntime) {
             (draw(5000), None),
             (Call::Succeeded(at(0), 0, 1000), None),
             (draw(500000), low(496000)),
-            (Call::Returned(5000), None),
+            (Call::Returned(5000, 1), None),
             (draw(500000), None),
             (draw(1), low(0)),
         ],

@@ -44,3 +44,22 @@ fn envoy(rt: HostRuntime) {
         ],
     );
 }
+
+// A retry that is cancelled gives its slot back, and its request has none to give back at its end.
+#[test]
+fn cancelled(rt: HostRuntime) {
+    calls(
+        &rt,
+        &InFlight { least: 1, share: 0 },
+        &[
+            (admit(), None),
+            (admit(), None),
+            (draw(0), None),
+            (draw(0), FULL),
+            (Call::Returned(0, 1), None),
+            (draw(0), None),
+            (Call::Ended(0), None),
+            (draw(0), FULL),
+        ],
+    );
+}

@@ -50,6 +50,18 @@ fn a_plan_has_no_fault_and_another_text_its_first(rt: HostRuntime) {
             "top: no node is called \"retry\"; did you mean \"recurs\"?",
         ),
         (
+            r#"{"\u001b[1m\n\u202ex\u00e9":3}"#,
+            "top: no node is called \"\\u001b[1m\\u000a\\u202ex\u{e9}\"",
+        ),
+        (
+            r#"{"0123456789012345678901234567890123456789012345678901234567890":3}"#,
+            "top: no node is called \"012345678901234567890123456789012345678901234567890123456789..\"",
+        ),
+        (
+            r#"["\u007f\u009b"]"#,
+            "top: expected a plan, a string or an object with one member, got [\"\\u007f\\u009b\"]",
+        ),
+        (
             r#"{"exponential":[100,1.5]}"#,
             "top: expected {\"exponential\":[D,F]}, D from 0 to 4611686018427387903, F from 1 to 1000, \
              got {\"exponential\":[100,1.5]}; a factor of 1.5 is 1500 in \"exponential_milli\"",

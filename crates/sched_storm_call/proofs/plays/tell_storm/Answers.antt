@@ -1,55 +1,59 @@
 -- A storm that is given is played and told, or refused for the first of the reasons listed.
-use Rattle.std.proofs.Common.{rules, ◌≡◌, length, vec_len, map, Some, Ok, Err, refl, ap, ◌∙◌}
+use Rattle.std.proofs.Common.{rules, ◌≡◌, length, vec_len, map, Ok, Err, refl, ap, ◌∙◌}
 use Rattle.std.proofs.lemmas.List.{length-map}
-use Rattle.sched_handle.specs.declared.status.Status.TheVariants.{Empty, NoRoom, OutOfRange}
-use Rattle.sched_storm.specs.Report.{AddsUp}
-use Rattle.sched_storm_call.specs.Told.{window_told, totals_told}
-use Rattle.sched_storm_call.specs.Plays.{Told, HasRoom, IsReported}
-use Rattle.sched_storm_call.proofs.Refused.{refused}
+use Rattle.sched_handle.specs.declared.status.Status.TheVariants.{NoRoom, OutOfRange}
+use Rattle.sched_storm.specs.Clients.{plan_at}
+use Rattle.sched_storm_call.specs.Told.{of_given, window_told, totals_told}
+use Rattle.sched_storm_call.specs.Plays.{Told, HasRoom, IsReason, plans_of}
+use Rattle.sched_storm_call.proofs.Refused.{refused, short}
 use Rattle.sched_storm_call.proofs.plays.tell_storm.Goals as goal
 
-pub returns-in_default-clause-played : goal.returns-in_default-clause-played
-returns-in_default-clause-played c = (Err OutOfRange, search rules, search rules)
+pub returns-in_default : goal.returns-in_default
+returns-in_default c = (Err OutOfRange, search rules, search rules)
 
-pub returns-then-windows-room-clause-played : goal.returns-then-windows-room-clause-played
-returns-then-windows-room-clause-played c = (Err NoRoom, search rules, search rules)
+pub returns-then-windows-room : goal.returns-then-windows-room
+returns-then-windows-room c = (Err NoRoom, search rules, search rules)
 
-pub returns-in_default-take-clause-played : goal.returns-in_default-take-clause-played
-returns-in_default-take-clause-played c = (Err Empty, search rules, search rules)
+pub returns-in-Err : goal.returns-in-Err
+returns-in-Err c =
+    let t : Told = record { windows = c.args.windows.now; count = c.args.count.now; totals = c.args.totals.now } in
+    let room : HasRoom c.args.given.now t = search rules in
+    let reason : IsReason c.in-Err.status = search rules in
+    rw c.code-in-Err.ensures
+    (refused c.args.given.now t (plans_of c.args.plans) c.in-Err.status room (ap plans_of c.in-Err.is) reason)
 
-pub returns-in-Ok-clause-played : goal.returns-in-Ok-clause-played
-returns-in-Ok-clause-played c =
-    let room : HasRoom c.args.storm.now
+pub returns-in-Ok-play : goal.returns-in-Ok-play
+returns-in-Ok-play c =
+    let room : HasRoom c.args.given.now
     (record { windows = c.args.windows.now; count = c.args.count.now; totals = c.args.totals.now }) = search rules in
-    let ws = c.in-Ok.report.windows.items in
-    let told : c.in-Ok.told.items ≡ map window_told ws = c.in-Ok.ensures.told in
-    let many : length c.in-Ok.told.items ≡ length ws = ap length told ∙ length-map ws window_told in
-    let each : vec_len c.in-Ok.told ≡ length c.in-Ok.told.items = search rules in
+    let ws = c.in-Ok-play.report.windows.items in
+    let told : c.in-Ok-play.told.items ≡ map window_told ws = c.in-Ok-play.ensures.told in
+    let many : length c.in-Ok-play.told.items ≡ length ws = ap length told ∙ length-map ws window_told in
+    let each : vec_len c.in-Ok-play.told ≡ length c.in-Ok-play.told.items = search rules in
     let len : c.len.result ≡ length ws = c.len.ensures ∙ each ∙ many in
-    let count : c.len-in-Ok.result ≡ length ws = c.len-in-Ok.ensures ∙ each ∙ many in
+    let count : c.len-in-Ok-play.result ≡ length ws = c.len-in-Ok-play.ensures ∙ each ∙ many in
     let copied : c.copy_from_slice.new.self ≡ map window_told ws = search rules in
-    let reported : IsReported c.in-Some-take.held.value c.in-Some.storm c.in-Ok.report = search rules in
-    let adds_up : AddsUp c.in-Some.storm c.in-Ok.report = search rules in
-    let totals : c.of.result ≡ totals_told c.in-Ok.report.totals = c.of.ensures in (
-      Ok c.in-Ok.report,
+    let totals : c.of-in-Ok-play.result ≡ totals_told c.in-Ok-play.report.totals = c.of-in-Ok-play.ensures in (
+      Ok c.in-Ok-play.report,
       (
         room,
-        record {
-          parameters = c.in-Some.storm;
-          are = search rules;
-          policy = c.in-Some-take.held.value;
-          holds = search rules;
-          reported = reported;
-          adds_up = adds_up;
-        },
+        (
+          (λ k. plan_at k c.in-Ok.plans),
+          ap plans_of c.in-Ok.is,
+          record {
+            parameters = c.in-Some.storm;
+            are = search rules;
+            reports = rw c.of.ensures at c.in-Ok-play.ensures.reports;
+            adds_up = λ all. c.in-Ok-play.ensures.sums (c.of.ensures ∙ ap of_given all);
+          },
+        ),
       ),
       (refl, rw (copied, len, count, totals) refl),
     )
 
-pub returns-in-Err-clause-played : goal.returns-in-Err-clause-played
-returns-in-Err-clause-played c =
+pub returns-in-Err-play : goal.returns-in-Err-play
+returns-in-Err-play c =
     let t : Told = record { windows = c.args.windows.now; count = c.args.count.now; totals = c.args.totals.now } in
-    let room : HasRoom c.args.storm.now t = search rules in
-    let held : c.args.policy.now.held ≡ Some c.in-Some-take.held.value = search rules in
-    rw (held, c.code-in-Err.ensures)
-    (refused c.args.storm.now t c.in-Some-take.held.value c.in-Err.status room (search rules))
+    let room : HasRoom c.args.given.now t = search rules in
+    rw c.code-in-Err-play.ensures
+    (short c.args.given.now t (plans_of c.args.plans) (λ k. plan_at k c.in-Ok.plans) room (ap plans_of c.in-Ok.is))

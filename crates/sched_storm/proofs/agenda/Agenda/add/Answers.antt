@@ -1,8 +1,5 @@
 -- A key that is put in is that of what is due of its request.
-use Rattle.std.proofs.Common.{◌≡◌, ℕ, ◌+◌, OnOk, Ok, Err, subst}
-use Rattle.sched_calendar.specs.Keys.{one_if}
-use Rattle.sched_calendar.specs.Calendar.{times}
-use Rattle.sched_storm.proofs.Keys.{put_turn, put_by}
+use Rattle.sched_storm.proofs.Keys.{put_by}
 use Rattle.sched_storm.proofs.agenda.Agenda.add.Goals as goal
 
 pub returns : goal.returns

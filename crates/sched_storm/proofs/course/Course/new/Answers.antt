@@ -1,7 +1,6 @@
 -- Before the first event nothing is due but that requests come.
-use Rattle.std.proofs.Common.{refl, rules, ◌≡◌, ℕ, sym, ◌∙◌, ap}
-use Rattle.sched_storm.specs.Parameters.{AreInRange, comes_at}
-use Rattle.sched_storm.proofs.Begins.{HasNothing, stands_at_first}
+use Rattle.std.proofs.Common.{refl, rules}
+use Rattle.sched_storm.proofs.Begins.{stands_at_first}
 use Rattle.sched_storm.proofs.course.Course.new.Goals as goal
 
 pub returns-clause-stands : goal.returns-clause-stands
@@ -16,9 +15,11 @@ returns-clause-stands c = stands_at_first _ (record {
   limit = search rules;
   slots = search rules;
   slots_len = search rules;
-  agenda = c.requires;
+  agenda = c.requires.nothing;
+  clients = c.requires.clients;
   told = search rules;
   window = search rules;
   from = search rules;
   said = search rules;
+  events = refl;
 })

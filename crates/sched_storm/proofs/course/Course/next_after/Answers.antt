@@ -1,6 +1,6 @@
 -- After an event its request is next at the same moment, and else what is least due.
-use Rattle.std.proofs.Common.{◌≡◌, Some, subst, sym}
-use Rattle.sched_storm.specs.Course.{keys_of, StandsFirst, StandsAfter}
+use Rattle.std.proofs.Common.{subst}
+use Rattle.sched_storm.specs.Course.{keys_of, StandsAfter}
 use Rattle.sched_storm.proofs.Taken.{may_put, put_in_agenda, not_in_agenda, in_turn}
 use Rattle.sched_storm.proofs.course.Course.next_after.Goals as goal
 

@@ -1,7 +1,7 @@
 -- Each kind of what is due is answered by its own method.
-use Rattle.std.proofs.Common.{◌≡◌, List, IfOk, OnOk, subst, sym, ap, ◌∙◌}
-use Rattle.sched_storm.specs.Plays.{Stage, begins, retries, succeeds, fails, playing}
-use Rattle.sched_storm.specs.Course.{shared_of, slot_of, Drives, HasAnswered, IsPlacedAt, IsDrivenAt, IsCounted}
+use Rattle.std.proofs.Common.{IfOk, OnOk, subst, sym, ◌∙◌}
+use Rattle.sched_storm.specs.Course.{client_of, answer_to, slot_of, Drives, HasAnswered, IsPlacedAt, IsDrivenAt}
+use Rattle.sched_storm.specs.Course.{IsCounted}
 use Rattle.sched_storm.proofs.OfKind.{of_begins, of_retries, of_succeeds, of_fails}
 use Rattle.sched_storm.proofs.course.Course.play.Goals as goal
 
@@ -11,10 +11,10 @@ begin-requires-clause-placed c =
 
 pub returns-in-Begins-clause-answered : goal.returns-in-Begins-clause-answered
 returns-in-Begins-clause-answered c = λ what kind.
-    of_begins (λ what. Drives c.args.self.now.plan (slot_of c.args.self.now c.args.turn.request) c.args.turn.at what →
-    IfOk c.begin.result (HasAnswered (playing c.args.self.now.storm c.args.self.now.plan
-    (shared_of c.args.self.now) c.args.turn.request
-    c.args.turn.at what) c.args.turn.at c.args.turn.request c.args.self.now c.begin.new.self))
+    of_begins (λ what. Drives (client_of c.args.self.now c.args.turn.request).plan
+    (slot_of c.args.self.now c.args.turn.request) c.args.turn.at what →
+    IfOk c.begin.result (HasAnswered (answer_to (client_of c.args.self.now c.args.turn.request) c.args.self.now
+    c.args.turn.request c.args.turn.at what) c.args.turn.at c.args.turn.request c.args.self.now c.begin.new.self))
     (λ _. c.begin.ensures.answered) what (kind ∙ c.in-Begins.is)
 
 pub returns-in-Begins-clause-counts : goal.returns-in-Begins-clause-counts
@@ -28,10 +28,10 @@ retry-requires-clause-placed c =
 
 pub returns-in-Retries-clause-answered : goal.returns-in-Retries-clause-answered
 returns-in-Retries-clause-answered c = λ what kind.
-    of_retries (λ what. Drives c.args.self.now.plan (slot_of c.args.self.now c.args.turn.request) c.args.turn.at what →
-    IfOk c.retry.result (HasAnswered (playing c.args.self.now.storm c.args.self.now.plan
-    (shared_of c.args.self.now) c.args.turn.request
-    c.args.turn.at what) c.args.turn.at c.args.turn.request c.args.self.now c.retry.new.self))
+    of_retries (λ what. Drives (client_of c.args.self.now c.args.turn.request).plan
+    (slot_of c.args.self.now c.args.turn.request) c.args.turn.at what →
+    IfOk c.retry.result (HasAnswered (answer_to (client_of c.args.self.now c.args.turn.request) c.args.self.now
+    c.args.turn.request c.args.turn.at what) c.args.turn.at c.args.turn.request c.args.self.now c.retry.new.self))
     c.retry.ensures.answered what (kind ∙ c.in-Retries.is)
 
 pub returns-in-Retries-clause-counts : goal.returns-in-Retries-clause-counts
@@ -45,10 +45,10 @@ win-requires-clause-placed c =
 
 pub returns-in-Succeeds-clause-answered : goal.returns-in-Succeeds-clause-answered
 returns-in-Succeeds-clause-answered c = λ what kind.
-    of_succeeds (λ what. Drives c.args.self.now.plan (slot_of c.args.self.now c.args.turn.request) c.args.turn.at what →
-    IfOk c.win.result (HasAnswered (playing c.args.self.now.storm c.args.self.now.plan
-    (shared_of c.args.self.now) c.args.turn.request
-    c.args.turn.at what) c.args.turn.at c.args.turn.request c.args.self.now c.win.new.self))
+    of_succeeds (λ what. Drives (client_of c.args.self.now c.args.turn.request).plan
+    (slot_of c.args.self.now c.args.turn.request) c.args.turn.at what →
+    IfOk c.win.result (HasAnswered (answer_to (client_of c.args.self.now c.args.turn.request) c.args.self.now
+    c.args.turn.request c.args.turn.at what) c.args.turn.at c.args.turn.request c.args.self.now c.win.new.self))
     (λ _. c.win.ensures.answered) what (kind ∙ c.in-Succeeds.is)
 
 pub returns-in-Succeeds-clause-counts : goal.returns-in-Succeeds-clause-counts
@@ -66,10 +66,11 @@ fail-requires-clause-may c =
 
 pub returns-in-Fails-clause-answered : goal.returns-in-Fails-clause-answered
 returns-in-Fails-clause-answered c = λ what kind.
-    of_fails (λ what. Drives c.args.self.now.plan (slot_of c.args.self.now c.args.turn.request) c.args.turn.at what →
-    IfOk c.fail.result (HasAnswered (playing c.args.self.now.storm c.args.self.now.plan
-    (shared_of c.args.self.now) c.args.turn.request
-    c.args.turn.at what) c.args.turn.at c.args.turn.request c.args.self.now c.fail.new.self)) c.in-Fails.failure
+    of_fails (λ what. Drives (client_of c.args.self.now c.args.turn.request).plan
+    (slot_of c.args.self.now c.args.turn.request) c.args.turn.at what →
+    IfOk c.fail.result (HasAnswered (answer_to (client_of c.args.self.now c.args.turn.request) c.args.self.now
+    c.args.turn.request c.args.turn.at what) c.args.turn.at c.args.turn.request c.args.self.now c.fail.new.self))
+    c.in-Fails.failure
     c.fail.ensures.answered what (kind ∙ c.in-Fails.is)
 
 pub returns-in-Fails-clause-counts : goal.returns-in-Fails-clause-counts

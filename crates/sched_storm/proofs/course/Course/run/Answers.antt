@@ -1,10 +1,11 @@
 -- Each turn that is taken out is played, until nothing is due or one call more would be too many.
-use Rattle.std.proofs.Common.{◌≡◌, ◌<◌, Some, None, IsTrue, subst, ap, ◌∙◌, arith}
+use Rattle.std.proofs.Common.{subst, ap, ◌∙◌, arith}
 use Rattle.sched_storm.specs.Parameters.{all_requests}
 use Rattle.sched_storm.specs.Course.{StandsFirst}
 use Rattle.sched_storm.proofs.Ready.{ready, is_cut, is_done, less_of, few_said}
 use Rattle.sched_storm.proofs.Taken.{none_if}
 use Rattle.sched_storm.specs.declared.parameters.Parameters.{Parameters}
+use Rattle.sched_storm.specs.declared.reporter.Reporter.{Reporter}
 use Rattle.sched_storm.proofs.course.Course.run.Goals as goal
 
 pub is_full-requires : goal.is_full-requires
@@ -37,8 +38,8 @@ returns-clause-over c =
 pub loop-next-smaller : goal.loop-next-smaller
 loop-next-smaller c =
     let few = few_said c.loop-next.self c.loop-next.next c.loop-next.invariant.stands.stands in
-    let one = c.in_ok-after.ensures.said in
-    let same = c.in_ok-next.ensures.said in
+    let one = c.in_ok-after.ensures.events in
+    let same = ap (λ (r : Reporter). r.events) c.in_ok-next.ensures.events in
     let storm = ap (λ (p : Parameters). p.calls) (c.in_ok-next.ensures.storm ∙ c.in_ok-after.ensures.storm) in
     let all = ap all_requests (c.in_ok-next.ensures.storm ∙ c.in_ok-after.ensures.storm) in
     omega arith

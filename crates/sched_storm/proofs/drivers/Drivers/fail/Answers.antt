@@ -1,5 +1,5 @@
 -- The driver that a request has then stands for the failure too.
-use Rattle.std.proofs.Common.{◌≡◌, ℕ, ◌<◌, List, Option, None, get_or, set, length, refl, sym, ◌∙◌, ap, subst, rules}
+use Rattle.std.proofs.Common.{◌≡◌, ◌<◌, None, length, sym, ◌∙◌, ap, subst, rules}
 use Rattle.sched_time.specs.Decision.{start_of}
 use Rattle.sched_plan.specs.Answer.{answer}
 use Rattle.sched_driver_stepper.specs.Standing.{Standing, StandsFor}

@@ -1,6 +1,5 @@
 -- The least moment at which so many units can have been done lies between the two.
-use Rattle.std.proofs.Common.{◌≡◌, ℕ, ◌+◌, ◌-◌, ◌<◌, ◌≤◌, ◌/◌, arith}
-use Rattle.sched_storm.specs.Calls.{can_be_done}
+use Rattle.std.proofs.Common.{ℕ, ◌+◌, ◌-◌, ◌/◌, arith}
 use Rattle.sched_storm.proofs.Peer.{done_rises}
 use Rattle.sched_storm.proofs.storm.Storm.done_at.Goals as goal
 

@@ -1,17 +1,20 @@
--- The course that is played is that of the storm and of the plan.
-use Rattle.std.proofs.Common.{◌≡◌, IfOk, subst, ◌∙◌}
-use Rattle.sched_storm.specs.Report.{AddsUp}
-use Rattle.sched_storm.specs.Storms.{Reports}
+-- Each population has the plan.
+use Rattle.std.proofs.Common.{◌≡◌, ℕ, zero, suc, None, IfOk, refl, subst, ap, ◌∙◌}
+use Rattle.sched_plan.specs.Schedule.{Schedule}
+use Rattle.sched_storm.specs.Clients.{plan_at}
+use Rattle.sched_storm.specs.Storms.{ReportsOn}
 use Rattle.sched_storm.proofs.storm.Storm.play.Goals as goal
+
+one_plan : (plan : Schedule) (k : ℕ) →
+    plan_at k (record { first = plan; second = plan; third = plan; fourth = plan }) ≡ plan
+one_plan plan zero = refl
+one_plan plan (suc zero) = refl
+one_plan plan (suc (suc zero)) = refl
+one_plan plan (suc (suc (suc k))) = refl
 
 pub returns-clause-reports : goal.returns-clause-reports
 returns-clause-reports c =
-    let storm = c.in_ok-is_cut.ensures.storm ∙ c.new-course.ensures.storm in
-    let plan = c.in_ok-is_cut.ensures.plan ∙ (c.new-course.ensures.plan ∙ c.in_ok-plan.ensures) in
-    subst (λ p. IfOk c.into_report.result (Reports p c.args.plan)) storm
-    (subst (λ s. IfOk c.into_report.result (Reports c.run.new.self.storm s)) plan c.into_report.ensures.reports)
-
-pub returns-clause-adds_up : goal.returns-clause-adds_up
-returns-clause-adds_up c =
-    let storm = c.in_ok-is_cut.ensures.storm ∙ c.new-course.ensures.storm in
-    subst (λ p. IfOk c.into_report.result (AddsUp p)) storm c.into_report.ensures.adds_up
+    let are : (λ k. plan_at k c.in_ok-plans.plans) ≡ (λ k. c.args.plan) =
+    λ i. λ k. (ap (plan_at k) c.in_ok-plans.ensures ∙ one_plan c.args.plan k) i in
+    subst (λ ps. IfOk c.play_populations.result (ReportsOn c.args.self.now ps None)) are
+    c.play_populations.ensures.reports
