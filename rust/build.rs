@@ -1,9 +1,9 @@
 //! Links the engine, `libhikebox.a`: from the folder that `HIKEBOX_LIB_DIR` names, or else the one of the target in
-//! `lib/`. And tells the crate whether this compiler has `IntoFuture` (1.64 and
-//! later) and async closures (1.85 and later).
+//! `lib/`. And tells the crate whether this compiler has `IntoFuture` (1.64 and later) and async closures (1.85 and
+//! later), and whether the pages of the repository are there, whose programs are tested.
 
 use std::env;
-use std::path::PathBuf;
+use std::path::{Path, PathBuf};
 use std::process::{exit, Command};
 
 /// The processors that `lib/` has an engine for.
@@ -11,7 +11,9 @@ const PROCESSORS: [&str; 2] = ["x86_64", "aarch64"];
 
 fn main() {
     println!("cargo:rerun-if-env-changed=HIKEBOX_LIB_DIR");
-    let folder = env::var_os("HIKEBOX_LIB_DIR").map_or_else(folder_of_target, PathBuf::from);
+    let named = env::var_os("HIKEBOX_LIB_DIR").map(PathBuf::from);
+    // (a relative folder is one in the crate's, as the message says then)
+    let folder = env::current_dir().unwrap_or_default().join(named.unwrap_or_else(folder_of_target));
     let library = folder.join("libhikebox.a");
     if !library.is_file() {
         refuse(&format!("the engine is missing: no {}", library.display()));
@@ -22,13 +24,16 @@ fn main() {
 
     let minor = compiler_minor().unwrap_or(0);
     if minor >= 80 {
-        println!("cargo:rustc-check-cfg=cfg(hikebox_async_closures, hikebox_into_future)");
+        println!("cargo:rustc-check-cfg=cfg(hikebox_async_closures, hikebox_into_future, hikebox_pages)");
     }
     if minor >= 64 {
         println!("cargo:rustc-cfg=hikebox_into_future");
     }
     if minor >= 85 {
         println!("cargo:rustc-cfg=hikebox_async_closures");
+    }
+    if Path::new("src/../../docs/RUST.md").is_file() {
+        println!("cargo:rustc-cfg=hikebox_pages");
     }
 }
 

@@ -7,7 +7,7 @@ use std::time::{Duration, Instant};
 
 const NANOS_A_SECOND: u64 = 1_000_000_000;
 /// Some 270 years: so many seconds are less than 2^63 nanoseconds.
-const MOST_SECONDS: u64 = 1 << 33;
+const MAX_SECONDS: u64 = 1 << 33;
 
 /// The nanoseconds from one instant to another, or none where that is earlier; `None` where they are centuries apart, or
 /// this standard library does not tell the parts of an instant.
@@ -23,7 +23,7 @@ pub(crate) fn nanos_between(earlier: Instant, later: Instant) -> Option<u64> {
 #[inline]
 fn between(earlier: Parts, later: Parts) -> Option<u64> {
     let seconds = later.seconds.wrapping_sub(earlier.seconds) as u64;
-    if seconds > MOST_SECONDS || earlier.told != 2 || later.told != 2 {
+    if seconds > MAX_SECONDS || earlier.told != 2 || later.told != 2 {
         return None;
     }
     Some((seconds * NANOS_A_SECOND + later.nanos).saturating_sub(earlier.nanos))

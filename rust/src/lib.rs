@@ -30,8 +30,8 @@
 //!   folder. A store of your own implements [`Tickets`].
 //! - With the feature `serde`, a configuration can contain a policy and a quota.
 //! - [`Machine`] is a retry that you step yourself, by a clock of your own.
-//! - [`Storm`] shows what a policy does to a peer that fails for a while, when thousands of calls fail together; a
-//!   [`Sweep`] plays storms along a parameter.
+//! - [`Storm`] shows what a policy does to a peer that fails for a while, when thousands of calls fail together, also
+//!   beside another [`Population`] of clients; a [`Sweep`] plays storms along a parameter.
 //!
 //! The engine is proved to do what its definitions say; this crate, which calls it, is tested. The guide is
 //! `docs/RUST.md` of the repository.
@@ -65,14 +65,15 @@ mod pages {
     #[doc = include_str!("../README.md")]
     struct Readme;
 
-    #[cfg(all(feature = "tokio", feature = "leased", hikebox_async_closures))]
+    #[cfg(all(hikebox_pages, feature = "tokio", feature = "leased", hikebox_async_closures))]
     #[doc = include_str!("../../docs/RUST.md")]
     struct Guide;
 
-    #[cfg(feature = "tower")]
+    #[cfg(all(hikebox_pages, feature = "tower"))]
     #[doc = include_str!("../../docs/FROM-TOWER.md")]
     struct FromTower;
 
+    #[cfg(hikebox_pages)]
     #[doc = include_str!("../../docs/FROM-BACKOFF.md")]
     struct FromBackoff;
 
@@ -107,6 +108,16 @@ mod pages {
     ///         NotAPolicy | OutOfRange | TooMany | TooDeep | NoMemory => true,
     ///     }
     /// }
+    /// ```
+    ///
+    /// What only this crate makes can't be made elsewhere:
+    ///
+    /// ```compile_fail,E0639
+    /// hikebox::Usage { window: 0, asked: 0, given: 0, left: 0, next: Default::default() };
+    /// ```
+    ///
+    /// ```compile_fail,E0639
+    /// hikebox::Line { moment: 0, output: String::new(), next: None };
     /// ```
     struct Grows;
 

@@ -7,8 +7,7 @@ use serde::ser::{Error as _, Serialize, Serializer};
 use serde_json::{Map, Value};
 use std::time::Duration;
 
-/// A policy is written as the tree that its JSON spells, in whatever format: a configuration in TOML or YAML can
-/// contain it.
+/// A policy is written as the tree that its JSON spells: a configuration in JSON, TOML or YAML can contain it.
 impl Serialize for Policy {
     fn serialize<S: Serializer>(&self, serializer: S) -> Result<S::Ok, S::Error> {
         let tree: Value = serde_json::from_str(self.as_json()).map_err(S::Error::custom)?;
@@ -16,8 +15,8 @@ impl Serialize for Policy {
     }
 }
 
-/// A policy is read from the tree that its JSON spells. A tree that is not a policy is rejected with its first error,
-/// where that is, and a hint.
+/// A policy is read from the tree that its JSON spells, in a format that describes itself. A tree that is not a policy
+/// is rejected with its first error, where that is, and a hint.
 impl<'de> Deserialize<'de> for Policy {
     fn deserialize<D: Deserializer<'de>>(deserializer: D) -> Result<Self, D::Error> {
         Self::from_json(&Value::deserialize(deserializer)?.to_string()).map_err(D::Error::custom)

@@ -118,6 +118,20 @@ fn an_error_that_asks_for_more_than_is_left_ends_it() {
 }
 
 #[test]
+fn an_error_that_asks_for_a_part_of_a_millisecond_more_is_not_waited_for() {
+    let (policy, budget, waits) = (policy(r#"{"recurs":9}"#), Budget::new(9).unwrap(), Cell::new(0));
+    let ended = Retrying::new(&policy, &budget)
+        .deadline(micros(50_900))
+        .sleep(|_| waits.set(waits.get() + 1))
+        .notify(|_: &u64, _| waits.set(waits.get() + 1))
+        .retry_after(|asked| Some(micros(*asked)))
+        .call(|| Err::<(), _>(50_500));
+    // it is of 50 whole milliseconds
+    assert_eq!((ended, waits.get()), (Err(RetryError::Deadline(50_500)), 0));
+    assert_eq!(budget.close().unwrap(), 0);
+}
+
+#[test]
 fn a_retry_on_a_quota_ends_by_it_in_the_quotas_windows() {
     let now = Cell::new(Instant::now());
     let began = now.get() - Duration::from_millis(3_600_250);

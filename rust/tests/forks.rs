@@ -1,7 +1,7 @@
 //! Forked children: random words, budgets and quotas of their own, and no lock that another thread held at the fork.
 #![cfg(feature = "leased")]
 
-use hikebox::{retry, Budget, Pass, Policy, Quota, QuotaPass, RetryError, Retrying};
+use hikebox::{both, retry, Breaker, Bucket, Budget, CallLimit, Pass, Policy, Quota, QuotaPass, RetryError, Retrying};
 use std::cell::RefCell;
 use std::io::{Read, Write};
 use std::os::unix::net::UnixStream;
@@ -137,6 +137,51 @@ fn a_retry_under_way_goes_on_in_the_child_and_in_the_parent() {
     unsafe { libc::waitpid(child.unwrap(), &mut status, 0) };
     assert_eq!((status, counted), (0, (true, 5, 4)));
     assert_eq!(budget.close().ok(), Some(4));
+}
+
+/// As above, of calls that a limit admitted: the child goes on by a limit of its own, of which nothing was drawn.
+#[test]
+fn an_admitted_call_goes_on_in_the_child_and_in_the_parent() {
+    let policy: Policy = r#"{"recurs":4}"#.parse().unwrap();
+    let bucket = || CallLimit::new(Bucket { capacity: 6.0, cost: 2.0, ..Bucket::default() }).unwrap();
+    let breaker = || CallLimit::new(Breaker::consecutive(4, r#"{"spaced":30000}"#.parse().unwrap())).unwrap();
+    for limit in [bucket(), breaker(), both(&bucket(), &breaker()).unwrap()] {
+        let (mut runs, mut child) = (0, None);
+        let ended = retry(&policy, &limit, || {
+            runs += 1;
+            if runs == 2 {
+                // SAFETY: the child goes on with the retry, and ends below.
+                child = Some(unsafe { libc::fork() });
+            }
+            Err::<(), _>("busy")
+        });
+        let told = (runs, ended == Err(RetryError::ScheduleDone("busy")));
+        if child == Some(0) {
+            // SAFETY: the child ends here.
+            unsafe { libc::_exit(i32::from(told != (5, true))) }
+        }
+        let mut status = 1;
+        // SAFETY: it is a child of this process that was not waited for.
+        unsafe { libc::waitpid(child.unwrap(), &mut status, 0) };
+        assert_eq!((status, told), (0, (4, false)));
+    }
+}
+
+/// One that no limit admitted asks in the child as it does in the parent.
+#[test]
+fn a_request_begins_anew_in_a_child() {
+    let limit = CallLimit::new(Bucket { capacity: 1.0, cost: 1.0, ..Bucket::default() }).unwrap();
+    let mut request = limit.request().unwrap();
+    let child = in_child(|| format!("{} {}", request.draw().is_ok(), request.admit().is_ok()));
+    assert_eq!(child, "false true");
+    request.admit().unwrap();
+    request.failed();
+    request.draw().unwrap();
+    let child = in_child(|| {
+        request.failed();
+        format!("{} {}", request.draw().is_ok(), request.draw().is_ok())
+    });
+    assert_eq!(child, "true false");
 }
 
 #[test]

@@ -2,8 +2,8 @@
 #![cfg(all(feature = "tokio", feature = "tower"))]
 
 use hikebox::{
-    retry_async, BlockingRetryable, Budget, Policy, Quota, RetryError, RetryPolicy, Retryable, Retrying, Unlimited,
-    Usage,
+    retry_async, BlockingRetryable, Budget, LimitLayer, Policy, Quota, RetryError, RetryPolicy, Retryable, Retrying,
+    Unlimited, Usage,
 };
 use std::cell::RefCell;
 use std::future::{ready, Future};
@@ -14,7 +14,7 @@ use std::sync::Arc;
 use std::task::{Context, Poll, Wake, Waker};
 use std::time::Duration;
 use tokio::time::{timeout, Instant};
-use tower::{retry::RetryLayer, service_fn, Service, ServiceBuilder, ServiceExt};
+use tower::{retry::RetryLayer, service_fn, BoxError, Layer, Service, ServiceBuilder, ServiceExt};
 
 fn policy(json: &str) -> Policy {
     json.parse().unwrap()
@@ -279,4 +279,40 @@ async fn a_request_that_can_not_be_copied_is_made_once() {
     let service = service_fn(|_: Once| ready(Err::<(), _>(calls.fetch_add(1, Ordering::SeqCst) + 1)));
     let mut service = ServiceBuilder::new().layer(RetryLayer::new(by)).service(service);
     assert_eq!(service.ready().await.unwrap().call(Once(1)).await, Err(1));
+}
+
+// Tower's layer does not ask its policy how such a request ended; the layer of this crate hears of it.
+#[tokio::test(start_paused = true)]
+async fn the_success_of_a_request_without_a_copy_counts_in_a_limit_layer_alone() {
+    let quota = Quota::new(0, 0.5, Duration::from_secs(60)).unwrap().counting_successes();
+    let by = RetryPolicy::copying(policy(r#"{"recurs":9}"#), quota.clone(), |_: &Once| None);
+    let wins = service_fn(|_: Once| ready(Ok::<_, BoxError>(5)));
+    let mut service = ServiceBuilder::new().layer(RetryLayer::new(by.clone())).service(wins);
+    assert_eq!(service.ready().await.unwrap().call(Once(1)).await.unwrap(), 5);
+    assert_eq!(quota.seen().asked, 0);
+    let mut service = ServiceBuilder::new().layer(LimitLayer::new(by)).service(wins);
+    assert_eq!(service.ready().await.unwrap().call(Once(1)).await.unwrap(), 5);
+    assert_eq!(quota.seen().asked, 1);
+}
+
+/// A call whose types have lifetimes, of which the compiler shows little in an async block: docs/FROM-TOWER.md has the
+/// ways that are tried here.
+async fn fails_by_a_box(_: u32) -> Result<&'static str, BoxError> {
+    Err("busy".into())
+}
+
+#[tokio::test(start_paused = true)]
+async fn a_call_of_a_layer_is_spawned() {
+    let budget = Budget::new(100).unwrap();
+    let retries = RetryPolicy::new(policy(r#"{"meet":[{"recurs":3},{"spaced":100}]}"#), budget.clone());
+    let mut layered = RetryLayer::new(retries.clone()).layer(service_fn(fails_by_a_box));
+    let call = layered.ready().await.unwrap().call(7);
+    assert_eq!(tokio::spawn(call).await.unwrap().unwrap_err().to_string(), "busy");
+    let mut boxed = layered.boxed_clone();
+    let task = tokio::spawn(async move { boxed.ready().await?.call(7).await });
+    assert_eq!(task.await.unwrap().unwrap_err().to_string(), "busy");
+    let mut limited = LimitLayer::new(retries).layer(service_fn(fails_by_a_box));
+    let task = tokio::spawn(async move { limited.ready().await?.call(7).await });
+    assert_eq!(task.await.unwrap().unwrap_err().to_string(), "busy");
+    assert_eq!(budget.granted(), 9);
 }

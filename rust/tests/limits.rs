@@ -2,7 +2,7 @@
 
 use hikebox::RefusalReason::{BreakerOpen, LevelLow, OutOfTurn, Probing, RetriesFull, Throttled};
 use hikebox::{
-    both, retry, Breaker, Bucket, BudgetError, CallLimit, InFlight, Policy, RefusalReason, Request, RetryError,
+    both, retry, Breaker, Bucket, BudgetError, CallLimit, InFlight, Policy, RefusalReason, Request, RetryError, Terms,
     Throttle,
 };
 use std::sync::atomic::{AtomicU64, Ordering};
@@ -156,7 +156,30 @@ fn four_or_none() {
         assert_eq!(refused(&mut admitted(each)), None);
     }
     assert_eq!(limit.request().unwrap().admit().unwrap_err().reason(), BreakerOpen);
-    assert_eq!(both(&limit, &flights).unwrap_err(), BudgetError::OutOfRange);
+    assert_eq!(both(&limit, &flights).unwrap_err(), BudgetError::TooManyLimits);
+}
+
+// The engine draws of all at one cost. gRPC's costs nothing, so each retry would take five of its tokens.
+#[test]
+fn several_buckets_have_one_cost() {
+    let limit = |bucket: Bucket| CallLimit::new(bucket).unwrap();
+    let (grpc, aws, flights) = (limit(Bucket::grpc(10, 0.1)), limit(Bucket::aws()), InFlight::envoy(20.0, 3));
+    assert_eq!(both(&grpc, &aws).unwrap_err(), BudgetError::CostsDiffer);
+    let joined = both(&CallLimit::new(flights).unwrap(), &aws).unwrap();
+    assert_eq!(both(&joined, &grpc).unwrap_err(), BudgetError::CostsDiffer);
+    assert!(both(&joined, &limit(Bucket::aws())).is_ok());
+}
+
+// gRPC's proposal A6: "Decimal places beyond 3 are ignored. (eg. .5466 is treated as .546.)"
+#[test]
+fn the_ratio_of_grpc_has_three_decimals() {
+    for (ratio, credit) in [(0.5466, 0.546), (0.546, 0.546), (0.57, 0.57), (0.1, 0.1), (0.0019, 0.001), (1.0, 1.0)] {
+        assert_eq!(Bucket::grpc(10, ratio).credit, credit);
+    }
+    for ratio in [-0.5, 0.0001, 11.0, f64::NAN, f64::INFINITY] {
+        let error = CallLimit::new(Bucket::grpc(10, ratio)).unwrap_err();
+        assert!(matches!(error, BudgetError::OutOfRange { parameter: "credit", .. }), "{ratio}: {error}");
+    }
 }
 
 #[test]
@@ -258,17 +281,54 @@ fn calls_out_of_turn() {
     assert_eq!(request.admit().unwrap_err().reason(), OutOfTurn);
 }
 
+/// A limit is refused with this error: which number is out of range, and what it may be.
+fn is_refused(terms: impl Into<Terms>, error: &str) {
+    assert_eq!(CallLimit::new(terms).unwrap_err().to_string(), format!("{error}, got another"));
+}
+
 #[test]
 fn terms_out_of_range() {
-    let out = |terms: Result<CallLimit, BudgetError>| assert_eq!(terms.unwrap_err(), BudgetError::OutOfRange);
-    out(CallLimit::new(Bucket { capacity: 1.0, floor: 2.0, ..Bucket::default() }));
-    out(CallLimit::new(Bucket { capacity: -1.0, ..Bucket::default() }));
-    out(CallLimit::new(Bucket { cost: f64::NAN, ..Bucket::aws() }));
-    out(CallLimit::new(Bucket::grpc(1, 1.5)));
-    out(CallLimit::new(InFlight { least: 0, share: 1.5 }));
-    out(CallLimit::new(Breaker::consecutive(0, policy("\"forever\""))));
-    out(CallLimit::new(Breaker::consecutive(1, policy(r#"{"recurs":0}"#))));
-    out(CallLimit::new(Breaker { probes: 16, ..Breaker::consecutive(1, policy("\"forever\"")) }));
-    out(CallLimit::new(Throttle { ratio: 0.9, ..Throttle::google() }));
-    out(CallLimit::new(Throttle { period: Duration::ZERO, ..Throttle::google() }));
+    let capacity = "capacity: expected 0, or from 0.001 to 1099511627.776 tokens";
+    let of_capacity = |name: &str| format!("{name}: expected 0, or from 0.001 to the capacity");
+    is_refused(Bucket { capacity: 1.0, floor: 2.0, ..Bucket::default() }, &of_capacity("floor"));
+    is_refused(Bucket { capacity: -1.0, ..Bucket::default() }, capacity);
+    is_refused(Bucket { capacity: 1_099_511_627.777, ..Bucket::default() }, capacity);
+    is_refused(Bucket { cost: f64::NAN, ..Bucket::aws() }, &of_capacity("cost"));
+    is_refused(Bucket { debit: 500.001, ..Bucket::aws() }, &of_capacity("debit"));
+    is_refused(Bucket::grpc(1, 1.5), &of_capacity("credit"));
+    is_refused(Bucket { capacity: 4.0, ..Bucket::aws() }, &of_capacity("cost")); // a retry takes five tokens
+    is_refused(InFlight { least: 0, share: 1.5 }, "share: expected 0, or from 0.001 to 1");
+    is_refused(InFlight { least: 0, share: 1.0001 }, "share: expected 0, or from 0.001 to 1");
+    is_refused(Breaker::consecutive(0, policy("\"forever\"")), "failures: expected 1 to 4294967295");
+    let never = policy(r#"{"recurs":0}"#);
+    is_refused(Breaker::consecutive(1, never), "open_for: expected a policy that goes on at least once");
+    for probes in [0, 16] {
+        let breaker = Breaker { probes, ..Breaker::consecutive(1, policy("\"forever\"")) };
+        is_refused(breaker, "probes: expected 1 to 15");
+    }
+    is_refused(Throttle { ratio: 0.9, ..Throttle::google() }, "ratio: expected 1 to 4294967.295");
+    is_refused(Throttle { ratio: 4_294_967.296, ..Throttle::google() }, "ratio: expected 1 to 4294967.295");
+    let still = Throttle { period: Duration::from_micros(999), ..Throttle::google() };
+    is_refused(still, "period: expected at least a millisecond");
+    assert!(CallLimit::new(Bucket { capacity: 1_099_511_627.776, ..Bucket::default() }).is_ok());
+    assert!(CallLimit::new(Throttle { ratio: 4_294_967.295, period: Duration::MAX }).is_ok());
+    let breaker = Breaker { probes: 15, ..Breaker::consecutive(u32::MAX, policy("\"forever\"")) };
+    assert!(CallLimit::new(Breaker { probe_deadline: Duration::MAX, ..breaker }).is_ok());
+}
+
+// It would be 0 in thousandths: a bucket that is never filled again, or retries that take nothing.
+#[test]
+fn terms_between_zero_and_a_thousandth() {
+    let out = |terms: Terms| {
+        assert!(matches!(CallLimit::new(terms).unwrap_err(), BudgetError::OutOfRange { .. }));
+    };
+    out(Bucket::grpc(10, 0.0004).into());
+    out(Bucket { cost: 0.0004, ..Bucket::aws() }.into());
+    out(Bucket { debit: 0.0004, ..Bucket::aws() }.into());
+    out(InFlight { least: 0, share: 0.0004 }.into());
+    out(InFlight::envoy(0.04, 3).into());
+    for terms in [Bucket::grpc(10, 0.001), Bucket::grpc(10, 0.0), Bucket { cost: 0.001, ..Bucket::aws() }] {
+        assert!(CallLimit::new(terms).is_ok());
+    }
+    assert!(CallLimit::new(InFlight { least: 0, share: 0.001 }).is_ok());
 }

@@ -253,6 +253,16 @@ fn a_fault_of_a_schedule_is_told_in_the_words_of_the_call() {
 }
 
 #[test]
+fn a_schedule_is_too_deep_however_deep_its_text_is() {
+    for depth in [33, 50, 3000] {
+        let schedule = (1..depth).fold(Schedule::forever(), |under, _| under & Schedule::recurs(1));
+        let error = Policy::new(&schedule).unwrap_err();
+        assert_eq!(error.fault(), PolicyFault::TooDeep, "{error}");
+        assert!(error.hint().starts_with("expected a "), "{error}");
+    }
+}
+
+#[test]
 fn delays_that_are_picked_by_the_one_before_and_end_in_time() {
     let [base, end, longest] = [100, 1000, 10_000].map(Duration::from_millis);
     let delays = Schedule::decorrelated(base, 3, longest);
@@ -297,6 +307,10 @@ fn the_waits_of_a_policy_come_one_after_another() {
     assert_eq!(waits(r#"{"recurs":0}"#, 9), [0; 0]);
     assert_eq!(waits(r#"{"ends_by":[25,{"spaced":10}]}"#, 9), [10, 10]);
     assert_eq!(waits("\"forever\"", 5000), [0; 5000]);
+    // they end with the engine's last moment, since no wait can be told from it on
+    let ended = waits(r#"{"exponential":[100,10]}"#, 99);
+    assert_eq!((ended.len(), ended[16], ended.iter().sum::<u128>()), (18, 10_u128.pow(18), (1 << 62) - 1));
+    assert_eq!(waits(r#"{"spaced":4611686018427387903}"#, 99), [(1 << 62) - 1]);
     let policy: Policy = r#"{"recurs":1}"#.parse().unwrap();
     let mut waits = policy.waits();
     assert_eq!([waits.next(), waits.next(), waits.next()], [Some(Duration::ZERO), None, None]);

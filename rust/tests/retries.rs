@@ -309,7 +309,7 @@ fn the_last_error_is_kept() {
     let budget = Budget::new(0).unwrap();
     let away = || Err::<(), _>(io::Error::new(io::ErrorKind::Other, "away"));
     let error = retry(&policy(r#"{"recurs":5}"#), &budget, away).unwrap_err();
-    assert_eq!(error.to_string(), "away (the retry budget had no ticket)");
+    assert_eq!(error.to_string(), "away (the budget refused a retry)");
     assert!(error.source().is_none());
     assert_eq!(error.into_last().kind(), io::ErrorKind::Other);
 }

@@ -161,6 +161,7 @@ fn each_program_plays_its_storm() {
     storm_1::main().unwrap();
     storm_2::main().unwrap();
     storm_3::main().unwrap();
+    storm_4::main().unwrap();
 }
 
 mod storm_0 {
@@ -236,6 +237,28 @@ mod storm_3 {
             .rates([(Duration::from_millis(10)..Duration::from_millis(20), 900), (Duration::from_millis(100)..Duration::from_millis(1500), 0)])
             .slow(Duration::from_millis(1)..Duration::from_millis(2), 29)
             .seed(7)
+            .play()?;
+        println!("{report}");
+        Ok(())
+    }
+}
+
+mod storm_4 {
+    use hikebox::{Fold, Policy, Population, Schedule, Storm};
+    use std::time::Duration;
+
+    pub fn main() -> Result<(), Box<dyn std::error::Error>> {
+        let schedule = Schedule::recurs(8) & Schedule::exponential(Duration::from_millis(100), 2).cap(Duration::from_secs(10)).jittered(0.0..1.0);
+        let policy = Policy::new(&schedule)?;
+        let third = Policy::new(&Schedule::spaced(Duration::from_secs(1)).gather(Fold::Max))?;
+        let fourth = Policy::new(&Schedule::recurs(2))?;
+        let report = Storm::new(&policy)
+            .seconds(1)
+            .outage(Duration::from_millis(0)..Duration::from_millis(500))
+            .budget(20)
+            .beside(Population::new(30, &policy))
+            .beside(Population::new(9, &third).patience(Duration::from_secs(2)).limited(true))
+            .beside(Population::new(20, &fourth).limited(true))
             .play()?;
         println!("{report}");
         Ok(())

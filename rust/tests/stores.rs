@@ -5,9 +5,10 @@
 #[macro_use]
 mod common;
 
-use common::{keeper_of, number, Scratch};
-use hikebox::{BudgetError, Leased, LeasedQuota, NoTicket, StoreError, Ticket, Usage};
+use common::{counts, keeper_of, number, Scratch};
+use hikebox::{BudgetError, Leased, LeasedQuota, NoTicket, StoreError, Ticket};
 use std::env;
+use std::error::Error;
 use std::fs;
 use std::io::{BufRead, BufReader};
 use std::os::unix::fs::symlink;
@@ -80,12 +81,12 @@ fn budget(folder: impl AsRef<Path>, limit: u64) -> Leased {
     Leased::new(folder, "b", limit).unwrap().lease(1).again_after(Duration::ZERO)
 }
 
-/// A quota with a window that no test sees the end of.
+/// A window that no test sees the end of.
+const LONG: Duration = Duration::from_secs(1_000_000);
+
+/// A quota with such a window.
 fn long_quota(folder: impl AsRef<Path>, reserve: u64, share: f64) -> LeasedQuota {
-    LeasedQuota::new(folder, "q", reserve, share, Duration::from_secs(1_000_000))
-        .unwrap()
-        .lease(1)
-        .again_after(Duration::ZERO)
+    LeasedQuota::new(folder, "q", reserve, share, LONG).unwrap().lease(1).again_after(Duration::ZERO)
 }
 
 const LONG_QUOTA: &str = "quota of 1000000000 ms of q";
@@ -154,7 +155,7 @@ fn a_slot_of_another_window_counts_as_it_should() {
     let put = |boot: &str, window| folder.put(LONG_QUOTA, &copy(LONG_QUOTA, boot, [3, window, 7, 20]).repeat(2));
     put(&boot(), window);
     let next = Duration::from_secs((window + 1) * 1_000_000);
-    assert_eq!(long_quota(&folder.0, 5, 0.2).seen().unwrap(), Usage { window, asked: 20, given: 7, left: 2, next });
+    assert_eq!(counts(long_quota(&folder.0, 5, 0.2).seen().unwrap()), (window, 20, 7, 2, next));
     assert_eq!(number(long_quota(&folder.0, 5, 0.2).draw()), Some(7));
     // one of another start of the machine
     put("00000000-0000-0000-0000-000000000000", window + 1);
@@ -176,6 +177,18 @@ fn a_window_that_is_over_counts_for_nothing() {
     };
     // (a window may end just then)
     assert!((0..5).any(|_| drew_at_once() == (Some(0), true)));
+}
+
+#[test]
+fn a_turn_that_is_the_last_one_grants_nothing() {
+    let (folder, key) = (Scratch::new("turns"), "budget b");
+    let of_turn = |turn| copy(key, "", [turn, 0, 1, 0]).repeat(2);
+    folder.put(key, &of_turn(u64::MAX));
+    assert_store_fails!(budget(&folder.0, 9).draw(), StoreError::Damaged(path) if *path == folder.slot(key));
+    assert_eq!(fs::read(folder.slot(key)).unwrap(), of_turn(u64::MAX));
+    folder.put(key, &of_turn(u64::MAX - 1));
+    assert_eq!(number(budget(&folder.0, 9).draw()), Some(1));
+    assert_store_fails!(budget(&folder.0, 9).draw(), StoreError::Damaged(_));
 }
 
 /// Each attack on a file grants nothing, tells the file, leaves it as it is, and harms no other name.
@@ -200,8 +213,11 @@ fn a_file_that_is_no_slot_of_the_name_grants_nothing() {
     fs::create_dir(folder.slot(key)).unwrap();
     assert_store_fails!(budget(&folder.0, 9).draw(), StoreError::Io(_));
     fs::remove_dir(folder.slot(key)).unwrap();
-    symlink("/dev/zero", folder.slot(key)).unwrap();
-    assert_store_fails!(budget(&folder.0, 9).draw(), StoreError::Damaged(_));
+    for other in ["/dev/zero", "/no such file"] {
+        symlink(other, folder.slot(key)).unwrap();
+        assert_store_fails!(budget(&folder.0, 9).draw(), StoreError::Damaged(_));
+        fs::remove_file(folder.slot(key)).unwrap();
+    }
     let quota_key = LONG_QUOTA;
     folder.put(quota_key, &copy(key, "", [3, 0, 1, 0]).repeat(2));
     assert!(matches!(long_quota(&folder.0, 9, 1.0).seen(), Err(StoreError::Damaged(_))));
@@ -223,7 +239,13 @@ fn a_file_of_the_old_form_is_refused_with_what_to_do() {
 #[test]
 fn a_place_where_no_folder_can_be_grants_nothing() {
     assert_store_fails!(budget("/proc/no/folder", 10).draw(), StoreError::Io(_));
-    assert!(matches!(long_quota("/proc/no/folder", 9, 1.0).seen(), Err(StoreError::Io(_))));
+    let error = long_quota("/proc/no/folder", 9, 1.0).seen().unwrap_err();
+    assert!(matches!(error, StoreError::Io(_)));
+    // its cause is in its text, so those who print an error with its sources tell that once
+    assert!(error.to_string().contains("No such file or directory") && error.source().is_none());
+    assert_store_fails!(budget("", 10).draw(), StoreError::Io(_));
+    let empty = long_quota("", 9, 1.0).seen().unwrap_err().to_string();
+    assert_eq!(empty, "the slot of counts: expected the path of a folder, got an empty one");
 }
 
 #[test]
@@ -252,6 +274,44 @@ fn a_folder_that_was_removed_is_made_again() {
     assert_eq!(number(budget.draw()), Some(1));
     assert_eq!([number(budget.draw()), number(budget.draw())], [Some(0), Some(1)]);
     assert_eq!(number(budget.draw()), Some(2));
+}
+
+#[test]
+fn a_process_that_changes_its_directory_keeps_the_folder() {
+    let folder = Scratch::new("relative");
+    fs::create_dir(&folder.0).unwrap();
+    let output = child("process_that_changes_its_directory", &folder.0).current_dir(&folder.0).output().unwrap();
+    assert_eq!(said(&output, "drawn "), ["Some(0)", "Some(1)", "Some(2)", "None"]);
+    assert!(folder.0.join("counts").is_dir());
+}
+
+/// A process that draws on a folder beside it, and changes its directory after the first ticket.
+#[test]
+#[ignore = "run by a_process_that_changes_its_directory_keeps_the_folder"]
+fn process_that_changes_its_directory() {
+    if given_folder().is_some() {
+        let budget = budget("counts", 3);
+        for _ in 0..4 {
+            println!("drawn {:?}", number(budget.draw()));
+            env::set_current_dir("/").unwrap();
+        }
+    }
+}
+
+#[test]
+fn a_folder_that_is_removed_again_and_again_stops_no_lease() {
+    let (folder, is_over) = (Scratch::new("removing"), AtomicBool::new(false));
+    thread::scope(|scope| {
+        scope.spawn(|| {
+            while !is_over.load(Ordering::Relaxed) {
+                let _ = fs::remove_dir_all(&folder.0);
+            }
+        });
+        let draw = |number| Leased::new(&folder.0, format!("b{number}"), 9).unwrap().in_each(LONG).draw();
+        let failed = (0..500).find_map(|number| draw(number).err());
+        is_over.store(true, Ordering::Relaxed);
+        assert!(failed.is_none(), "{failed:?}");
+    });
 }
 
 #[test]

@@ -1,8 +1,10 @@
 //! Storms: that they are those of `zsched storm`, their numbers, and what is refused.
 
 use hikebox::{Breaker, Bucket, InFlight, Terms, Throttle};
-use hikebox::{BudgetError, Policy, Schedule, Storm, StormError, StormReport};
+use hikebox::{BudgetError, Policy, Population, PopulationReport, Schedule, Storm, StormError, StormReport};
+use std::error::Error;
 use std::io::Write;
+use std::path::Path;
 use std::process::{Command, Stdio};
 use std::time::Duration;
 
@@ -30,10 +32,22 @@ fn full() -> Policy {
 
 /// What the program prints that the engine's crates build: the one that `HIKEBOX_ZSCHED` names, or that of `dist/`.
 fn zsched(form: &str, options: &str, policy: &Policy) -> String {
+    zsched_beside(form, options, policy, &[])
+}
+
+/// The same with populations beside the first one: the words of `--beside` before the file, and the policy.
+fn zsched_beside(form: &str, options: &str, policy: &Policy, others: &[(&str, &Policy)]) -> String {
+    let beside = |(words, policy): &(&str, &Policy)| {
+        let name = format!("{}.json", words.replace(['@', '+'], "-"));
+        let path = Path::new(env!("CARGO_TARGET_TMPDIR")).join(name);
+        std::fs::write(&path, policy.as_json()).unwrap();
+        ["--beside".to_owned(), format!("{words}={}", path.to_str().unwrap())]
+    };
     let of_dist = concat!(env!("CARGO_MANIFEST_DIR"), "/../dist/zsched");
     let mut child = Command::new(std::env::var_os("HIKEBOX_ZSCHED").unwrap_or_else(|| of_dist.into()))
         .args(["storm", form])
         .args(options.split_whitespace())
+        .args(others.iter().flat_map(beside))
         .arg("-")
         .stdin(Stdio::piped())
         .stdout(Stdio::piped())
@@ -99,6 +113,44 @@ fn a_storm_is_what_the_program_prints() {
 }
 
 #[test]
+fn a_storm_of_several_populations_is_what_the_program_prints() {
+    let (three, full) = (policy(Schedule::recurs(3)), full());
+    let storm = || Storm::new(&full).rate(90).seconds(12).capacity(100);
+    let options = "--rate 90 --seconds 12 --capacity 100";
+    let limited = || Population::new(20, &three).limited(true);
+    type Case<'a> = (Storm, &'a str, Vec<(&'a str, &'a Policy)>);
+    let cases: [Case; 5] = [
+        (storm().beside(Population::new(30, &three)), "", vec![("30", &three)]),
+        (storm().quota(1, 0.1, SECOND).beside(limited()), "--quota 1/100/1000", vec![("20+limited", &three)]),
+        (
+            storm().budget(9).beside(Population::new(99, &three).patience(2 * SECOND)),
+            "--budget 9",
+            vec![("99@2000", &three)],
+        ),
+        (
+            storm().limit(InFlight::envoy(20.0, 3)).beside(limited()).beside(Population::new(1, &full)),
+            "--limit inflight:3/200",
+            vec![("20+limited", &three), ("1", &full)],
+        ),
+        (
+            storm()
+                .calls(900)
+                .beside(Population::new(10, &full))
+                .beside(Population::new(33, &three).patience(millis(5)).limited(true))
+                .beside(Population::new(7, &full).patience(millis(50)).limited(true).limited(false)),
+            "--calls 900",
+            vec![("10", &full), ("33@5+limited", &three), ("7@50", &full)],
+        ),
+    ];
+    for (storm, more, others) in cases {
+        let (report, options) = (storm.play().unwrap(), format!("{options} {more}"));
+        assert_eq!(report.populations.len(), others.len() + 1);
+        assert_eq!(report.to_json() + "\n", zsched_beside("--json", &options, &full, &others), "{options} {others:?}");
+        assert_eq!(report.to_csv(), zsched_beside("--csv", &options, &full, &others), "{options} {others:?}");
+    }
+}
+
+#[test]
 fn the_storm_that_never_ends_and_the_one_that_a_quota_ends() {
     let never = Storm::new(&full()).play().unwrap().totals;
     assert_eq!((never.calls_per_request(), never.recovered, never.cut), (7.62, None, false));
@@ -127,10 +179,20 @@ fn a_storm_under_each_limit() {
             storm = storm.late_cost(10.0);
         }
         let options = format!("--rate 80 --capacity 100 --queue 500 --limit {word}");
-        assert_eq!(storm.play().unwrap().to_json() + "\n", zsched("--json", &options, &full()), "{word}");
+        let report = storm.play().unwrap();
+        assert_eq!(report.to_json() + "\n", zsched("--json", &options, &full()), "{word}");
+        // (a limit may deny first calls, too, and such a request makes no call)
+        let said = report.to_string();
+        assert!(said.contains(&format!(" lost, {} denied, ", report.totals.denied)), "{said}");
+        let denies_first_calls = word.starts_with("breaker") || word.starts_with("throttle");
+        assert_eq!(said.contains("; the most requests and retries in a window "), denies_first_calls, "{said}");
     }
     let dear = Storm::new(&full()).limit(Bucket { capacity: 1.0, cost: 2.0, ..Bucket::default() });
-    assert_eq!(dear.play().unwrap_err(), StormError::Tickets(BudgetError::OutOfRange));
+    for (storm, number) in [(dear, "cost"), (Storm::new(&full()).limit(Bucket::aws()).late_cost(501.0), "late_cost")] {
+        let error = storm.play().unwrap_err();
+        assert!(matches!(error, StormError::Tickets(BudgetError::OutOfRange { parameter, .. }) if parameter == number));
+        assert_eq!(error.to_string(), format!("{number}: expected 0, or from 0.001 to the capacity, got another"));
+    }
 }
 
 #[test]
@@ -169,6 +231,52 @@ fn one_of_two_replicas_is_down_by_hand() {
     assert_eq!((four(0), four(1)), ((0, 2), (0, 4)));
 }
 
+/// Of two requests that come together the first is the second population's.
+#[test]
+fn a_budget_of_none_beside_clients_who_do_not_draw_on_it_by_hand() {
+    let once = policy(Schedule::recurs(1) & Schedule::spaced(millis(10)));
+    let storm = || Storm::new(&once).rate(2).together(2).seconds(1).outage(Duration::ZERO..millis(10)).budget(0);
+    let counted = |own: &PopulationReport| (own.share, own.totals.won, own.totals.denied, own.totals.calls);
+    let report = storm().beside(Population::new(30, &once)).play().unwrap();
+    assert_eq!(report.populations.iter().map(counted).collect::<Vec<_>>(), [(70, 0, 1, 1), (30, 1, 0, 2)]);
+    assert_eq!(report.populations[1].totals.slowest, Some(millis(11)));
+    let csv = report.populations[1].to_csv();
+    assert_eq!(csv, "from,requests,won,retries,succeeded,refused,shed,late,waiting\n0,1,1,1,1,1,0,0,0\n");
+    assert!(
+        report.to_string().ends_with(
+            "never recovered\n\
+             70 %: 1 requests: 0 won, 0 lost, 1 denied a retry, 0 left open\n\
+             30 %: 1 requests: 1 won, 0 lost, 0 denied a retry, 0 left open"
+        ),
+        "{report}"
+    );
+    let limited = storm().beside(Population::new(30, &once).limited(true)).play().unwrap();
+    assert_eq!(limited.populations.iter().map(counted).collect::<Vec<_>>(), [(70, 0, 1, 1), (30, 0, 1, 1)]);
+    assert!(storm().play().unwrap().populations.is_empty());
+}
+
+#[test]
+fn the_reports_on_populations_add_up() {
+    let (full, three) = (full(), policy(Schedule::recurs(3)));
+    let storm = Storm::new(&full).rate(100).capacity(120).quota(3, 0.1, SECOND).beside(Population::new(20, &three));
+    let report = storm.beside(Population::new(5, &full).limited(true)).play().unwrap();
+    let shares: Vec<_> = report.populations.iter().map(|own| (own.share, own.totals.requests)).collect();
+    assert_eq!(shares, [(75, 4500), (20, 1200), (5, 300)]);
+    // (as tests/storms.py plays it)
+    let tickets: Vec<_> = report.populations.iter().map(|own| own.totals.tickets).collect();
+    assert_eq!(tickets, [89, 0, 21]);
+    let sum = |number: fn(&PopulationReport) -> u64| report.populations.iter().map(number).sum::<u64>();
+    assert_eq!(sum(|own| own.totals.won), report.totals.won);
+    assert_eq!(sum(|own| own.totals.calls), report.totals.calls);
+    assert_eq!(sum(|own| own.totals.tickets), report.totals.tickets);
+    for (place, window) in report.windows.iter().enumerate() {
+        let own = || report.populations.iter().filter_map(|own| own.windows.get(place));
+        assert_eq!(own().map(|own| own.succeeded).sum::<u64>(), window.succeeded);
+        assert_eq!(own().map(|own| own.refused).sum::<u64>(), window.refused);
+        assert!(own().all(|own| own.waiting == 0));
+    }
+}
+
 #[test]
 fn none_is_won_and_the_storm_is_cut() {
     let forever = policy(Schedule::forever());
@@ -185,7 +293,20 @@ fn what_is_out_of_range_is_named() {
     let once = policy(Schedule::recurs(1));
     let told = |storm: Storm| storm.play().map(|report: StormReport| report.totals.requests).unwrap_err().to_string();
     let storm = || Storm::new(&once);
+    let beside = |share| Population::new(share, &once);
     let cases = [
+        (told(storm().beside(beside(0))), "share: expected 1 to 99, got 0"),
+        (told(storm().beside(beside(100))), "share: expected 1 to 99, got 100"),
+        (
+            told(storm().beside(beside(50)).beside(beside(50))),
+            "expected populations beside the first one of at most 99 per cent in all, got 100",
+        ),
+        (
+            told(storm().beside(beside(1)).beside(beside(1)).beside(beside(1)).beside(beside(1))),
+            "beside: expected 0 to 3, got 4",
+        ),
+        (told(storm().beside(beside(1).patience(Duration::ZERO))), "patience: expected 1 to 3600000, got 0"),
+        (told(storm().beside(beside(1).patience(seconds(3601)))), "patience: expected 1 to 3600000, got 3601000"),
         (told(storm().rate(0)), "rate: expected 1 to 1000000, got 0"),
         (told(storm().together(1_000_001)), "together: expected 1 to 1000000, got 1000001"),
         (told(storm().seconds(3601)), "seconds: expected 1 to 3600, got 3601"),
@@ -232,7 +353,8 @@ fn what_is_out_of_range_is_named() {
     }
     let error = storm().quota(u64::MAX, 0.1, SECOND).play().unwrap_err();
     assert_eq!(error, StormError::Tickets(BudgetError::ReserveTooLarge));
-    assert!(std::error::Error::source(&error).is_some());
+    assert_eq!(error.to_string(), BudgetError::ReserveTooLarge.to_string());
+    assert!(error.source().is_none()); // (its text is that of the cause)
     assert!(storm().quota(1, 20.0, SECOND).quota(1, 0.1, SECOND).play().is_ok());
     assert!(storm().quota(1, 20.0, SECOND).budget(1).play().is_ok());
 }

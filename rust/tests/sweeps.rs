@@ -3,7 +3,7 @@
 mod common;
 
 use common::{printed, python};
-use hikebox::{Axis, BudgetError, Goal, Measure, Policy, Schedule, Storm, StormError, StormReport, Sweep};
+use hikebox::{Axis, BudgetError, Goal, Measure, Policy, Population, Schedule, Storm, StormError, StormReport, Sweep};
 use std::time::Duration;
 
 const SECOND: Duration = Duration::from_secs(1);
@@ -60,6 +60,87 @@ fn each_storm_of_a_sweep_is_the_single_storm() {
     has_single_storms(Axis::queue, vec![0, 30], Storm::queue);
     has_single_storms(Axis::patience, vec![millis(50), millis(500)], Storm::patience);
     has_single_storms(Axis::outage, vec![millis(500), 2 * SECOND], |storm, long| storm.outage(SECOND..SECOND + long));
+}
+
+#[test]
+fn populations_are_swept_with_their_storm() {
+    let (three, once) = (policy(Schedule::recurs(3)), policy(Schedule::recurs(1)));
+    let storms = [
+        brief().beside(Population::new(30, &three)),
+        brief().beside(Population::new(30, &once)),
+        brief().beside(Population::new(30, &once).patience(millis(8))),
+    ];
+    let sweep = Sweep::along(Axis::patience([millis(8), millis(500)]));
+    let played = lines(storms.iter().fold(sweep, |sweep, storm| sweep.line("", storm.clone())));
+    for (line, storm) in played.iter().zip(storms) {
+        let single = |long| storm.clone().patience(long).play().unwrap();
+        assert_eq!(*line, [single(millis(8)), single(millis(500))]);
+        assert_eq!(line[0].populations.len(), 2);
+    }
+    // a call takes 9 ms; clients with no patience of their own have the storm's
+    let won = |line: usize, at: usize| played[line][at].populations[1].totals.won;
+    assert_eq!((won(1, 0), won(2, 0), won(2, 1)), (0, 0, 0));
+    assert_eq!((won(0, 1), won(1, 1)), (120, 120));
+    assert_eq!(played[0][1].populations[1].totals.calls, 120 + 4 * 30);
+    assert_eq!(played[1][1].populations[1].totals.calls, 120 + 2 * 30);
+}
+
+/// Of 48,000 requests at 800 a second two come while the peer is away for 2 ms. At 1,600 a second, the storm is cut
+/// after 48,000 calls of 96,000, and four fail before it is.
+#[test]
+fn a_table_rounds_no_share_to_all_and_marks_what_was_cut() {
+    let storm =
+        Storm::new(&policy(Schedule::recurs(0))).capacity(2000).outage(10 * SECOND..millis(10_002)).calls(48_000);
+    let played = Sweep::along(Axis::rate([800, 1600])).line("none", storm).play().unwrap();
+    assert_eq!(played.lines().next().unwrap().1[0].totals.won, 47_998);
+    assert!(played.to_string().ends_with("\n800       99.99\n1600  99.99 cut"), "{played}");
+    assert!(played.table(Measure::Slowest).ends_with("\n800       0.001\n1600  0.001 cut"));
+}
+
+/// Requests come for five seconds. No window begins after an outage that goes on for a minute, so a recovery would not
+/// show.
+#[test]
+fn a_storm_that_ends_in_its_outage_tells_of_no_recovery() {
+    let storm = Storm::new(&policy(Schedule::recurs(0))).rate(10).seconds(5).outage(SECOND..2 * SECOND);
+    let played = Sweep::along(Axis::outage([SECOND, 60 * SECOND])).line("none", storm).play().unwrap();
+    assert_eq!(played.numbers(Measure::Recovery), [[Some(0.0), None]]);
+}
+
+/// Eight retries under a quota of a tenth, beside clients with the same retries and no quota.
+fn beside(share: u64) -> Storm {
+    Storm::new(&full()).quota(10, 0.1, SECOND).beside(Population::new(share, &full()))
+}
+
+/// If 20 per cent of the requests come from clients without the quota, the peer recovers at once; if 21 do, never.
+#[test]
+fn the_share_beside_is_swept_over_the_border_of_recovery() {
+    let alone = Storm::new(&full()).quota(10, 0.1, SECOND);
+    let sweep = Sweep::along(Axis::beside([20, 21])).line("beside", beside(99)).line("alone", alone.clone());
+    let played = sweep.play().unwrap();
+    assert_eq!((played.parameter(), played.values()), ("beside", &[20, 21][..]));
+    assert_eq!(played.numbers(Measure::Recovery), [[Some(0.0), Some(f64::INFINITY)], [Some(0.0), Some(0.0)]]);
+    assert!(played.table(Measure::Recovery).ends_with("\n20        0.00   0.00\n21       never   0.00"));
+    assert!(played.to_csv().contains("\n21,beside,48000,"));
+    assert!(played.to_json().starts_with("{\"parameter\":\"beside\",\"values\":[20,21],"));
+    let lines: Vec<_> = played.lines().map(|(_, reports)| reports.to_vec()).collect();
+    assert_eq!(lines[0], [beside(20).play().unwrap(), beside(21).play().unwrap()]);
+    let alone = alone.play().unwrap();
+    assert_eq!(lines[1], [alone.clone(), alone]);
+}
+
+#[test]
+fn of_several_populations_beside_the_share_of_the_first_is_swept() {
+    let (three, once) = (policy(Schedule::recurs(3)), policy(Schedule::recurs(1)));
+    let storm = |share| {
+        let second = Population::new(share, &three).patience(millis(8));
+        brief().beside(second).beside(Population::new(20, &once).limited(true)).quota(1, 0.1, SECOND)
+    };
+    let played = lines(Sweep::along(Axis::beside([1, 79])).line("", storm(5)));
+    assert_eq!(played[0], [storm(1).play().unwrap(), storm(79).play().unwrap()]);
+    let shares = |at: usize| played[0][at].populations.iter().map(|own| own.share).collect::<Vec<_>>();
+    assert_eq!((shares(0), shares(1)), (vec![79, 1, 20], vec![1, 79, 20]));
+    let error = Sweep::along(Axis::beside([79, 80])).line("", storm(5)).play().unwrap_err();
+    assert_eq!(error, StormError::SharesTooLarge { got: 100 });
 }
 
 #[test]
@@ -145,6 +226,9 @@ fn what_is_no_sweep_is_refused() {
         (Axis::outage([Duration::MAX]), "outage: expected 0 to 3600000, got 4611686018427388903"),
         (Axis::reserve([1 << 33]), "reserve: expected 0 to 4294967296, got 8589934592"),
         (Axis::budget([1]), "budget: expected a storm with a limit that has it, got none"),
+        (Axis::beside([1, 0]), "beside: expected 1 to 99, got 0"),
+        (Axis::beside([100]), "beside: expected 1 to 99, got 100"),
+        (Axis::beside([1]), "beside: expected a storm with a population beside the first one, got none"),
     ];
     for (axis, wanted) in cases {
         assert_eq!(told(along(axis)).to_string(), wanted);
@@ -175,6 +259,19 @@ fn a_border_is_where_the_peer_stops_recovering() {
     let patience = twenty().find(Goal::Patience).unwrap().value.unwrap();
     assert!(recovers(twenty().patience(millis(patience))), "{patience}");
     assert!(!recovers(twenty().patience(millis(patience - 1))), "{patience}");
+}
+
+/// Beside clients who don't retry the first ones may retry once more than alone.
+#[test]
+fn the_most_retries_are_those_of_the_first_population() {
+    let spaced = policy(Schedule::recurs(8) & Schedule::spaced(millis(100)));
+    let others = Population::new(10, &policy(Schedule::recurs(0)));
+    let found = Storm::new(&spaced).beside(others.clone()).find(Goal::Retries).unwrap();
+    assert_eq!(found.value, Some(7));
+    for (value, report) in &found.tried {
+        let bounded = policy(Schedule::recurs(8) & Schedule::spaced(millis(100)) & Schedule::recurs(*value));
+        assert_eq!(*report, Storm::new(&bounded).beside(others.clone()).play().unwrap());
+    }
 }
 
 #[test]

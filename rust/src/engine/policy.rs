@@ -79,12 +79,30 @@ impl Handle<PolicyKind> {
         Ok((lines, text))
     }
 
-    /// Plays a storm under it, of at most so many windows: those that there are, and the totals.
-    pub(crate) fn play(&mut self, storm: &Storm, room: usize) -> Result<(Vec<Window>, Totals), Status> {
+    /// Plays a storm under it, and under these policies of the populations beside the first one, of which there are three
+    /// at most; its report is of at most so many windows. What it answers is the windows that there are, and the totals.
+    pub(crate) fn play(
+        &mut self,
+        others: &mut [Self],
+        storm: &Storm,
+        room: usize,
+    ) -> Result<(Vec<Window>, Totals), Status> {
         let mut totals = Totals { size: mem::size_of::<Totals>(), ..Totals::default() };
         let (mut windows, mut count) = (vec![Window::default(); room], 0);
+        let [mut second, mut third, mut fourth] = [Raw::EMPTY; 3];
+        let mut others = others.iter_mut().map(Self::raw);
         Status::of(unsafe {
-            hikebox_storm_play(self.raw(), storm, windows.as_mut_ptr(), windows.len(), &mut count, &mut totals)
+            hikebox_storm_play_populations(
+                self.raw(),
+                others.next().unwrap_or(&mut second),
+                others.next().unwrap_or(&mut third),
+                others.next().unwrap_or(&mut fourth),
+                storm,
+                windows.as_mut_ptr(),
+                windows.len(),
+                &mut count,
+                &mut totals,
+            )
         })?;
         windows.truncate(count);
         Ok((windows, totals))

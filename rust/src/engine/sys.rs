@@ -158,6 +158,15 @@ pub(crate) struct Phase {
     pub(crate) rate: u64,
 }
 
+/// A population of clients beside the first one; of no share where there is none.
+#[repr(C)]
+#[derive(Clone, Copy, Debug, Default, PartialEq, Eq, Hash)]
+pub(crate) struct Population {
+    pub(crate) share: u64,
+    pub(crate) patience: u64,
+    pub(crate) limited: u64,
+}
+
 #[repr(C)]
 #[derive(Clone, Copy, Debug, PartialEq, Eq, Hash)]
 pub(crate) struct Storm {
@@ -200,6 +209,10 @@ pub(crate) struct Storm {
     pub(crate) down: u64,
     pub(crate) phase_count: u64,
     pub(crate) phases: [Phase; 16],
+    pub(crate) second: Population,
+    pub(crate) third: Population,
+    pub(crate) fourth: Population,
+    pub(crate) of: u64,
 }
 
 #[repr(C)]
@@ -467,8 +480,11 @@ extern "C" {
     #[cfg(feature = "leased")]
     pub(super) fn hikebox_leased_free(leased: *mut Raw) -> u32;
 
-    pub(super) fn hikebox_storm_play(
+    pub(super) fn hikebox_storm_play_populations(
         policy: *mut Raw,
+        second: *mut Raw,
+        third: *mut Raw,
+        fourth: *mut Raw,
         storm: *const Storm,
         windows: *mut Window,
         capacity: usize,

@@ -6,6 +6,7 @@ use crate::leased::slot::{Record, COPY, SIZE};
 use crate::leased::uptime::{boot, now, Window};
 use crate::random;
 use crate::system::{try_lock, unlock, OwnFile};
+use std::env;
 use std::error::Error;
 use std::fmt;
 use std::fs::{self, DirEntry, File, OpenOptions};
@@ -16,7 +17,7 @@ use std::path::{Path, PathBuf};
 use std::thread;
 use std::time::{Duration, Instant, SystemTime};
 
-/// Why a store grants no lease. Nothing is granted then.
+/// Why a store grants no lease. Its text contains that of the error in it, so it has no source.
 #[derive(Debug)]
 #[non_exhaustive]
 pub enum StoreError {
@@ -34,6 +35,8 @@ pub enum StoreError {
 
 /// How long a slot's lock is waited for.
 const PATIENCE: Duration = Duration::from_secs(5);
+/// How often the folder may be removed while a slot is made in it.
+const REMOVED: u32 = 100;
 /// How many other files a process that makes one looks at, to take away those that nobody needs any more.
 const LOOKED_AT: usize = 16;
 /// A file that was to become a slot, and is this old, was left by a process that died.
@@ -96,18 +99,32 @@ impl Key {
 }
 
 impl Folder {
+    /// The folder at this path. A relative path is resolved now: a process that changes its directory keeps the folder.
     pub(crate) fn new(path: impl AsRef<Path>) -> Self {
-        Self { path: path.as_ref().to_owned() }
+        let path = path.as_ref();
+        // (an empty path is refused when a slot is opened)
+        let is_resolved = path.is_absolute() || path.as_os_str().is_empty();
+        let here = if is_resolved { PathBuf::new() } else { env::current_dir().unwrap_or_default() };
+        Self { path: here.join(path) }
     }
 
     /// The slot of this key, which is made where it is missing.
     pub(crate) fn lock(&self, key: &Key) -> Result<Slot, StoreError> {
-        let (path, began) = (self.path.join(key.place()), Instant::now());
+        if self.path.as_os_str().is_empty() {
+            return Err(invalid("expected the path of a folder, got an empty one").into());
+        }
+        let (path, began, mut removed) = (self.path.join(key.place()), Instant::now(), 0);
         while began.elapsed() <= PATIENCE {
             let file = match opened(&path) {
                 Ok(file) => Locked::of(file, began)?,
                 Err(error) if error.kind() == io::ErrorKind::NotFound => {
-                    make(&path, key).map_err(|error| self.refused(error))?;
+                    if path.is_symlink() {
+                        return Err(StoreError::Damaged(path));
+                    }
+                    match make(&path, key) {
+                        Err(error) if may_be_removed(&error) && removed < REMOVED => removed += 1,
+                        made => made.map_err(|error| self.refused(error))?,
+                    }
                     continue;
                 }
                 Err(error) => return Err(self.refused(error)),
@@ -127,6 +144,15 @@ impl Folder {
             _ => error.into(),
         }
     }
+}
+
+/// Whether a folder may have been removed while a slot was made in it, or while it was made itself.
+fn may_be_removed(error: &io::Error) -> bool {
+    matches!(error.kind(), io::ErrorKind::NotFound | io::ErrorKind::AlreadyExists)
+}
+
+fn invalid(why: &str) -> io::Error {
+    io::Error::new(io::ErrorKind::InvalidInput, why)
 }
 
 /// The file of a slot, to be read and written.
@@ -250,9 +276,9 @@ impl Drop for Locked {
 }
 
 impl Slot {
-    /// What the file has of this key, or `None` where it is no slot of it.
+    /// What the file has of this key, or `None` where it is no slot of it, or one that can't be written again.
     fn read(file: Locked, key: &Key) -> Option<Self> {
-        let record = Record::read(&file, Some(&key.text))?;
+        let record = Record::read(&file, Some(&key.text)).filter(|record| !record.is_last())?;
         Some(Self { file, record, is_durable: key.period.is_none() })
     }
 
@@ -301,11 +327,4 @@ impl fmt::Display for StoreError {
     }
 }
 
-impl Error for StoreError {
-    fn source(&self) -> Option<&(dyn Error + 'static)> {
-        match self {
-            Self::Io(error) => Some(error),
-            _ => None,
-        }
-    }
-}
+impl Error for StoreError {}

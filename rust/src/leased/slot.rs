@@ -97,6 +97,11 @@ impl Record {
         }
     }
 
+    /// Whether there is no turn after its own: something else wrote it then.
+    pub(crate) fn is_last(&self) -> bool {
+        self.turn == u64::MAX
+    }
+
     /// The next turn, with these counts, as a whole or of a window.
     pub(crate) fn set(&mut self, window: Option<&Window>, stored: Stored) {
         self.turn += 1;

@@ -42,7 +42,10 @@ pub(crate) fn now() -> io::Result<u64> {
 
 /// The name of the present start of the machine.
 pub(crate) fn boot() -> io::Result<Boot> {
-    let name = fs::read_to_string("/proc/sys/kernel/random/boot_id")?;
+    const PATH: &str = "/proc/sys/kernel/random/boot_id";
+    // (a chroot without /proc has none)
+    let missing = |error| io::Error::new(io::ErrorKind::Other, format!("{PATH}: {error}"));
+    let name = fs::read_to_string(PATH).map_err(missing)?;
     name.trim().as_bytes().try_into().map_err(|_| io::Error::new(io::ErrorKind::InvalidData, "no boot id of 36 bytes"))
 }
 

@@ -63,7 +63,7 @@ pub enum BudgetError {
     Fixed,
     /// The reserve is above 4,294,967,296 retries a window.
     ReserveTooLarge,
-    /// The share is below 0, above 10 retries for each request, not a number, or above 0 and below a thousandth.
+    /// The share is below 0, above 10 retries for each request, not a number, or above 0 and below half a thousandth.
     ShareOutOfRange,
     /// The window is shorter than 100 milliseconds.
     PeriodTooShort,
@@ -74,8 +74,17 @@ pub enum BudgetError {
         /// Its length, in bytes.
         bytes: usize,
     },
-    /// A number of a bucket, of what is in flight, of a breaker or of a throttle is out of its range.
-    OutOfRange,
+    /// A number of a [`CallLimit`](crate::CallLimit) is out of its range.
+    OutOfRange {
+        /// The field, or the argument, that has it.
+        parameter: &'static str,
+        /// What it may be.
+        expected: &'static str,
+    },
+    /// More than four limits are joined by [`both`](crate::both()).
+    TooManyLimits,
+    /// Buckets are joined by [`both`](crate::both()) of which a retry takes different amounts.
+    CostsDiffer,
     /// More than 2^42 passes are alive.
     TooManyPasses,
     /// Memory ran out.
@@ -272,6 +281,9 @@ impl fmt::Display for BudgetError {
     fn fmt(&self, f: &mut fmt::Formatter<'_>) -> fmt::Result {
         f.write_str(match self {
             Self::NameLength { bytes } => return write!(f, "expected a name of 1 to 255 bytes, got {bytes}"),
+            Self::OutOfRange { parameter, expected } => {
+                return write!(f, "{parameter}: expected {expected}, got another")
+            }
             Self::LimitTooLarge => "expected a limit of at most 4294967296, got more",
             Self::Fixed => "expected a budget that can rise, got one with a fixed limit",
             Self::ReserveTooLarge => "expected a reserve of at most 4294967296 retries a window, got more",
@@ -280,7 +292,8 @@ impl fmt::Display for BudgetError {
             }
             Self::PeriodTooShort => "expected a window of at least 100 milliseconds, got a shorter one",
             Self::PeriodTooLong => "expected a window of at most 2^62 - 1 milliseconds, got a longer one",
-            Self::OutOfRange => "expected the numbers of a limit within their ranges, got one that is not",
+            Self::TooManyLimits => "expected at most four limits at once, got more",
+            Self::CostsDiffer => "expected buckets of which a retry takes the same amount, got different ones",
             Self::TooManyPasses => "expected at most 2^42 passes at once, got one more",
             Self::NoMemory => "no memory",
         })

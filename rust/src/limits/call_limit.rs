@@ -13,7 +13,7 @@ use std::error::Error;
 use std::fmt;
 use std::mem;
 use std::sync::{Arc, Mutex, MutexGuard, PoisonError};
-use std::time::Duration;
+use std::time::{Duration, Instant};
 
 /// A limit of another system: a [`Bucket`], a bound on what is [`InFlight`], a [`Breaker`] or a [`Throttle`]. A call
 /// asks it before its first run and before each retry, and it learns how each run ended. All threads of a program
@@ -35,9 +35,11 @@ use std::time::Duration;
 /// # Ok::<(), Box<dyn std::error::Error>>(())
 /// ```
 ///
-/// It goes wherever a [`Quota`](crate::Quota) goes ([`Grants`](crate::Grants)). What a call holds is given back once:
-/// when it ends, or when its future or its [`Request`] is dropped. A limit belongs to its process: a forked child has
-/// its own, with nothing counted.
+/// Everything that runs calls for you takes one in the place of a [`Quota`](crate::Quota); [`Grants`](crate::Grants)
+/// says what does not. When a call ends, or its future or its [`Request`] is dropped, what it still holds is given
+/// back, once. It reads the system's clock and random words, with the feature `tokio` tokio's clock;
+/// [`Retrying::clock`](crate::Retrying::clock) and [`Retrying::random`](crate::Retrying::random) do not change that. A
+/// limit belongs to its process: a forked child has its own, with nothing counted.
 #[derive(Clone)]
 pub struct CallLimit {
     shared: Arc<Shared>,
@@ -66,8 +68,11 @@ enum Made {
     All(Vec<CallLimit>),
 }
 
-/// Moment 0 of all limits, so that two at once have one clock.
+/// Moment 0 of all limits, so that two at once have one clock. It lies a day before the first limit is made: a runtime
+/// of tokio's may have stopped its clock before that.
 static BEGAN: Mutex<Option<Moment>> = Mutex::new(None);
+
+const A_DAY: Duration = Duration::from_secs(86_400);
 
 /// The first handle of a limit, and those that no request uses now.
 struct Handles {
@@ -89,7 +94,7 @@ pub enum Terms {
     Throttle(Throttle),
 }
 
-/// A bucket of tokens, which are counted in thousandths. It is full at first.
+/// A bucket of tokens, which are counted in thousandths: a number above 0 is at least one of them. It is full at first.
 #[derive(Clone, Copy, Debug, Default, PartialEq)]
 pub struct Bucket {
     /// The tokens of a full bucket.
@@ -100,14 +105,14 @@ pub struct Bucket {
     pub debit: f64,
     /// The tokens that a success gives.
     pub credit: f64,
-    /// The tokens that a retry takes.
+    /// The tokens that a retry takes: at most the capacity.
     pub cost: f64,
     /// Whether a success gives back what the call's last retry took, in the place of the credit.
     pub refund: bool,
 }
 
 /// A bound on the retries in flight: the greater of a least number and a share of the calls in flight. A retry is in
-/// flight from its draw, through its wait, to the end of its run.
+/// flight from its draw to the call's next draw or its end, or until it is cancelled in its wait.
 #[derive(Clone, Copy, Debug, PartialEq)]
 pub struct InFlight {
     /// The retries that there may be, however few calls there are.
@@ -144,11 +149,15 @@ pub struct Throttle {
 
 impl Bucket {
     /// gRPC's `retryThrottling`: a failure takes one token, a success gives `token_ratio` of one, and a retry is
-    /// granted while more than half of `max_tokens` are left.
+    /// granted while more than half of `max_tokens` are left. As in gRPC, what follows the third decimal of the ratio
+    /// is ignored.
     #[must_use]
     pub fn grpc(max_tokens: u32, token_ratio: f64) -> Self {
         let capacity = f64::from(max_tokens);
-        Self { capacity, floor: capacity / 2.0 + 0.001, debit: 1.0, credit: token_ratio, cost: 0.0, refund: false }
+        // (a float may be short of its last decimal; a ratio below the third one is left for `thousandths` to judge)
+        let whole = (token_ratio * 1000.0 + 1e-6).floor();
+        let credit = if whole >= 1.0 { whole / 1000.0 } else { token_ratio };
+        Self { capacity, floor: capacity / 2.0 + 0.001, debit: 1.0, credit, cost: 0.0, refund: false }
     }
 
     /// The AWS SDKs' standard mode: 500 tokens, of which a retry takes 5. A success gives back what the call's last
@@ -159,16 +168,20 @@ impl Bucket {
     }
 
     fn made(&self) -> Result<Handle<LimitKind>, BudgetError> {
-        let terms = BucketTerms {
-            size: 0,
-            capacity: thousandths(self.capacity)?,
-            floor: thousandths(self.floor)?,
-            debit: thousandths(self.debit)?,
-            credit: thousandths(self.credit)?,
-            refund: self.refund,
-        };
-        thousandths(self.cost)?;
-        Handle::bucket(terms).map_err(fault)
+        let BucketNumbers { capacity, floor, debit, credit, .. } = self.numbers()?;
+        Handle::bucket(BucketTerms { size: 0, capacity, floor, debit, credit, refund: self.refund }).map_err(fault)
+    }
+
+    /// Its numbers in thousandths.
+    fn numbers(&self) -> Result<BucketNumbers, BudgetError> {
+        let capacity = within(thousandths(self.capacity), MAX_CAPACITY, "capacity", CAPACITY)?;
+        Ok(BucketNumbers {
+            capacity,
+            floor: tokens(self.floor, capacity, "floor")?,
+            debit: tokens(self.debit, capacity, "debit")?,
+            credit: tokens(self.credit, capacity, "credit")?,
+            cost: tokens(self.cost, capacity, "cost")?,
+        })
     }
 }
 
@@ -180,10 +193,12 @@ impl InFlight {
     }
 
     fn made(&self) -> Result<Handle<LimitKind>, BudgetError> {
-        if !(0.0..=1.0).contains(&self.share) {
-            return Err(BudgetError::OutOfRange);
-        }
-        Handle::in_flight(self.least, (self.share * 1000.0).round() as u32).map_err(fault)
+        Handle::in_flight(self.least, self.thousandths()? as u32).map_err(fault)
+    }
+
+    /// Its share in thousandths.
+    fn thousandths(&self) -> Result<u64, BudgetError> {
+        within(thousandths(self.share).filter(|_| self.share <= 1.0), 1000, "share", "0, or from 0.001 to 1")
     }
 }
 
@@ -203,9 +218,19 @@ impl Breaker {
     }
 
     fn made(&self, now: u64) -> Result<Handle<LimitKind>, BudgetError> {
+        if self.failures == 0 {
+            return Err(out_of_range("failures", "1 to 4294967295"));
+        }
+        if !(1..=MAX_PROBES).contains(&self.probes) {
+            return Err(out_of_range("probes", "1 to 15"));
+        }
+        let times = self.times()?;
+        if times.is_empty() {
+            return Err(out_of_range("open_for", "a policy that goes on at least once"));
+        }
         let deadline = whole_millis(self.probe_deadline);
         let (failures, probes) = (self.failures.into(), self.probes.into());
-        Handle::breaker(now, BreakerTerms { size: 0, failures, probes, deadline }, &self.times()?).map_err(fault)
+        Handle::breaker(now, BreakerTerms { size: 0, failures, probes, deadline }, &times).map_err(fault)
     }
 }
 
@@ -217,8 +242,17 @@ impl Throttle {
     }
 
     fn made(&self, now: u64) -> Result<Handle<LimitKind>, BudgetError> {
-        let ratio = u32::try_from(thousandths(self.ratio)?).map_err(|_| BudgetError::OutOfRange)?;
-        Handle::throttle(now, ratio, whole_millis(self.period)).map_err(fault)
+        let (ratio, period) = (self.thousandths()?, whole_millis(self.period));
+        if period == 0 {
+            return Err(out_of_range("period", "at least a millisecond"));
+        }
+        Handle::throttle(now, ratio as u32, period).map_err(fault)
+    }
+
+    /// Its ratio in thousandths.
+    fn thousandths(&self) -> Result<u64, BudgetError> {
+        let ratio = thousandths(self.ratio).filter(|ratio| *ratio >= 1000);
+        within(ratio, u32::MAX.into(), "ratio", "1 to 4294967.295")
     }
 }
 
@@ -227,20 +261,15 @@ impl Terms {
     pub(crate) fn on_storm(&self, storm: &mut engine::Storm) -> Result<(), BudgetError> {
         match self {
             Self::Bucket(bucket) => {
-                let cost = thousandths(bucket.cost)?;
-                if cost > thousandths(bucket.capacity)? {
-                    return Err(BudgetError::OutOfRange);
-                }
+                let BucketNumbers { capacity, floor, debit, credit, cost } = bucket.numbers()?;
                 (storm.draws_on, storm.cost, storm.late_cost) = (ON_BUCKET, cost, cost);
-                storm.bucket_capacity = thousandths(bucket.capacity)?;
-                storm.bucket_floor = thousandths(bucket.floor)?;
-                storm.bucket_debit = thousandths(bucket.debit)?;
-                storm.bucket_credit = thousandths(bucket.credit)?;
+                (storm.bucket_capacity, storm.bucket_floor) = (capacity, floor);
+                (storm.bucket_debit, storm.bucket_credit) = (debit, credit);
                 storm.bucket_refund = bucket.refund.into();
             }
             Self::InFlight(in_flight) => {
                 (storm.draws_on, storm.least) = (ON_IN_FLIGHT, in_flight.least.into());
-                storm.share = thousandths(in_flight.share)?;
+                storm.share = in_flight.thousandths()?;
             }
             Self::Breaker(breaker) => {
                 let times = breaker.times()?;
@@ -250,7 +279,7 @@ impl Terms {
                 storm.deadline = whole_millis(breaker.probe_deadline);
             }
             Self::Throttle(throttle) => {
-                (storm.draws_on, storm.ratio) = (ON_THROTTLE, thousandths(throttle.ratio)?);
+                (storm.draws_on, storm.ratio) = (ON_THROTTLE, throttle.thousandths()?);
                 storm.period = whole_millis(throttle.period);
             }
         }
@@ -258,19 +287,52 @@ impl Terms {
     }
 }
 
-/// A number in thousandths.
-pub(crate) fn thousandths(number: f64) -> Result<u64, BudgetError> {
-    if (0.0..=1.1e9).contains(&number) {
-        Ok((number * 1000.0).round() as u64)
-    } else {
-        Err(BudgetError::OutOfRange)
-    }
+/// The numbers of a bucket in thousandths of a token.
+struct BucketNumbers {
+    capacity: u64,
+    floor: u64,
+    debit: u64,
+    credit: u64,
+    cost: u64,
+}
+
+/// The greatest capacity, in thousandths of a token.
+const MAX_CAPACITY: u64 = 1 << 40;
+
+/// The most probes of a breaker.
+const MAX_PROBES: u8 = 15;
+
+const CAPACITY: &str = "0, or from 0.001 to 1099511627.776 tokens";
+
+/// What the other numbers of a bucket may be.
+const TOKENS: &str = "0, or from 0.001 to the capacity";
+
+/// A number in thousandths; `None` if it is out of range, or not 0 and less than half a thousandth.
+fn thousandths(number: f64) -> Option<u64> {
+    let thousandths = (number * 1000.0).round();
+    let is_in_range = (0.0..=1.1e9).contains(&number) && (number == 0.0 || thousandths > 0.0);
+    is_in_range.then_some(thousandths as u64)
+}
+
+/// Tokens in thousandths, at most as many as the capacity.
+pub(crate) fn tokens(number: f64, capacity: u64, parameter: &'static str) -> Result<u64, BudgetError> {
+    within(thousandths(number), capacity, parameter, TOKENS)
+}
+
+/// The number, if there is one and it is at most `most`.
+fn within(number: Option<u64>, most: u64, parameter: &'static str, expected: &'static str) -> Result<u64, BudgetError> {
+    number.filter(|number| *number <= most).ok_or_else(|| out_of_range(parameter, expected))
+}
+
+fn out_of_range(parameter: &'static str, expected: &'static str) -> BudgetError {
+    BudgetError::OutOfRange { parameter, expected }
 }
 
 fn fault(status: Status) -> BudgetError {
     match status {
         Status::NoMemory | Status::TooManyPasses => BudgetError::NoMemory,
-        _ => BudgetError::OutOfRange,
+        // (numbers are checked before, so these are limits that are joined)
+        _ => BudgetError::TooManyLimits,
     }
 }
 
@@ -285,7 +347,7 @@ impl CallLimit {
     }
 
     fn of(made: Made) -> Result<Self, BudgetError> {
-        let began = *lock(&BEGAN).get_or_insert_with(Moment::now);
+        let began = *lock(&BEGAN).get_or_insert_with(|| Moment::of(Instant::now()).before(A_DAY));
         let handles = PerProcess::new(Handles::of(made.handle(moment_of(began))?));
         Ok(Self { shared: Arc::new(Shared { reads: made.reads(), made, began, handles }) })
     }
@@ -307,7 +369,7 @@ impl CallLimit {
             Some(handle) => handle,
             None => lock(&self.handles().root).split().map_err(fault)?,
         };
-        Ok(Request { limit: self.clone(), handle: Some(handle), generation: generation() })
+        Ok(Request { limit: self.clone(), handle: Some(handle), generation: generation(), is_admitted: false })
     }
 
     /// A request that is admitted.
@@ -357,8 +419,9 @@ fn moment_of(began: Moment) -> u64 {
     Moment::now().millis_since(began)
 }
 
-/// Both limits at once, `first` asked first: either both admit a call or grant a retry, or neither is charged. Put a
-/// breaker last: a probe that it admitted is not given back. Either may be several limits already, up to four in all.
+/// Both limits at once, `first` asked first: either both admit a call or grant a retry, or what `first` gave comes back
+/// at once. Put breakers and throttles last: a probe that a breaker admitted does not come back, nor does what a
+/// throttle counted. Either may be several limits already, up to four in all. A retry takes the same of each bucket.
 ///
 /// ```
 /// use hikebox::{both, Breaker, Bucket, CallLimit, InFlight};
@@ -373,9 +436,17 @@ fn moment_of(began: Moment) -> u64 {
 ///
 /// # Errors
 ///
-/// [`BudgetError::OutOfRange`] if they are more than four, and [`BudgetError::NoMemory`].
+/// [`BudgetError::TooManyLimits`] if they are more than four, [`BudgetError::CostsDiffer`] if a retry takes more of one
+/// bucket than of another, and [`BudgetError::NoMemory`].
 pub fn both(first: &CallLimit, second: &CallLimit) -> Result<CallLimit, BudgetError> {
-    CallLimit::of(Made::All([first.parts(), second.parts()].concat()))
+    let limits = [first.parts(), second.parts()].concat();
+    let mut buckets = limits.iter().filter(|limit| matches!(limit.shared.made, Made::Of(Terms::Bucket(_))));
+    let cost = buckets.next().map_or(0, CallLimit::cost);
+    // (the engine has one cost for all of them)
+    if buckets.any(|bucket| bucket.cost() != cost) {
+        return Err(BudgetError::CostsDiffer);
+    }
+    CallLimit::of(Made::All(limits))
 }
 
 impl Made {
@@ -401,7 +472,7 @@ impl Made {
             // (a handle that was split off is hardly split again, so each limit gives one of its first)
             Self::All(limits) => {
                 let mut parts = limits.iter().map(|limit| lock(&limit.handles().root).split().map_err(fault));
-                let mut all = parts.next().unwrap_or(Err(BudgetError::OutOfRange))?;
+                let mut all = parts.next().unwrap_or(Err(BudgetError::NoMemory))?;
                 for part in parts {
                     all.both(part?).map_err(fault)?;
                 }
@@ -428,6 +499,8 @@ pub struct Request {
     /// `None` only while it is dropped.
     handle: Option<Handle<LimitKind>>,
     generation: u64,
+    /// Whether the limit admitted it.
+    is_admitted: bool,
 }
 
 impl Request {
@@ -439,12 +512,17 @@ impl Request {
         self.handle.as_mut().expect("a request has its handle until it is dropped")
     }
 
-    /// In a forked child: its handle there is the parent's.
+    /// In a forked child: its handle there is the parent's. A call under way asks the child's own limit, which refuses
+    /// its retries if it does not admit it.
     #[cold]
     fn begin_anew(&mut self) {
         mem::forget(self.handle.take());
         let part = lock(&self.limit.handles().root).split();
-        (self.handle, self.generation) = (Some(part.expect("memory for a request")), generation());
+        let mut part = part.expect("memory for a request");
+        if self.is_admitted {
+            let _ = part.admit(self.limit.moment(), self.limit.word());
+        }
+        (self.handle, self.generation) = (Some(part), generation());
     }
 
     /// Asks before the first run.
@@ -455,6 +533,7 @@ impl Request {
     pub fn admit(&mut self) -> Result<(), Refused> {
         let (now, word) = (self.limit.moment(), self.limit.word());
         let answer = self.handle().admit(now, word);
+        self.is_admitted |= answer.is_ok();
         answer.map_err(|refusal| Refused::of(refusal, now))
     }
 
@@ -495,7 +574,7 @@ impl Request {
         self.handle().succeeded(now);
     }
 
-    /// Tells that the latest retry is cancelled while it waits. What it cost comes back, once.
+    /// Tells that the latest retry is cancelled while it waits. What it cost and its slot come back, once.
     pub fn cancelled(&mut self) {
         self.handle().cancelled();
     }

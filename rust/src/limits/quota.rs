@@ -102,6 +102,7 @@ pub struct QuotaPass {
 
 /// The counts of a quota's latest window.
 #[derive(Clone, Copy, Debug, PartialEq, Eq, Hash)]
+#[non_exhaustive]
 pub struct Usage {
     /// The number of the window. A quota's first window is 0; a `LeasedQuota` counts from the machine's start.
     pub window: u64,

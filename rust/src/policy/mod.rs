@@ -83,6 +83,7 @@ pub enum PolicyFault {
 
 /// One event of what a policy would do: see [`Policy::preview`].
 #[derive(Clone, Debug, PartialEq, Eq, Hash)]
+#[non_exhaustive]
 pub struct Line {
     /// The moment of the event, in milliseconds.
     pub moment: u64,
@@ -106,8 +107,11 @@ impl Policy {
         match schedule.build() {
             Ok(handle) => Self::of(handle).map_err(PolicyError::of),
             Err(Status::NoMemory) => Err(PolicyError::no_memory()),
-            // (of the text it is known where)
-            Err(_) => Self::from_json(schedule.as_json()),
+            // (of the text it is known where, but the engine reads none that is nested more than 127 deep)
+            Err(status) => Self::from_json(schedule.as_json()).map_err(|error| match error.fault {
+                PolicyFault::NotJson { .. } => PolicyError::too_large(status),
+                _ => error,
+            }),
         }
     }
 
@@ -246,6 +250,11 @@ impl PolicyError {
         Self::of(Status::NoMemory)
     }
 
+    /// The error of a schedule that has too many nodes, or is too deep.
+    fn too_large(status: Status) -> Self {
+        Self { hint: "expected a schedule of at most 256 nodes, at most 32 deep".to_owned(), ..Self::of(status) }
+    }
+
     /// The error of a call on what is a policy.
     fn of(status: Status) -> Self {
         Self { fault: PolicyFault::of(status, Place::default()), place: String::new(), hint: String::new() }
@@ -267,7 +276,7 @@ impl PolicyError {
     }
 }
 
-/// The place of a text's first fault, and what is wanted there, as the engine says; nothing where memory is wanting.
+/// The place of a text's first fault, and what is wanted there, as the engine says; nothing where memory is refused.
 fn told(json: &str) -> (String, String) {
     let told = engine::fault(json).unwrap_or_default();
     let (place, hint) = told.split_once(": ").unwrap_or_default();

@@ -12,7 +12,8 @@ use std::time::Duration;
 /// `Schedule`. The engine builds the nodes when you make a [`Policy`](crate::Policy).
 ///
 /// Times are whole milliseconds; a duration is rounded up. [`Policy::new`](crate::Policy::new) rejects a duration above
-/// 0 and below a millisecond, a ratio above 0 and below a thousandth, and every other argument that is out of range:
+/// 0 and below a millisecond, a ratio above 0 and below half a thousandth, and every other argument that is out of
+/// range:
 ///
 /// ```
 /// use hikebox::{Policy, Schedule};
@@ -70,6 +71,7 @@ pub(crate) struct Refused {
 
 /// A test of a number, for [`Schedule::while_input`] and its kin. It is false for a value that is not a number.
 #[derive(Clone, Copy, Debug, PartialEq, Eq, Hash)]
+#[non_exhaustive]
 pub enum Test {
     /// The number is below this one.
     Below(u64),
@@ -81,6 +83,7 @@ pub enum Test {
 
 /// What [`Schedule::gather`] makes of the outputs so far.
 #[derive(Clone, Copy, Debug, PartialEq, Eq, Hash)]
+#[non_exhaustive]
 pub enum Fold {
     /// Their sum.
     Sum,

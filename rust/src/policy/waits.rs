@@ -1,5 +1,6 @@
 //! The waits of a policy, one after another.
 
+use crate::engine::MAX_NUMBER;
 use crate::limits::grants::Unlimited;
 use crate::policy::Policy;
 use crate::retry::machine::{Machine, Report, Step};
@@ -15,10 +16,13 @@ pub struct Waits {
     now: Duration,
 }
 
+/// The engine's last moment: from it on a planned start tells no wait.
+const LAST_MOMENT: Duration = Duration::from_millis(MAX_NUMBER);
+
 impl Policy {
     /// The waits that the policy plans, one after another, if each call fails at once with the code 0. The iterator has
-    /// no end if the policy has none. Each use draws new random words for jitter. It serves libraries that take their
-    /// delays from an iterator.
+    /// no end if the policy has none, but ends where the waits together reach 2^62 - 1 milliseconds, the engine's last
+    /// moment. Each use draws new random words for jitter. It serves libraries that take their delays from an iterator.
     ///
     /// ```
     /// use hikebox::{Policy, Schedule};
@@ -46,8 +50,8 @@ impl Iterator for Waits {
     type Item = Duration;
 
     fn next(&mut self) -> Option<Duration> {
-        let machine = self.machine.as_mut()?;
         let began = self.now;
+        let machine = self.machine.as_mut().filter(|_| began < LAST_MOMENT)?;
         match machine.step(began, Some(Report::Lost(0))) {
             Step::Run => return Some(Duration::ZERO),
             Step::Wait(until) => self.now = until,

@@ -21,7 +21,7 @@ pub enum RetryError<E, L = Infallible> {
     ScheduleDone(E),
     /// The call failed, and the next run would have begun past the deadline.
     Deadline(E),
-    /// The call failed, and the budget or quota had no ticket for a retry.
+    /// The call failed, and the budget, the quota or another limit granted no retry.
     BudgetRefused(E),
     /// The call failed with an error that is not retried.
     NotRetried(E),
@@ -66,7 +66,7 @@ impl<E: fmt::Display, L: fmt::Display> fmt::Display for RetryError<E, L> {
         match self {
             Self::ScheduleDone(error) => write!(f, "{error:#} (the schedule was done)"),
             Self::Deadline(error) => write!(f, "{error:#} (the deadline leaves no time for a retry)"),
-            Self::BudgetRefused(error) => write!(f, "{error:#} (the retry budget had no ticket)"),
+            Self::BudgetRefused(error) => write!(f, "{error:#} (the budget refused a retry)"),
             Self::NotRetried(error) => write!(f, "{error:#} (not an error to be retried)"),
             Self::StoreFailed(store, error) => write!(f, "{error:#} (the store of retry tickets failed: {store})"),
             Self::Broken(cause, error) => write!(f, "{error:#} (the retry could not go on: {cause})"),

@@ -97,7 +97,7 @@ pub enum Ending {
     ScheduleDone,
     /// The last run failed, and the next one would have begun past the deadline.
     Deadline,
-    /// The last run failed, and the budget or quota had no ticket for a retry.
+    /// The last run failed, and the budget, the quota or the store had no ticket for a retry.
     BudgetRefused,
     /// It was cancelled.
     Cancelled,

@@ -1,5 +1,6 @@
 //! The options that retries of all kinds have.
 
+use crate::clock::whole_millis;
 use std::time::Duration;
 
 /// The options of a retry, with what they are unless a builder says otherwise.
@@ -14,13 +15,19 @@ pub(crate) struct Options {
 }
 
 impl Options {
+    /// The deadline in whole milliseconds, by which runs begin.
+    #[inline]
+    pub(crate) fn whole_deadline(&self) -> Option<Duration> {
+        self.deadline.map(|deadline| Duration::from_millis(whole_millis(deadline)))
+    }
+
     /// The wait that is granted to an error that asks for this one so long after the first run began; `None` where the
     /// next run would begin past the deadline then.
     #[cold]
     pub(crate) fn granted(&self, retry_after: Duration, passed: Duration) -> Option<Duration> {
         let wait = retry_after.min(self.max_retry_after);
         let is_late = |deadline| !wait.is_zero() && passed.saturating_add(wait) > deadline;
-        if self.deadline.map_or(false, is_late) {
+        if self.whole_deadline().map_or(false, is_late) {
             None
         } else {
             Some(wait)

@@ -183,7 +183,7 @@ impl Running {
     #[inline]
     fn unmade(limit: &dyn Limit, options: &Options, began: Moment) -> Self {
         let origin = limit.origin(began);
-        let deadline = options.deadline.map(|deadline| Duration::from_millis(whole_millis(deadline)));
+        let deadline = options.whole_deadline();
         let until =
             deadline.map_or(NO_DEADLINE, |deadline| origin.saturating_add(whole_millis(deadline)).min(MAX_NUMBER));
         Self { machine: Machine::unmade(limit.source(), until), origin, latest: origin, deadline }

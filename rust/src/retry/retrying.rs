@@ -33,7 +33,8 @@ use std::time::{Duration, Instant};
 ///
 /// Calls take `&self`, so its closures are `Fn`: one that counts uses a `Cell` or an atomic. A clone has the same
 /// settings and draws on the same budget; it is `Send` and `Sync` if its closures are. A call that succeeds at once
-/// takes no memory and no lock, except on a quota, which counts it by a pass that few threads share.
+/// takes no memory and no lock, except on a limit that hears of each call: a [`Quota`](crate::Quota) counts it by a
+/// pass that few threads share, and a [`CallLimit`](crate::CallLimit) lends it a handle.
 ///
 /// It borrows its policy and its budget. To keep one, make it own them ([`Retrying::into_owned`]), and give it a type
 /// that you can name ([`Retrying::shared`]):

@@ -129,7 +129,8 @@ impl<Request: Clone, Response, E> RetryPolicy<Request, Response, E> {
 
 impl<Request, Response, E> RetryPolicy<Request, Response, E> {
     /// [`RetryPolicy::new`] for requests that are not `Clone`. Like tower's `clone_request`, `copy` copies a request,
-    /// or returns `None` if it cannot be made again.
+    /// or returns `None` if it cannot be made again. Tower's `RetryLayer` does not tell how such a request ended: a
+    /// quota does not hear of its success, as it does in a [`LimitLayer`](crate::LimitLayer).
     pub fn copying<G: Grants>(
         policy: Policy,
         budget: G,

@@ -4,7 +4,8 @@ use crate::clock::whole_millis;
 use crate::engine::{self, MAX_TICKETS, ON_BUDGET, ON_QUOTA};
 use crate::limits::budget::BudgetError;
 use crate::limits::quota::thousandths;
-use crate::storms::report::StormTotals;
+use crate::storms::population::MAX_SHARES;
+use crate::storms::report::StormReport;
 use crate::storms::storm::{within, Storm, StormError};
 use std::time::Duration;
 
@@ -18,10 +19,22 @@ pub struct Axis {
     pub(super) name: &'static str,
     /// The values in the engine's units.
     pub(super) values: Vec<u64>,
-    put: fn(engine::Storm, u64) -> engine::Storm,
-    /// What the engine's retries draw on where a storm has the parameter; `None` where each has it.
-    limit: Option<u64>,
+    place: Place,
     fault: Option<BudgetError>,
+}
+
+/// Puts a value among the parameters of a storm.
+type Put = fn(engine::Storm, u64) -> engine::Storm;
+
+/// Where a storm has the parameter.
+#[derive(Clone, Copy, Debug)]
+enum Place {
+    /// Among those of each storm.
+    Each(Put),
+    /// Among those of the limit, if the engine's retries draw on this.
+    Limit(u64, Put),
+    /// In the population that was added first, if there is any: its share.
+    Beside,
 }
 
 impl Axis {
@@ -91,21 +104,37 @@ impl Axis {
         Self::of_limit("budget", ON_BUDGET, values, |storm, value| engine::Storm { limit: value, ..storm })
     }
 
-    fn of(
-        name: &'static str,
-        values: impl IntoIterator<Item = u64>,
-        put: fn(engine::Storm, u64) -> engine::Storm,
-    ) -> Self {
-        Self { name, values: values.into_iter().collect(), put, limit: None, fault: None }
+    /// The share of the requests, 1 to 99 per cent, of the [`Population`](crate::Population) that was added first by
+    /// [`Storm::beside`], for the storms that have one. Those that were added later keep their shares, and the storm's
+    /// first population has the requests that all of them leave.
+    ///
+    /// Beside a quota, 20 per cent of the requests may come from clients without one; with 21 the peer never recovers:
+    ///
+    /// ```
+    /// use hikebox::{Axis, Measure, Policy, Population, Schedule, Storm, Sweep};
+    /// use std::time::Duration;
+    ///
+    /// let back_off = Schedule::exponential(Duration::from_millis(100), 2).cap(Duration::from_secs(10));
+    /// let policy = Policy::new(&(Schedule::recurs(8) & back_off.jittered(0.0..1.0)))?;
+    /// let storm = Storm::new(&policy).quota(10, 0.1, Duration::from_secs(1)).beside(Population::new(10, &policy));
+    /// let sweep = Sweep::along(Axis::beside([10, 20, 21])).line("a quota for the others", storm).play()?;
+    /// assert_eq!(sweep.numbers(Measure::Recovery), [[Some(0.0), Some(0.0), Some(f64::INFINITY)]]);
+    /// # Ok::<(), Box<dyn std::error::Error>>(())
+    /// ```
+    pub fn beside(values: impl IntoIterator<Item = u64>) -> Self {
+        Self::at("beside", Place::Beside, values)
     }
 
-    fn of_limit(
-        name: &'static str,
-        limit: u64,
-        values: impl IntoIterator<Item = u64>,
-        put: fn(engine::Storm, u64) -> engine::Storm,
-    ) -> Self {
-        Self { limit: Some(limit), ..Self::of(name, values, put) }
+    fn of(name: &'static str, values: impl IntoIterator<Item = u64>, put: Put) -> Self {
+        Self::at(name, Place::Each(put), values)
+    }
+
+    fn of_limit(name: &'static str, limit: u64, values: impl IntoIterator<Item = u64>, put: Put) -> Self {
+        Self::at(name, Place::Limit(limit, put), values)
+    }
+
+    fn at(name: &'static str, place: Place, values: impl IntoIterator<Item = u64>) -> Self {
+        Self { name, values: values.into_iter().collect(), place, fault: None }
     }
 
     /// The axis, where its values are such as a sweep takes them.
@@ -114,22 +143,39 @@ impl Axis {
             return Err(StormError::Tickets(fault));
         }
         within("values", self.values.len() as u64, 1, MAX_VALUES)?;
-        match self.limit {
-            Some(_) => self.values.iter().try_for_each(|value| within(self.name, *value, 0, MAX_TICKETS)),
-            None => Ok(()),
+        let all_within = |min, max| self.values.iter().try_for_each(|value| within(self.name, *value, min, max));
+        match self.place {
+            Place::Each(_) => Ok(()),
+            Place::Limit(..) => all_within(0, MAX_TICKETS),
+            Place::Beside => all_within(1, MAX_SHARES),
         }
     }
 
     /// Whether the parameter is one of this storm.
     pub(super) fn is_of(&self, storm: &Storm) -> bool {
-        self.limit.map_or(true, |limit| storm.parameters.draws_on == limit)
+        match self.place {
+            Place::Each(_) => true,
+            Place::Limit(limit, _) => storm.parameters.draws_on == limit,
+            Place::Beside => !storm.others.is_empty(),
+        }
+    }
+
+    /// The error of a sweep of which no storm has the parameter.
+    pub(super) fn is_of_none(&self) -> StormError {
+        match self.place {
+            Place::Beside => StormError::NoPopulation { parameter: self.name },
+            Place::Each(_) | Place::Limit(..) => StormError::NoLimit { parameter: self.name },
+        }
     }
 
     /// The storm with this value.
     pub(super) fn put(&self, storm: &Storm, value: u64) -> Storm {
         let mut storm = storm.clone();
         if self.is_of(&storm) {
-            storm.parameters = (self.put)(storm.parameters, value);
+            match self.place {
+                Place::Each(put) | Place::Limit(_, put) => storm.parameters = put(storm.parameters, value),
+                Place::Beside => storm.others[0].share = value,
+            }
         }
         storm
     }
@@ -143,7 +189,7 @@ impl Axis {
     }
 }
 
-/// A number of a storm that a [`Sweep`](crate::Sweep) compares.
+/// A number of a storm that a [`Sweep`](crate::Sweep) compares, of all its requests, whichever population's they are.
 #[derive(Clone, Copy, Debug, PartialEq, Eq, Hash)]
 #[non_exhaustive]
 pub enum Measure {
@@ -151,7 +197,8 @@ pub enum Measure {
     Succeeded,
     /// The calls for each request.
     Calls,
-    /// The seconds from the end of outage and brown-out until the peer recovered; infinite where it did not.
+    /// The seconds from the end of outage and brown-out until the peer recovered; infinite where it did not, and none
+    /// where no window begins after that end.
     Recovery,
     /// The time of the slowest success, in seconds.
     Slowest,
@@ -169,15 +216,26 @@ impl Measure {
         }
     }
 
+    /// The number in a table. A share is 0 or 100 only where it is that, and not by rounding.
+    pub(super) fn shown(self, number: f64) -> String {
+        match self {
+            Self::Succeeded if number > 0.0 && number < 100.0 => format!("{:.2}", number.clamp(0.01, 99.99)),
+            Self::Slowest => format!("{number:.3}"),
+            _ => format!("{number:.2}"),
+        }
+    }
+
     /// The number, where the storm has one.
-    pub(super) fn of(self, storm: &Storm, totals: &StormTotals) -> Option<f64> {
+    pub(super) fn of(self, storm: &Storm, report: &StormReport) -> Option<f64> {
+        let totals = &report.totals;
         match self {
             Self::Succeeded => (totals.requests > 0).then_some(100.0 * totals.won as f64 / totals.requests as f64),
             Self::Calls => Some(totals.calls_per_request()),
-            Self::Recovery => storm.well_from().map(|over| match totals.recovered {
+            Self::Recovery => storm.well_from().and_then(|over| match totals.recovered {
                 // (where a surge does no harm, no window is bad from the first on)
-                Some(recovered) => whole_millis(recovered).saturating_sub(over) as f64 / 1000.0,
-                None => f64::INFINITY,
+                Some(recovered) => Some(whole_millis(recovered).saturating_sub(over) as f64 / 1000.0),
+                // (if no window begins after the outage, a recovery would not show)
+                None => (whole_millis(report.windows.last()?.from) >= over).then_some(f64::INFINITY),
             }),
             Self::Slowest => totals.slowest.map(|slowest| whole_millis(slowest) as f64 / 1000.0),
         }

@@ -12,26 +12,29 @@ pub enum Goal {
     /// The greatest share of a quota, from 0 to 10,000 thousandths of a retry for each request. The quota has the
     /// reserve and the window of the storm's, or 10 and a second where it has none.
     Quota,
-    /// The most retries of a request, from 0 to 64.
+    /// The most retries of a request of the first population, from 0 to 64.
     Retries,
-    /// The least patience of the clients, from 1 to 60,000 milliseconds.
+    /// The least patience of the clients without a patience of their own, from 1 to 60,000 milliseconds.
     Patience,
 }
 
-/// A border that was looked for: with `value` the peer recovers, and with the next one it does not.
+/// A border that was looked for: with `value` the peer recovers, and with the next one it does not, unless `value` is
+/// the end of the range.
 #[derive(Clone, Debug, PartialEq, Eq)]
 #[non_exhaustive]
 pub struct Found {
     /// What was looked for.
     pub goal: Goal,
-    /// The last value with which the peer recovers, in the unit of the goal; `None` where it never does.
+    /// The last value with which the peer recovers, in the unit of the goal: the end of the range if it recovers at
+    /// both ends, so that no border was found. `None` if it does not even recover with the mildest value.
     pub value: Option<u64>,
     /// The values that were tried, in their order, and what the storm was with each.
     pub tried: Vec<(u64, StormReport)>,
 }
 
 impl Storm {
-    /// The border up to which the peer of this storm recovers, by bisection.
+    /// The border up to which the peer of this storm recovers before its requests end, by bisection. So it depends on
+    /// the storm's seconds.
     ///
     /// ```
     /// use hikebox::{Goal, Policy, Schedule, Storm};

@@ -2,12 +2,14 @@
 
 mod axis;
 mod border;
+mod population;
 mod report;
 mod storm;
 mod sweep;
 
 pub use axis::{Axis, Measure};
 pub use border::{Found, Goal};
-pub use report::{StormReport, StormTotals, StormWindow};
+pub use population::Population;
+pub use report::{PopulationReport, StormReport, StormTotals, StormWindow};
 pub use storm::{Storm, StormError};
 pub use sweep::{Sweep, SweepReport};

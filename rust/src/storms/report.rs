@@ -1,7 +1,7 @@
 //! What a storm was.
 
 use crate::clock::whole_millis;
-use crate::engine;
+use crate::engine::{self, ON_BREAKER, ON_BUCKET, ON_IN_FLIGHT, ON_THROTTLE};
 use std::fmt;
 use std::time::Duration;
 
@@ -10,6 +10,23 @@ use std::time::Duration;
 #[non_exhaustive]
 pub struct StormReport {
     /// The windows, from the first moment to that of the last event.
+    pub windows: Vec<StormWindow>,
+    /// The totals.
+    pub totals: StormTotals,
+    /// The reports on the requests of each population, first population first; empty where there is only one.
+    pub populations: Vec<PopulationReport>,
+    /// What the storm draws on.
+    pub(super) draws_on: u64,
+}
+
+/// What a storm was to the clients of one [`Population`](crate::Population): their requests and calls alone.
+#[derive(Clone, Debug, PartialEq, Eq)]
+#[non_exhaustive]
+pub struct PopulationReport {
+    /// Its share of the requests, in per cent.
+    pub share: u64,
+    /// The windows, from the first moment to that of its own last event. None tells of calls that wait, since these are
+    /// of all clients.
     pub windows: Vec<StormWindow>,
     /// The totals.
     pub totals: StormTotals,
@@ -49,15 +66,16 @@ pub struct StormTotals {
     pub won: u64,
     /// Those whose last call failed, and whose policy was done.
     pub lost: u64,
-    /// Those for which the policy went on, but there was no ticket.
+    /// Those for which the policy went on, but there was no ticket; and those that a limit refused before their first
+    /// call.
     pub denied: u64,
     /// Those that had not ended when the storm did.
     pub open: u64,
-    /// The requests and retries that began.
+    /// The first calls and retries that began. A request that a limit refused before its first call makes none.
     pub calls: u64,
     /// Calls for each request, in hundredths, to the nearest.
     pub hundredths: u64,
-    /// The most calls that began in a window.
+    /// The most calls that began in a window; requests that were denied their first call count as calls here.
     pub most_calls: u64,
     /// The first moment of the first such window.
     pub most_from: Duration,
@@ -140,6 +158,14 @@ impl StormTotals {
         format!("{{{}}}", members.join(","))
     }
 
+    /// How the requests ended, in words.
+    fn endings(&self, draws_on: u64) -> String {
+        let Self { requests, won, lost, denied, open, .. } = self;
+        let is_limit = matches!(draws_on, ON_BUCKET | ON_IN_FLIGHT | ON_BREAKER | ON_THROTTLE);
+        let denied = format!("{denied} denied{}", if is_limit { "" } else { " a retry" });
+        format!("{requests} requests: {won} won, {lost} lost, {denied}, {open} left open")
+    }
+
     /// Calls for each request, to the nearest hundredth.
     #[must_use]
     pub fn calls_per_request(&self) -> f64 {
@@ -151,21 +177,52 @@ impl StormReport {
     /// The windows as CSV with a line of names, as `zsched storm --csv` prints them.
     #[must_use]
     pub fn to_csv(&self) -> String {
-        let mut text = "from,requests,won,retries,succeeded,refused,shed,late,waiting\n".to_owned();
-        for window in &self.windows {
-            text += &listed(&window.numbers());
-            text.push('\n');
-        }
-        text
+        csv(&self.windows)
     }
 
-    /// The windows and the totals as JSON on one line, as `zsched storm --json` prints it.
+    /// The windows and the totals as JSON on one line, as `zsched storm --json` prints it, and where there are several
+    /// populations those of each.
     #[must_use]
     pub fn to_json(&self) -> String {
-        let window = |window: &StormWindow| format!("[{}]", listed(&window.numbers()));
-        let windows: Vec<String> = self.windows.iter().map(window).collect();
-        format!("{{\"windows\":[{}],\"totals\":{}}}", windows.join(","), self.totals.to_json())
+        let members = members(&self.windows, self.totals);
+        let populations: Vec<String> = self.populations.iter().map(PopulationReport::to_json).collect();
+        if populations.is_empty() {
+            format!("{{{members}}}")
+        } else {
+            format!("{{{members},\"populations\":[{}]}}", populations.join(","))
+        }
     }
+}
+
+impl PopulationReport {
+    /// The windows as CSV with a line of names, as [`StormReport::to_csv`] has those of all requests.
+    #[must_use]
+    pub fn to_csv(&self) -> String {
+        csv(&self.windows)
+    }
+
+    /// The share, the windows and the totals as JSON on one line, as [`StormReport::to_json`] has them.
+    #[must_use]
+    pub fn to_json(&self) -> String {
+        format!("{{\"share\":{},{}}}", self.share, members(&self.windows, self.totals))
+    }
+}
+
+/// Windows as CSV with a line of names.
+fn csv(windows: &[StormWindow]) -> String {
+    let mut text = "from,requests,won,retries,succeeded,refused,shed,late,waiting\n".to_owned();
+    for window in windows {
+        text += &listed(&window.numbers());
+        text.push('\n');
+    }
+    text
+}
+
+/// Windows and totals as members of an object.
+fn members(windows: &[StormWindow], totals: StormTotals) -> String {
+    let window = |window: &StormWindow| format!("[{}]", listed(&window.numbers()));
+    let windows: Vec<String> = windows.iter().map(window).collect();
+    format!("\"windows\":[{}],\"totals\":{}", windows.join(","), totals.to_json())
 }
 
 fn listed(numbers: &[u64]) -> String {
@@ -173,22 +230,23 @@ fn listed(numbers: &[u64]) -> String {
     texts.join(",")
 }
 
-/// The totals, in words.
+/// The totals, in words, and how the requests of each population ended.
 impl fmt::Display for StormReport {
     fn fmt(&self, f: &mut fmt::Formatter<'_>) -> fmt::Result {
-        let StormTotals { requests, won, lost, denied, open, calls, .. } = self.totals;
-        writeln!(f, "{requests} requests: {won} won, {lost} lost, {denied} denied a retry, {open} left open")?;
-        let most = self.totals.most_from;
-        write!(f, "{calls} calls, {:.2} for each request; ", self.totals.calls_per_request())?;
-        writeln!(f, "the most in a window {}, from {most:?} on", self.totals.most_calls)?;
+        let (from, most_calls) = (self.totals.most_from, self.totals.most_calls);
+        let denies_first_calls = matches!(self.draws_on, ON_BREAKER | ON_THROTTLE);
+        let most = if denies_first_calls { "the most requests and retries" } else { "the most" };
+        writeln!(f, "{}", self.totals.endings(self.draws_on))?;
+        write!(f, "{} calls, {:.2} for each request; ", self.totals.calls, self.totals.calls_per_request())?;
+        writeln!(f, "{most} in a window {most_calls}, from {from:?} on")?;
         match self.totals.recovered {
             Some(moment) => write!(f, "recovered from {moment:?} on")?,
             None => f.write_str("never recovered")?,
         }
         if self.totals.cut {
-            f.write_str("\ncut before one call more")
-        } else {
-            Ok(())
+            f.write_str("\ncut before one call more")?;
         }
+        let endings = |own: &PopulationReport| own.totals.endings(self.draws_on);
+        self.populations.iter().try_for_each(|own| write!(f, "\n{} %: {}", own.share, endings(own)))
     }
 }

@@ -3,17 +3,18 @@
 use crate::clock::whole_millis;
 use crate::engine::{self, Handle, PassKind, Phase, Status, ON_BUDGET, ON_NOTHING, ON_QUOTA};
 use crate::limits::budget::BudgetError;
-use crate::limits::call_limit::{thousandths, CallLimit, Terms as LimitTerms};
+use crate::limits::call_limit::{tokens as in_thousandths, CallLimit, Terms as LimitTerms};
 use crate::limits::quota::Terms;
 use crate::policy::Policy;
-use crate::storms::report::{StormReport, StormTotals, StormWindow};
+use crate::storms::population::{self, Population};
+use crate::storms::report::{PopulationReport, StormReport, StormTotals, StormWindow};
 use std::error::Error;
 use std::fmt;
 use std::mem;
 use std::ops::Range;
 use std::time::Duration;
 
-const HOUR: u64 = 3_600_000;
+pub(super) const HOUR: u64 = 3_600_000;
 const MAX_REQUESTS: u64 = 1_048_576;
 const MAX_WINDOWS: u64 = 65_536;
 /// The most spans with a rate of their own; each may have a phase before it.
@@ -23,7 +24,7 @@ const MAX_SPANS: u64 = 8;
 /// when thousands of calls fail together. No call is made and no time passes. Two storms with the same parameters are
 /// equal.
 ///
-/// By default, 800 requests a second come for a minute, to a peer that does 1,000 calls a second and is away from 10 to
+/// By default, 800 requests a second come for a minute, to a peer that does 1,000 calls a second and is down from 10 to
 /// 20 s. Under eight retries with full jitter that peer never recovers. Under a quota of a tenth it recovers at once:
 ///
 /// ```
@@ -46,17 +47,19 @@ pub struct Storm {
     pub(super) policy: Policy,
     pub(super) parameters: engine::Storm,
     until: Option<u64>,
-    /// How many replicas are away in the outage; `None` for all.
+    /// How many replicas are down in the outage; `None` for all.
     down: Option<u64>,
     /// The spans with a rate of their own.
     rates: Vec<(Range<u64>, u64)>,
+    /// The populations beside the first one.
+    pub(super) others: Vec<Population>,
     /// Whether there is a brown-out.
     is_slow: bool,
     /// Why what the retries draw on is no budget, or no quota.
     fault: Option<BudgetError>,
 }
 
-/// Why a storm, a sweep or a border is not played.
+/// Why a storm, a sweep or a border is not played. Its text is that of the error in it, so it has no source.
 #[derive(Clone, Copy, Debug, PartialEq, Eq, Hash)]
 #[non_exhaustive]
 pub enum StormError {
@@ -85,12 +88,22 @@ pub enum StormError {
     },
     /// The report would have more than 65,537 windows.
     TooManyWindows,
+    /// The populations beside the first one leave it none of a hundred requests.
+    SharesTooLarge {
+        /// Their shares together, in per cent.
+        got: u64,
+    },
     /// The limit of the budget, or a term of the quota, is out of range.
     Tickets(BudgetError),
     /// A sweep has no line.
     NoLine,
     /// A sweep is along a limit that none of its storms has.
     NoLimit {
+        /// The parameter of the sweep.
+        parameter: &'static str,
+    },
+    /// A sweep is along the share of a population beside the first one, which none of its storms has.
+    NoPopulation {
         /// The parameter of the sweep.
         parameter: &'static str,
     },
@@ -146,9 +159,13 @@ impl Storm {
             down: 0,
             phase_count: 0,
             phases: [Phase::default(); 16],
+            second: engine::Population::default(),
+            third: engine::Population::default(),
+            fourth: engine::Population::default(),
+            of: 0,
         };
-        let rates = Vec::new();
-        Self { policy: policy.clone(), parameters, until: None, down: None, rates, is_slow: false, fault: None }
+        let (policy, rates, others) = (policy.clone(), Vec::new(), Vec::new());
+        Self { policy, parameters, until: None, down: None, rates, others, is_slow: false, fault: None }
     }
 
     /// A herd: 10,000 clients lose one connection at one moment, and the peer takes 500 at a time.
@@ -208,13 +225,14 @@ impl Storm {
     }
 
     /// How long a client waits for an answer: a millisecond to an hour. The peer does the work of a call that was given
-    /// up all the same.
+    /// up all the same. The clients of a [`Population`] may have [another patience](Population::patience).
     pub fn patience(mut self, patience: Duration) -> Self {
         self.parameters.patience = whole_millis(patience);
         self
     }
 
-    /// The number of calls that can wait at the peer, or at each of its replicas: 0 to 1,048,576. It sheds further ones.
+    /// The number of calls that can wait at the peer, or at each of its replicas: 0 to 1,048,576. It sheds further
+    /// ones.
     pub fn queue(mut self, calls: u64) -> Self {
         self.parameters.queue = calls;
         self
@@ -275,6 +293,14 @@ impl Storm {
         self
     }
 
+    /// The storm with a population of clients more, beside those that it has: up to three times. The first population
+    /// has the policy and the patience of the storm, draws on what the storm has, and has the requests that the others
+    /// leave: at least one in a hundred.
+    pub fn beside(mut self, population: Population) -> Self {
+        self.others.push(population);
+        self
+    }
+
     /// The retries draw on a budget of this many tickets, at most 4,294,967,296.
     pub fn budget(mut self, limit: u64) -> Self {
         (self.parameters.draws_on, self.parameters.limit) = (ON_BUDGET, limit);
@@ -305,15 +331,16 @@ impl Storm {
     /// The tokens that a retry takes of a bucket after a call that its client gave up: the AWS SDKs take 10. Call it
     /// after [`limit`](Self::limit).
     pub fn late_cost(mut self, tokens: f64) -> Self {
-        match thousandths(tokens) {
-            Ok(cost) if cost <= self.parameters.bucket_capacity => self.parameters.late_cost = cost,
-            _ => self.fault = Some(BudgetError::OutOfRange),
+        match in_thousandths(tokens, self.parameters.bucket_capacity, "late_cost") {
+            Ok(cost) => self.parameters.late_cost = cost,
+            Err(fault) => self.fault = Some(fault),
         }
         self
     }
 
     /// Plays the storm. Some millions of calls take a second. It takes much memory only if a million requests are under
-    /// way at once.
+    /// way at once. A storm of several populations is played once for the report on all requests, and once for that on
+    /// each population.
     ///
     /// # Errors
     ///
@@ -321,10 +348,25 @@ impl Storm {
     pub fn play(&self) -> Result<StormReport, StormError> {
         let storm = self.checked()?;
         let mut policy = self.policy.share().map_err(StormError::of)?;
+        let others = self.others.iter().map(|population| population.policy.share()).collect::<Result<Vec<_>, _>>();
+        let mut others = others.map_err(StormError::of)?;
         let room = usize::try_from(storm.until / storm.window + 1).map_err(|_| StormError::NoMemory)?;
-        let (windows, totals) = policy.play(&storm, room).map_err(StormError::of)?;
-        let windows = windows.into_iter().map(StormWindow::of).collect();
-        Ok(StormReport { windows, totals: StormTotals::of(&totals) })
+        let mut play = |of| {
+            let played = policy.play(&mut others, &engine::Storm { of, ..storm }, room).map_err(StormError::of);
+            let windows = |found: Vec<_>| found.into_iter().map(StormWindow::of).collect();
+            played.map(|(found, totals)| (windows(found), StormTotals::of(&totals)))
+        };
+        let (windows, totals) = play(0)?;
+        let report = |(share, of)| play(of).map(|(windows, totals)| PopulationReport { share, windows, totals });
+        let populations =
+            population::shares(&self.others).into_iter().zip(1..).map(report).collect::<Result<_, _>>()?;
+        Ok(StormReport { windows, totals, populations, draws_on: storm.draws_on })
+    }
+
+    /// The JSON of its policies, that of the first population first.
+    pub(super) fn policies(&self) -> Vec<&str> {
+        let others = self.others.iter().map(|population| population.policy.as_json());
+        std::iter::once(self.policy.as_json()).chain(others).collect()
     }
 
     /// From when on the peer is well again and no surge comes, in milliseconds; `None` where there is no outage, no
@@ -371,7 +413,8 @@ impl Storm {
         let until = self.until.unwrap_or_else(|| self.parameters.seconds.saturating_mul(1000).saturating_add(60_000));
         let down = self.down.unwrap_or(self.parameters.replicas);
         let (phase_count, phases) = self.phases()?;
-        let storm = engine::Storm { until, down, phase_count, phases, ..self.parameters };
+        let [second, third, fourth] = population::told(&self.others, self.parameters.patience)?;
+        let storm = engine::Storm { until, down, phase_count, phases, second, third, fourth, ..self.parameters };
         within("rate", storm.rate, 1, 1_000_000)?;
         within("together", storm.together, 1, 1_000_000)?;
         within("seconds", storm.seconds, 1, 3600)?;
@@ -453,10 +496,16 @@ impl fmt::Display for StormError {
                 write!(f, "{parameter}: expected spans in their order, got one that begins before another ends")
             }
             Self::TooManyWindows => f.write_str("expected at most 65537 windows, got more: until divided by window"),
+            Self::SharesTooLarge { got } => {
+                write!(f, "expected populations beside the first one of at most 99 per cent in all, got {got}")
+            }
             Self::Tickets(error) => error.fmt(f),
             Self::NoLine => f.write_str("expected a line of the sweep, got none"),
             Self::NoLimit { parameter } => {
                 write!(f, "{parameter}: expected a storm with a limit that has it, got none")
+            }
+            Self::NoPopulation { parameter } => {
+                write!(f, "{parameter}: expected a storm with a population beside the first one, got none")
             }
             Self::NothingToRecoverFrom => {
                 f.write_str("expected a storm with an outage, a brown-out or a surge, got none")
@@ -469,11 +518,4 @@ impl fmt::Display for StormError {
     }
 }
 
-impl Error for StormError {
-    fn source(&self) -> Option<&(dyn Error + 'static)> {
-        match self {
-            Self::Tickets(error) => Some(error),
-            _ => None,
-        }
-    }
-}
+impl Error for StormError {}

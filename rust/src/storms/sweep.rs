@@ -77,7 +77,7 @@ impl Sweep {
             return Err(StormError::NoLine);
         }
         if !lines.iter().any(|(_, storm)| axis.is_of(storm)) {
-            return Err(StormError::NoLimit { parameter: axis.name });
+            return Err(axis.is_of_none());
         }
         let put = |storm: &Storm| axis.values.iter().map(|value| axis.put(storm, *value)).collect::<Vec<_>>();
         let storms: Vec<Storm> = lines.iter().flat_map(|(_, storm)| put(storm)).collect();
@@ -98,7 +98,8 @@ impl SweepReport {
         self.axis.name
     }
 
-    /// The values of the parameter: whole numbers, milliseconds, or thousandths of a share.
+    /// The values of the parameter: whole numbers, milliseconds, thousandths of a quota's share, or per cent of the
+    /// requests.
     #[must_use]
     pub fn values(&self) -> &[u64] {
         &self.axis.values
@@ -116,14 +117,15 @@ impl SweepReport {
         self.lines.iter().map(|line| line.numbers(&self.axis, measure)).collect()
     }
 
-    /// A table of a measure: a row for each value, and a column for each line.
+    /// A table of a measure: a row for each value, and a column for each line. A storm that was cut is marked.
     #[must_use]
     pub fn table(&self, measure: Measure) -> String {
         let mut columns = vec![vec![self.axis.name.to_owned()]];
         columns[0].extend(self.axis.values.iter().map(|value| self.axis.shown(*value)));
         for line in &self.lines {
             let mut column = vec![line.name.clone()];
-            column.extend(line.numbers(&self.axis, measure).into_iter().map(cell));
+            let numbers = line.numbers(&self.axis, measure).into_iter().zip(&line.reports);
+            column.extend(numbers.map(|(number, report)| cell(measure, number, report)));
             columns.push(column);
         }
         let widths: Vec<usize> = columns.iter().map(|column| width_of(column)).collect();
@@ -137,7 +139,7 @@ impl SweepReport {
         text
     }
 
-    /// A row for each storm as CSV with a line of names: the value as `zsched` takes it (milliseconds, and per cent of
+    /// A row for each storm as CSV with a line of names: the value as `zsched` takes it (milliseconds, and per cent for
     /// a share), the line's name, and the totals.
     #[must_use]
     pub fn to_csv(&self) -> String {
@@ -165,7 +167,7 @@ impl SweepReport {
 
 impl Line {
     fn numbers(&self, axis: &Axis, measure: Measure) -> Vec<Option<f64>> {
-        let number = |(value, report): (&u64, &StormReport)| measure.of(&axis.put(&self.storm, *value), &report.totals);
+        let number = |(value, report): (&u64, &StormReport)| measure.of(&axis.put(&self.storm, *value), report);
         axis.values.iter().zip(&self.reports).map(number).collect()
     }
 
@@ -189,7 +191,7 @@ fn play_all(storms: &[Storm]) -> Result<Vec<StormReport>, StormError> {
     let mut distinct = Vec::new();
     let mut place_of = Vec::new();
     for storm in storms {
-        let place = *places.entry((storm.policy.as_json(), storm.checked()?)).or_insert_with(|| {
+        let place = *places.entry((storm.policies(), storm.checked()?)).or_insert_with(|| {
             distinct.push(storm);
             distinct.len() - 1
         });
@@ -214,12 +216,13 @@ fn play_all(storms: &[Storm]) -> Result<Vec<StormReport>, StormError> {
     Ok(place_of.into_iter().filter_map(|place| reports[place].clone()).collect())
 }
 
-fn cell(number: Option<f64>) -> String {
-    match number {
+fn cell(measure: Measure, number: Option<f64>, report: &StormReport) -> String {
+    let shown = match number {
         None => "-".to_owned(),
         Some(number) if number.is_infinite() => "never".to_owned(),
-        Some(number) => format!("{number:.2}"),
-    }
+        Some(number) => measure.shown(number),
+    };
+    shown + if report.totals.cut { " cut" } else { "" }
 }
 
 fn width_of(column: &[String]) -> usize {

@@ -1,10 +1,11 @@
 //! What several tests use.
 #![allow(dead_code, unused_macros)]
 
-use hikebox::{retry, Grants, NoTicket, Policy, RetryError, Ticket};
+use hikebox::{retry, Grants, NoTicket, Policy, RetryError, Ticket, Usage};
 use std::io::{BufRead, BufReader};
 use std::path::{Path, PathBuf};
 use std::process::{Child, Command, Stdio};
+use std::time::Duration;
 use std::{env, fs};
 
 /// A folder of a test's own, which is taken away in the end.
@@ -53,6 +54,12 @@ pub fn keeper_of(path: &Path) -> Child {
     BufReader::new(keeper.stdout.take().unwrap()).read_line(&mut line).unwrap();
     assert_eq!(line, "locked\n");
     keeper
+}
+
+/// The counts of a window, one after another: its number, the requests, the tickets given and left, and its end.
+pub fn counts(usage: Usage) -> (u64, u64, u64, u64, Duration) {
+    let Usage { window, asked, given, left, next, .. } = usage;
+    (window, asked, given, left, next)
 }
 
 /// What a retry of this call gives that fails once and then succeeds: the number of its runs.
