@@ -14,8 +14,8 @@ _hikebox_options() {
     storm)
       echo --scenario:scenario --rate:text --rates:text --together:text --seconds:text --capacity:text --patience:text \
         --queue:text --replicas:text --down:text --window:text --until:text --calls:text --words:text --outage:text \
-        --slow:text --budget:text --quota:text --limit:text --open:file --without --sweep:text \
-        --measure:succeeded,calls,recovery,slowest --find:quota,retries,patience --compare:file --csv --json \
+        --slow:text --beside:text --budget:text --quota:text --limit:text --open:file --without --sweep:text \
+        --measure:succeeded,calls,recovery,slowest --find:quota,retries,patience,beside --compare:file --csv --json \
         --svg:file --bars --width:text --detail --title:text --name:text
       ;;
     lab) echo --port:text --no-browser ;;

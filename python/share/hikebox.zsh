@@ -48,7 +48,7 @@ case $state in
           '(--inputs)--input[the code of each failure]:number:' \
           '(--input)--inputs[the codes of the failures, in turn]:numbers, as 503,404:' \
           '(--words)--word[each random word]:number:' \
-          '(--word)--words[other random words, by a seed]:seed:' \
+          '(--word)--words[different random words, from this seed]:seed:' \
           '*:policy:_files'
         ;;
       check) _arguments -S '(- *)'{-h,--help}'[print help]' '1:policy:_files' ;;
@@ -59,7 +59,7 @@ case $state in
           '--rates[spans with a rate of their own]:FROM..TO@N,..:' \
           '--together[requests that come at one moment]:number:' \
           '--seconds[for how many seconds requests come]:number:' \
-          '--capacity[calls that each replica of the peer can do in a second]:number:' \
+          '--capacity[calls that each replica of the peer can serve in a second]:number:' \
           '--patience[when a client gives a call up]:milliseconds:' \
           '--queue[calls of work that may stand at each replica of the peer]:number:' \
           '--replicas[how many replicas the peer is]:number:' \
@@ -70,6 +70,7 @@ case $state in
           '--words[the seed of the random words]:seed:' \
           '--outage[when the peer refuses all calls]:FROM..TO:' \
           '--slow[when the peer works at a part of its capacity]:FROM..TO@PERCENT:' \
+          '*--beside[clients with a share of the requests and a policy of their own]:PERCENT[@PATIENCE][+limited]=POLICY:' \
           '*--budget[at most so many retries of all requests]:number:' \
           '*--quota[so many retries in each period, and a share of the requests]:RESERVE/SHARE%/PERIOD:' \
           '*--limit[a limit that requests ask before their first call too]:LIMIT:' \
@@ -77,7 +78,7 @@ case $state in
           '--without[play each policy without a limit, too]' \
           '--sweep[play the storms for each value of a parameter]:NAME=VALUES, as rate=200..1600/8:' \
           '*--measure[what a sweep tells]:measure:(succeeded calls recovery slowest)' \
-          '--find[the limit with which the peer recovers]:limit:(quota retries patience)' \
+          '--find[the limit with which the peer recovers]:limit:(quota retries patience beside)' \
           '*--compare[play this policy too]:policy:_files' \
           '(--json --svg --bars)--csv[print the lines as comma-separated values]' \
           '(--csv --svg --bars)--json[print the lines and totals as JSON]' \

@@ -25,6 +25,8 @@ class Answer:
     #: Whether the body has no length, and whether the connection is reset in place of an answer.
     is_chunked: bool = False
     resets: bool = False
+    #: What is sent in place of an answer, and then the connection is closed.
+    raw: bytes = b""
 
 
 class Server(ThreadingHTTPServer):
@@ -82,6 +84,7 @@ class Handler(BaseHTTPRequestHandler):
         number = len(self.server.requests)
         time.sleep(answer.after)
         if answer.status == 0:
+            self.wfile.write(answer.raw)
             self._cuts(answer.resets)
         else:
             self._sends(answer, f"answer {number}".encode() if answer.body is None else answer.body)

@@ -14,7 +14,7 @@ import pytest
 
 from draws import drawn_by, number
 from processes import in_a_forked_child
-from hikebox import Budget, BudgetClosed, BudgetError, BudgetInUse, RetryState, Retrying, recurs
+from hikebox import Budget, BudgetClosed, BudgetError, BudgetInUse, Policy, RetryState, Retrying, recurs, spaced
 
 
 def granted_and_ending(state: RetryState) -> Tuple[int, str]:
@@ -249,6 +249,33 @@ def test_a_closed_budget_says_so_alone() -> None:
 def test_it_can_not_be_pickled() -> None:
     with pytest.raises(TypeError, match="belongs to its process"):
         pickle.dumps(Budget(5))
+
+
+def test_a_child_that_is_forked_while_a_thread_reads_a_policy_waits_for_no_lock(monkeypatch: Any) -> None:
+    reads, is_read, is_forked = vars(Policy)["reads"], threading.Event(), threading.Event()
+
+    def slowly(policy: Policy) -> Any:
+        is_read.set()
+        assert is_forked.wait(60)
+        return reads.fget(policy)
+
+    def fails() -> None:
+        Retrying(recurs(2) & spaced(0.001).jittered(), fallback=lambda state: None)(int, "no number")
+
+    def fails_in_the_child() -> None:
+        monkeypatch.undo()
+        signal.alarm(30)
+        fails()
+
+    monkeypatch.setattr(Policy, "reads", property(slowly))
+    thread = threading.Thread(target=fails)
+    thread.start()
+    try:
+        assert is_read.wait(60)
+        in_a_forked_child(fails_in_the_child)
+    finally:
+        is_forked.set()
+        thread.join()
 
 
 def test_policies_and_retries_go_on_in_a_forked_child() -> None:

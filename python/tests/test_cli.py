@@ -154,8 +154,22 @@ def test_a_budget(tmp_path: Path) -> None:
     for _ in range(3):
         assert hikebox("run", "--budget", shared, "--policy", "recurs(3)", "--", *command)[0] == 7
     assert runs(tmp_path) == 3 + 3 + 4
-    assert "the budget had no ticket" in hikebox("run", "-v", "--budget", "0", "--", "false")[2]
+    assert "the budget refused a retry" in hikebox("run", "-v", "--budget", "0", "--", "false")[2]
     assert hikebox("run", "--budget", "x", "--", "false")[0] == 2
+
+
+@pytest.mark.parametrize("limit", [["--budget", "1"], ["--quota", "1/0%/1000000s"], ["--limit", "bucket:1/0/1/1/0/0"]])
+def test_a_folder_at_home(limit: List[str], tmp_path: Path, monkeypatch: pytest.MonkeyPatch) -> None:
+    # (a shell expands no ~ behind an @)
+    monkeypatch.setenv("HOME", str(tmp_path / "home"))
+    command = counting(tmp_path, "exit 7")
+    for name in ("here", "there"):
+        (tmp_path / name).mkdir()
+        words = ["run", limit[0], f"{limit[1]}@~/limits", "--policy", "recurs(3)", "--", *command]
+        assert hikebox(*words, cwd=tmp_path / name)[0] == 7
+    # both runs have the one ticket, of the folder at home
+    assert runs(tmp_path) == 3
+    assert (tmp_path / "home" / "limits").is_dir() and not any((tmp_path / "here").iterdir())
 
 
 def test_a_quota_over_all_runs(tmp_path: Path) -> None:
@@ -168,7 +182,7 @@ def test_a_quota_over_all_runs(tmp_path: Path) -> None:
     for _ in range(2):
         assert hikebox(*words, "true")[0] == 0
     # four runs give two tickets beside the one that was drawn
-    assert "the budget had no ticket" in hikebox(*words, *command)[2]
+    assert "the budget refused a retry" in hikebox(*words, *command)[2]
     assert runs(tmp_path) == 2 + 3
     damaged = tmp_path / "damaged"
     damaged.write_text("something else")
@@ -255,6 +269,15 @@ def test_an_ignored_signal_stays_ignored() -> None:
     assert done.returncode == 0
 
 
+def test_a_command_is_awaited_though_whoever_starts_hikebox_awaits_none() -> None:
+    words = [sys.executable, "-m", "hikebox", "run", "--policy", "recurs(1)", "--", "sh", "-c", "echo run; exit 7"]
+    ignores = "import os, signal, sys; signal.signal(signal.SIGCHLD, signal.SIG_IGN); "
+    ignores += "os.execv(sys.argv[1], sys.argv[1:])"
+    command = [sys.executable, "-c", ignores, *words]
+    done = subprocess.run(command, capture_output=True, text=True, env=python_environment(), timeout=20)
+    assert (done.returncode, done.stdout, done.stderr) == (7, "run\nrun\n", "")
+
+
 def test_the_command_has_the_signals_that_it_would_have() -> None:
     masks = "awk '/^Sig(Blk|Ign)/ {print $2}' /proc/self/status"
     plain = subprocess.run(["sh", "-c", masks], capture_output=True, text=True).stdout
@@ -314,7 +337,16 @@ def test_faults(tmp_path: Path) -> None:
     for words in lines:
         assert hikebox(*words)[0] == 2
     assert hikebox("run", "--policy", "recurs(", "--", "true")[0] == 3
-    assert hikebox("run", "--timeout", "0", "--", "true")[0] == 2
+    for seconds in ("0", "-1", "1e9", "nan", "1 s"):
+        status, _, errors = hikebox("run", "--timeout", seconds, "--", "true")
+        assert status == 2
+        assert errors.endswith(f"expected seconds, more than 0 and less than 1000000000, got {seconds!r}\n")
+
+
+def test_words_that_are_empty() -> None:
+    assert hikebox("run", "--", "") == (2, "", "hikebox: run: expected a command, got ''\n")
+    for words in (["run", "--policy", "", "--", "true"], ["plan", ""], ["check", ""], ["storm", ""]):
+        assert hikebox(*words) == (2, "", "hikebox: expected a policy, got ''\n")
 
 
 def test_check_says_what_a_policy_is() -> None:

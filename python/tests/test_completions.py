@@ -80,7 +80,10 @@ def test_the_completions_of_bash() -> None:
         # what takes a value is followed by no option
         after = offered(*(f"hikebox {command} {word} -" for word in known))
         assert ["--help" not in found.split() for found in after] == list(known.values()), command
-    assert offered("hikebox storm --scenario = her", "hikebox storm --find ''") == ["herd", "quota retries patience"]
+    assert offered("hikebox storm --scenario = her", "hikebox storm --find ''") == [
+        "herd",
+        "quota retries patience beside",
+    ]
     for command, word, choices in CHOICES:
         assert offered(f"hikebox {command} {word} ''") == [" ".join(choices)]
     [scenarios] = offered("hikebox storm --scenario ''")

@@ -7,7 +7,7 @@ import random
 import threading
 import time
 from datetime import timedelta
-from typing import Any, List, Optional, Tuple
+from typing import Any, AsyncIterator, Iterator, List, Optional, Tuple
 
 import pytest
 import reference
@@ -431,6 +431,39 @@ def test_tasks_and_threads_have_deadlines_of_their_own() -> None:
 
     Retrying(recurs(0), deadline=10)(starts_a_thread)
     assert seen[-1] == (0, True)
+
+
+def test_generators_leave_no_deadline_behind() -> None:
+    def rows(deadline: int) -> Iterator[Optional[float]]:
+        for attempt in Retrying(recurs(1), deadline=deadline):
+            with attempt:
+                yield seconds_left()
+
+    for _ in zip(rows(5), rows(3)):
+        assert seconds_left() is not None
+    assert seconds_left() is None
+
+    async def rows_later() -> AsyncIterator[int]:
+        async for attempt in AsyncRetrying(recurs(3), deadline=5):
+            with attempt:
+                yield attempt.number
+                raise ConnectionError()
+
+    async def leaves() -> Optional[float]:
+        async for _ in rows_later():
+            break
+        await asyncio.sleep(0.01)  # (the loop closes what was left, in a task of its own)
+        return seconds_left()
+
+    async def goes_on_in_tasks() -> Tuple[int, bool]:
+        row = rows_later()
+        await row.__anext__()
+        await asyncio.wait_for(row.__anext__(), 10)
+        number = await row.__anext__()
+        return number, 0 < (seconds_left() or 0) <= 5
+
+    assert asyncio.run(leaves()) is None
+    assert asyncio.run(goes_on_in_tasks()) == (3, True)
 
 
 def test_a_sleep_that_takes_no_time_uses_it_up(clock: VirtualClock) -> None:

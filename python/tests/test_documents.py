@@ -2,6 +2,7 @@
 
 from __future__ import annotations
 
+import codeop
 import contextlib
 import io
 import os
@@ -14,6 +15,7 @@ from typing import Any, Dict, List, Optional, Tuple
 
 import pytest
 from conftest import TOP, python_environment
+from hikebox import Policy
 
 #: Libraries that are no package of Debian 12: their blocks are run where they are installed, and else read.
 NOT_DEBIANS = ["opentelemetry"]
@@ -73,6 +75,22 @@ def test_each_block_does_what_the_page_says(page: str, tmp_path: Path, monkeypat
     assert ran
 
 
+@pytest.mark.parametrize("page", [*PAGES, "README.md"])
+def test_each_block_can_be_pasted_into_a_session(page: str) -> None:
+    for kind, text, line in blocks(page):
+        if kind != "python":
+            continue
+        begun: List[str] = []
+        for number, typed in enumerate([*text.splitlines(), ""], line):
+            begun.append(typed)
+            try:
+                if codeop.compile_command("\n".join(begun), symbol="single") is not None:
+                    begun = []
+            except SyntaxError as error:
+                raise AssertionError(f"{page}:{number}: {typed!r} ends no statement in a session: {error}") from None
+        assert not begun, f"{page}:{line}"
+
+
 def test_the_first_lines_of_the_readme_work(tmp_path: Path, monkeypatch: Any) -> None:
     monkeypatch.chdir(TOP)
     (python,) = [text for kind, text, _ in blocks("README.md") if kind == "python"]
@@ -87,6 +105,36 @@ def test_the_first_lines_of_the_readme_work(tmp_path: Path, monkeypatch: Any) ->
     )
     (slot,) = (tmp_path / "retries").glob("*/*")
     assert b"quota of 60000 ms of run" in slot.read_bytes()
+
+
+def test_the_line_for_one_test_selects_a_test() -> None:
+    page = (TOP / "docs/TESTING.md").read_text()
+    ((file, word),) = re.findall(r"pytest -q (tests/\S+) -k (\w+)", page)
+    assert re.search(rf"^def test_\w*{word}", (TOP / "python" / file).read_text(), flags=re.M), f"{file} -k {word}"
+
+
+def test_the_cookbook_begins_with_the_expressions_of_its_policies() -> None:
+    page = (TOP / "docs/COOKBOOK.md").read_text()
+    sections = re.split(r"^##+ (.*)$", page, flags=re.M)[1:]
+    below = [
+        (heading.lower().replace(" ", "-"), Policy.from_json(text))
+        for heading, section in zip(sections[::2], sections[1::2])
+        for text in re.findall(r"^```json\n(.*?)\n```$", section, flags=re.M)
+    ]
+    rows = re.findall(r"^\| \[.*\]\(#(.*)\) \| `(.*)` \|$", page, flags=re.M)
+    assert [(anchor, Policy.parse(expression)) for anchor, expression in rows] == below and len(rows) == 13
+
+
+def test_the_page_on_tests_names_each_file_of_tests() -> None:
+    page = (TOP / "docs/TESTING.md").read_text()
+    tables = re.split(r"^### ", page, flags=re.M)
+    for title, files in (
+        ("The Python package", [file.stem[len("test_") :] for file in (TOP / "python/tests").glob("test_*.py")]),
+        ("The Rust crate", [file.stem for file in (TOP / "rust/tests").glob("*.rs")]),
+    ):
+        (table,) = [text for text in tables if text.startswith(f"{title}\n")]
+        firsts = [line.split(" | ")[0] for line in table.splitlines() if line.startswith("| `")]
+        assert sorted(re.findall(r"`(\w+)`", " ".join(firsts))) == sorted(files), title
 
 
 def test_every_public_name_is_on_a_page() -> None:

@@ -61,6 +61,7 @@ CTYPES: Dict[str, Any] = {
     "uint64_t[64]": c_uint64 * 64,
     "bool": ctypes.c_bool,
     "hikebox_phase[16]": structs.Phase * 16,
+    "hikebox_population": structs.Population,
 }
 
 
@@ -89,7 +90,7 @@ def test_the_signatures_are_those_of_the_header() -> None:
 
 def fields(body: str) -> List[Tuple[str, str]]:
     """The type and the name of each field of a struct."""
-    found = re.findall(r"(size_t|uint64_t|uint32_t|bool|hikebox_phase) (\w+)(\[\d+\])?;", body)
+    found = re.findall(r"(size_t|uint64_t|uint32_t|bool|hikebox_phase|hikebox_population) (\w+)(\[\d+\])?;", body)
     return [(word + count, name) for word, name, count in found]
 
 
@@ -104,6 +105,7 @@ def test_the_structures_are_those_of_the_header() -> None:
     kinds.update({"window": structs.Window, "totals": structs.Totals})
     kinds.update({"stored": structs.Stored, "asking": structs.Asking, "range": structs.Range})
     kinds.update({"ticket": structs.LeasedTicket, "grant": structs.Grant, "phase": structs.Phase})
+    kinds.update({"population": structs.Population})
     kinds.update({"told": structs.Told, "kept": structs.Kept, "request": structs.HeldRequest})
     for name, kind in kinds.items():
         assert [(field, CTYPES[word]) for word, field in found[f"hikebox_{name}"]] == list(kind._fields_)

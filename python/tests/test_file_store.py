@@ -2,6 +2,7 @@
 
 from __future__ import annotations
 
+import math
 import os
 import re
 import shutil
@@ -215,6 +216,10 @@ def test_a_folder_or_a_pipe_in_its_place(tmp_path: Path) -> None:
     os.mkfifo(path)
     with pytest.raises(StoreError):
         take(store)
+    path.unlink()
+    path.symlink_to(tmp_path / "nowhere")
+    with pytest.raises(StoreLost, match="expected a slot, got a link to nothing"):
+        take(store)
 
 
 def test_counts_near_the_end_of_their_range(tmp_path: Path) -> None:
@@ -255,6 +260,14 @@ def test_counts_of_another_start_of_the_machine_and_of_a_later_window(tmp_path: 
     assert LeasedQuota(store, "a", 9, 0, LONG).seen() == Usage(number, 0, 0, 0, lost=True)
     path.write_bytes(2 * copy_of(key, 1, number + 1, 9, 5, b"another-" + boot_id()[8:]))
     assert LeasedQuota(store, "a", 9, 0, LONG).seen() == Usage(number, 0, 0, 9)
+
+
+def test_a_machine_that_does_not_tell_its_start_has_no_windows(tmp_path: Path, monkeypatch: Any) -> None:
+    store = FileStore(tmp_path / "counts")
+    monkeypatch.setattr("hikebox.leased.file_store._BOOT_ID", "/proc/no/boot")
+    with pytest.raises(StoreError, match="^/proc/no/boot: No such file or directory$"):
+        take_of_window(store, "a")
+    assert take(store).tickets == 1
 
 
 def test_the_count_of_a_budget_without_windows_goes_on_after_a_start(tmp_path: Path) -> None:
@@ -314,8 +327,13 @@ def test_a_file_in_the_place_of_the_folder_is_refused(tmp_path: Path) -> None:
     says = re.escape(f"{path}: expected a folder, got a file. Counts are kept in a folder now; name another path.")
     with pytest.raises(StoreError, match=f"^{says}$"):
         FileStore(path)
-    with pytest.raises(StoreError, match="expected the path of a folder, got an empty one"):
-        FileStore("")
+    for wrong, told in (("", "the path of a folder"), ("a\0b", "without a null byte"), ("a\ud800", "can encode")):
+        with pytest.raises(StoreError, match=f"expected .*{told}.*, got"):
+            FileStore(wrong)
+    with pytest.raises(TypeError, match="patience: expected a number of seconds, got '1'"):
+        FileStore(path.parent, patience="1")  # type: ignore[arg-type]
+    with pytest.raises(TermsError, match="patience: expected 0 seconds or more, and not for ever, got nan"):
+        FileStore(path.parent, patience=math.nan)
     path.unlink()
     store = FileStore(path)
     assert take(store) == Range(0, 1, None)
@@ -334,6 +352,25 @@ def test_a_folder_that_can_not_be_made(tmp_path: Path) -> None:
     os.symlink(tmp_path / "nowhere" / "at all", tmp_path / "dangling")
     with pytest.raises(StoreError):
         take(FileStore(tmp_path / "dangling"))
+
+
+def test_a_process_that_changes_its_directory_keeps_the_folder(tmp_path: Path, monkeypatch: Any) -> None:
+    (tmp_path / "elsewhere").mkdir()
+    monkeypatch.chdir(tmp_path)
+    leased = Leased(FileStore("counts"), "a", limit=3, lease=1)
+    assert number(leased.draw()) == 0
+    monkeypatch.chdir("elsewhere")
+    assert [number(leased.draw()) for _ in range(3)] == [1, 2, None]
+    assert os.listdir() == []
+
+
+def test_a_relative_path_where_the_present_directory_is_gone(tmp_path: Path, monkeypatch: Any) -> None:
+    (tmp_path / "gone").mkdir()
+    monkeypatch.chdir(tmp_path / "gone")
+    (tmp_path / "gone").rmdir()
+    with pytest.raises(StoreError, match="^counts: the current directory can't be read: No such file or directory$"):
+        FileStore("counts")
+    assert take(FileStore(tmp_path / "counts")).tickets == 1
 
 
 def test_a_removed_folder_is_made_again_and_leases_go_on(tmp_path: Path) -> None:

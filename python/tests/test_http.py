@@ -290,6 +290,8 @@ def test_what_headers_ask_for() -> None:
     assert parse_retry_after("-7") is None and parse_retry_after("1.5") is None and parse_retry_after("²") is None
     assert parse_retry_after("Thu, 01 Jan 1970 00:01:40 GMT", now=lambda: 200) == 0
     assert parse_retry_after("Thu, 01 Jan 1970 00:01:40", now=lambda: 40) == 60
+    for year, hour, zone in (("9" * 20, "00", "GMT"), ("1970", "9" * 20, "GMT"), ("1970", "00", "-" + "9" * 20)):
+        assert parse_retry_after(f"Thu, 01 Jan {year} {hour}:00:00 {zone}") is None
     error = urllib.error.HTTPError("http://x", 503, "busy", {"Retry-After": "7"}, None)  # type: ignore[arg-type]
     assert retry_after(error) == 7
     response = requests.Response()

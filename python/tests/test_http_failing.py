@@ -5,13 +5,14 @@ from __future__ import annotations
 import asyncio
 import email.utils
 import pickle
+import threading
 import time
 from typing import Any, Callable, Dict, Iterator, List, NamedTuple, Tuple
 
 import pytest
 from http_server import Answer, Server
 
-from hikebox import Budget, Quota, forever, recurs, retry, spaced
+from hikebox import Breaker, Budget, InFlight, NotAdmitted, Quota, RefusalReason, forever, recurs, retry, spaced
 
 urllib3 = pytest.importorskip("urllib3")
 requests = pytest.importorskip("requests")
@@ -22,6 +23,7 @@ from hikebox.adapters.aiohttp import PolicySession  # noqa: E402
 from hikebox.adapters.httpx import AsyncPolicyTransport, PolicyTransport  # noqa: E402
 from hikebox.adapters.requests import PolicyAdapter  # noqa: E402
 from hikebox.adapters.urllib3 import PolicyRetry  # noqa: E402
+from hikebox.testing import VirtualClock  # noqa: E402
 
 #: A status, and a body.
 Got = Tuple[int, bytes]
@@ -99,10 +101,21 @@ TIMED = pytest.mark.parametrize("kind", KINDS[1:])
 CUT = Answer(200, body=b"x" * 100, sends=40)
 CUT_CHUNK = Answer(200, body=b"x" * 100, sends=40, is_chunked=True)
 RESET = Answer(0, resets=True)
+NO_HTTP = Answer(0, raw=b"SSH-2.0-OpenSSH_9.2\r\n\r\n")
+TOO_LONG = Answer(0, raw=b"HTTP/1.1 200 OK\r\nX: " + b"x" * 200_000 + b"\r\n\r\n")
 FAILURES = pytest.mark.parametrize(
     "failures",
-    [[503, 502], [429, 504, 503], [0, 0], [RESET, RESET], [CUT], [CUT, 503, 0], [(503, {"Retry-After": "0"})]],
-    ids=["statuses", "more statuses", "closed", "reset", "cut", "mixed", "retry-after"],
+    [
+        [503, 502],
+        [429, 504, 503],
+        [0, 0],
+        [RESET, RESET],
+        [CUT],
+        [CUT, 503, 0],
+        [(503, {"Retry-After": "0"})],
+        [NO_HTTP, TOO_LONG],
+    ],
+    ids=["statuses", "more statuses", "closed", "reset", "cut", "mixed", "retry-after", "no http"],
 )
 
 
@@ -264,6 +277,50 @@ def test_a_call_is_one_request_of_a_quota(kind: str, server: Server) -> None:
     client = Client(kind, recurs(2), budget=quota)
     assert client.get(server.url, times=3)[0] == (200, b"answer 5")
     assert (quota.seen().asked, quota.seen().given) == (3, 0)
+
+
+@pytest.mark.parametrize("kind", ["requests", "httpx"])
+def test_a_request_that_is_made_again_is_another_call(kind: str, server: Server) -> None:
+    server.says((302, {"Location": "/"}))
+    clock, quota = VirtualClock(), Quota(0, 1, 3600)
+    how: Any = {"deadline": 10, "clock": clock, "sleep": clock.sleep, "budget": quota}
+    if kind == "requests":
+        client: Any = requests.Session()
+        client.trust_env, client.max_redirects = False, 5
+        client.mount("http://", PolicyAdapter(recurs(2), **how))
+        request = client.prepare_request(requests.Request("GET", server.url))
+    else:
+        transport = PolicyTransport(recurs(2), **how)
+        client = httpx.Client(transport=transport, follow_redirects=True, max_redirects=5, trust_env=False)
+        request = client.build_request("GET", server.url)
+    with client:
+        for _ in range(3):
+            with pytest.raises((requests.TooManyRedirects, httpx.TooManyRedirects)):
+                client.send(request)
+            clock.advance(60)
+    assert (len(server.requests), quota.seen().asked) == (18, 3)
+
+
+def test_threads_may_make_one_request_at_once(server: Server) -> None:
+    quota = Quota(0, 1, 3600)
+    server.says((302, {"Location": "/"}))
+    with requests.Session() as session:
+        session.trust_env = False
+        session.max_redirects = 5
+        session.mount("http://", PolicyAdapter(recurs(2), budget=quota, pool_maxsize=8))
+        request = session.prepare_request(requests.Request("GET", server.url))
+
+        def calls() -> None:
+            for _ in range(10):
+                with pytest.raises(requests.TooManyRedirects):
+                    session.send(request)
+
+        threads = [threading.Thread(target=calls) for _ in range(8)]
+        for thread in threads:
+            thread.start()
+        for thread in threads:
+            thread.join()
+    assert quota.seen().asked == 80
 
 
 @EACH
@@ -433,6 +490,22 @@ def test_a_file_is_sent_again_from_its_beginning(server: Server, tmp_path: Any) 
 # raise_for_status, and words that are wrong
 
 
+@pytest.mark.parametrize("form", [dict, list, tuple])
+def test_a_form_with_a_file_is_sent_once(form: Any, server: Server, tmp_path: Any) -> None:
+    (tmp_path / "file").write_bytes(b"a file")
+
+    async def puts(part: Any) -> int:
+        async with aiohttp.ClientSession() as session:
+            client = PolicySession(session, recurs(2))
+            async with client.put(server.url, data=form({"part": part}.items())) as response:
+                return int(response.status)
+
+    for part, sent in ("text", 3), (5, 3), (open(tmp_path / "file", "rb"), 1):
+        server.says(503)
+        assert asyncio.run(puts(part)) == 503
+        assert len(server.requests) == sent
+
+
 def test_a_session_that_raises_for_statuses(server: Server) -> None:
     async def get(of_session: bool, how: Dict[str, Any]) -> Any:
         async with aiohttp.ClientSession(raise_for_status=of_session) as session:
@@ -494,6 +567,14 @@ def test_words_that_are_wrong_are_refused() -> None:
     for word in ("backoff_factor", "backoff_max", "backoff_jitter"):
         with pytest.raises(TypeError, match=rf"^PolicyRetry\(\) takes no {word}: the policy says how long to wait"):
             PolicyRetry(recurs(1), **{word: 1})  # type: ignore[arg-type]
+    wrong: Any
+    for wrong in ("503", 503, {"503"}, [None]):
+        for kind in (PolicyAdapter, PolicyTransport, AsyncPolicyTransport, PolicyRetry):
+            with pytest.raises(TypeError, match=r"^on_status: expected statuses, as {429, 503}, got "):
+                kind(recurs(1), on_status=wrong)
+    for wrong in ("GET", None, {5}):
+        with pytest.raises(TypeError, match=r"^methods: expected methods, as {'GET', 'PUT'}, got "):
+            PolicyAdapter(recurs(1), methods=wrong)
     with pytest.raises(TypeError, match="takes on_status or status_forcelist, which mean the same, and got both"):
         PolicyRetry(recurs(1), on_status={500}, status_forcelist={503})
 
@@ -510,3 +591,64 @@ def test_a_retry_raises_as_urllib3s_does(server: Server) -> None:
         assert urllib3.PoolManager(retries=PolicyRetry(recurs(2), **how)).request("GET", server.url).status == 200
         server.says(503, 200)
         assert urllib3.PoolManager(retries=PolicyRetry(recurs(2), **how)).request("GET", server.url).status == 503
+
+
+# Limits that calls ask before their first attempt
+
+
+@pytest.mark.parametrize("kind", ["requests", "httpx", "httpx async", "aiohttp"])
+def test_a_breaker_is_asked_and_told(kind: str, server: Server) -> None:
+    breaker = Breaker(3, spaced(60))
+    client = Client(kind, recurs(1), budget=breaker)
+    server.says(503, 200, (302, {"Location": "/there"}), 200, 503, 503, 503)
+    assert [status for status, _ in client.get(server.url, 4)] == [200, 200, 503, 503]
+    # (two failures of the third call, and one of the fourth, whose retry was refused)
+    assert len(server.requests) == 7
+    with pytest.raises(NotAdmitted):
+        client.get(server.url)
+    assert len(server.requests) == 7
+
+
+@pytest.mark.parametrize("kind", ["requests", "httpx", "httpx async", "aiohttp"])
+def test_each_request_gives_its_place_back(kind: str, server: Server) -> None:
+    client = Client(kind, recurs(2), budget=InFlight(1, 0))
+    server.says(503, 0, 200, (302, {"Location": "/there"}), 200, 503, 503, 503, 200)
+    assert [status for status, _ in client.get(server.url, 4)] == [200, 200, 503, 200]
+
+
+def test_a_method_that_is_not_repeated_fails_too(server: Server) -> None:
+    quota = Quota(1, 1, 3600, counts_successes=True)
+    breaker = Breaker(1, spaced(60))
+    for limit in (quota, breaker):
+        seen: List[Any] = []
+        transport = PolicyTransport(recurs(2), budget=limit, on_success=seen.append)
+        with httpx.Client(transport=transport) as client:
+            server.says(503)
+            assert client.post(server.url).status_code == 503
+        assert len(server.requests) == 1 and not seen
+        assert (transport.statistics.not_retried, transport.statistics.won) == (1, 0)
+    assert quota.seen().asked == 0
+    refusal = breaker.request().admit()
+    assert refusal is not None and refusal.reason is RefusalReason.BREAKER_OPEN
+    quota = Quota(1, 1, 3600, counts_successes=True)
+    retries = PolicyRetry(recurs(2), budget=quota)
+    assert urllib3.PoolManager(retries=retries).request("POST", server.url).status == 503
+    assert quota.seen().asked == 0 and retries.statistics.not_retried == 1
+
+
+def test_a_retry_of_urllib3_takes_no_limit() -> None:
+    limit: Any = Breaker(1, spaced(60))
+    with pytest.raises(TypeError, match=r"^PolicyRetry\(\) takes no Breaker: .* urllib3 doesn't say when that begins$"):
+        PolicyRetry(recurs(1), budget=limit)
+
+
+def test_a_retry_that_is_stopped_while_it_waits_makes_no_request(server: Server) -> None:
+    server.says(503)
+    event = threading.Event()
+    quota = Quota(5, 0, 3600)
+    retries = PolicyRetry(recurs(5) & spaced(60), stop=event, budget=quota)
+    threading.Timer(0.2, event.set).start()
+    with pytest.raises(urllib3.exceptions.MaxRetryError, match="too many 503 error responses"):
+        urllib3.PoolManager(retries=retries).request("GET", server.url)
+    assert len(server.requests) == 1
+    assert retries.statistics.stopped == 1 and quota.close() == 0

@@ -237,6 +237,13 @@ def test_the_engines_retry_of_a_machine_that_is_lost_is_freed() -> None:
     assert freed == [None]
 
 
+def test_a_machine_that_was_interrupted_as_it_was_made_goes_without_a_word() -> None:
+    made = machines.Machine.__new__(machines.Machine)
+    made.__del__()
+    made.handle = machines.Machine().handle
+    made.__del__()
+
+
 @pytest.mark.parametrize("kind", ["budget", "quota"])
 def test_a_close_that_is_interrupted_can_be_made_again(kind: str) -> None:
     closed: List[int] = []

@@ -22,12 +22,13 @@ from typing import Any, Callable, Dict, Iterator, List, Optional, Tuple
 import pytest
 from conftest import TOP, heed_signals, python_environment, served
 
-from hikebox import Policy, Quota, recurs, storm
+from hikebox import Policy, Population, Quota, recurs, storm
 from hikebox.lab.server import Lab
 from hikebox.lab.cookbook import COOKBOOK
 from hikebox.lab.players import BrokenOff, Players
-from hikebox.storms.code import in_command, in_python, in_scenario
+from hikebox.storms.code import in_command, in_python, in_rust, in_scenario
 from hikebox.storms.parameters import SCENARIOS, Parameters, RateSpan, Slow, Span
+from hikebox.storms.texts import population_sentences
 from hikebox.budgets.terms import Terms
 
 #: How long is waited for what has to happen, in seconds: on a machine with much else to do it takes long.
@@ -163,6 +164,10 @@ def test_what_is_no_json_object_is_refused(lab: Lab) -> None:
         ("storm", {"page": "p", "sides": [], "storm": {"outage": [1]}}),
         ("storm", {"page": "p", "sides": [], "storm": {"slow": [1, 2, "3"]}}),
         ("storm", {"page": "p", "sides": [], "storm": {"rates": [1, 2]}}),
+        ("storm", {"page": "p", "sides": [], "storm": {"beside": 30}}),
+        ("storm", {"page": "p", "sides": [], "storm": {"beside": [30]}}),
+        ("storm", {"page": "p", "sides": [], "storm": {"beside": ["30", ""]}}),
+        ("storm", {"page": "p", "sides": [], "storm": {"beside": [30, 5]}}),
     ],
     ids=str,
 )
@@ -189,10 +194,14 @@ def test_the_page_has_its_parts_from_here_alone(lab: Lab) -> None:
 def test_it_begins_with_the_stories_and_the_cookbook(lab: Lab) -> None:
     told = post(lab, "start", {}).json()
     assert told["cookbook"] == [list(entry) for entry in COOKBOOK]
-    assert list(told["stories"]) == ["quota", "retries", "jitter", "back-off", "deadline"]
+    assert list(told["stories"]) == ["quota", "retries", "jitter", "back-off", "deadline", "beside"]
     assert told["stories"]["jitter"]["storm"]["outage"] == [0, 0]
     assert told["stories"]["retries"]["storm"]["slow"] == [10_000, 20_000, 50]
-    assert told["stories"]["quota"]["sides"] == [{"text": FULL, "limit": ""}, {"text": FULL, "limit": "10/10%/1s"}]
+    quota: Dict[str, Any] = {"text": FULL, "limit": "10/10%/1s"}
+    none = {"text": FULL, "limit": "", "limited": False}
+    assert told["stories"]["quota"]["sides"] == [none, {**quota, "limited": False}]
+    assert told["stories"]["beside"]["sides"] == [{**quota, "limited": True}, {**quota, "limited": False}]
+    assert [told["stories"][name]["storm"]["beside"] for name in ("quota", "beside")] == [[0, ""], [30, ""]]
     assert told["ranges"]["rate"] == [1, 1_000_000]
     assert list(told["along"]) == ["rate", "capacity", "outage", "patience", "queue", "share"]
 
@@ -235,6 +244,10 @@ def test_storms_are_shown_side_by_side(lab: Lab) -> None:
     assert all(f">{words}<" in told["picture"] for words in ("A: no limit", "B: quota 10/10%/1s", "18.4 % succeeded"))
     assert ">calls begun<" in told["picture"]
     assert first["json"] == Policy.parse(FULL).to_json()
+    cut = post(lab, "storm", {**storm_of(("recurs(0)", "")), "storm": {"calls": 30_000, "outage": [0, 5000]}}).json()
+    assert cut["sides"][0]["brief"] == (
+        "86.6 % of 30,000 requests succeeded until the storm was cut, back at 5 s; 1.00 calls for each"
+    )
     brief = post(lab, "storm", {**storm_of((FULL, ""), (FULL, "5")), "is_brief": True}).json()
     assert ">calls begun<" not in brief["picture"] and ">B: budget of 5<" in brief["picture"]
     assert post(lab, "storm", storm_of(("", ""), ("", ""))).json() == {
@@ -242,6 +255,53 @@ def test_storms_are_shown_side_by_side(lab: Lab) -> None:
         "picture": "",
         "scenario": "",
     }
+
+
+def test_clients_beside_have_the_policy_of_their_side_or_one_of_their_own(lab: Lab) -> None:
+    sides = [("recurs(3)", "5", True), ("recurs(2)", "5", False)]
+    brief: Any = {"seconds": 5, "outage": [1000, 2000], "rate": 100, "capacity": 120}
+    by_seconds: Any = {**brief, "outage": (1, 2)}
+    asked: Any = {"page": "p", "width": 800, "sides": []}
+    asked["sides"] = [{"text": text, "limit": limit, "limited": limited} for text, limit, limited in sides]
+    told = post(lab, "storm", {**asked, "storm": {**brief, "beside": [30, ""]}}).json()
+    known = [
+        storm(
+            Policy.parse(text),
+            budget=int(limit),
+            beside=[Population(0.3, Policy.parse(text), limited=limited)],
+            **by_seconds,
+        )
+        for text, limit, limited in sides
+    ]
+    for side, each in zip(told["sides"], known):
+        assert side["lines"][-2:] == population_sentences(each)
+        assert side["command"] == in_command(each.policy, each.parameters)
+        assert side["python"] == in_python(each.policy, each.parameters)
+        assert side["rust"] == in_rust(each.policy, each.parameters)
+    assert told["scenario"] == in_scenario(known)
+    names = [
+        "own, 70 %, limited: recurs(3)",
+        "beside, 30 %, limited: recurs(3)",
+        "beside, 30 %, not limited: recurs(2)",
+    ]
+    assert all(f">{words}<" in told["picture"] for words in names)
+    same = [{**side, "text": "recurs(3)"} for side in asked["sides"]]
+    picture = post(lab, "storm", {**asked, "sides": same, "storm": {**brief, "beside": [30, ""]}}).json()["picture"]
+    assert ">A: beside 30 %, limited<" in picture and ">B: beside 30 %, not limited<" in picture
+    told = post(lab, "storm", {**asked, "storm": {**brief, "beside": [30, "recurs(1)"]}}).json()
+    assert all("30 %, " in side["lines"][-1] and ": recurs(1): " in side["lines"][-1] for side in told["sides"])
+    assert json.loads(told["scenario"])["lines"][1]["beside"][0]["policy"] == {"recurs": 1}
+    assert (
+        "beside" not in post(lab, "storm", {**asked, "storm": {**brief, "beside": [0, "recurs(1)"]}}).json()["scenario"]
+    )
+    for beside, said in [
+        ([100, ""], "expected a share from 1 to 99 % of the requests, got 100"),
+        ([30, "recurs(1) & spced(1)"], "not a plan: no builder is called 'spced'; did you mean 'spaced'?"),
+    ]:
+        fault = post(lab, "storm", {**asked, "storm": {**brief, "beside": beside}}).json()["fault"]
+        assert fault == {"name": "beside", "said": said}
+    swept = post(lab, "sweep", {**asked, "along": "rate", "storm": {**brief, "beside": [30, ""]}}).json()
+    assert swept["said"] == "" and ">A<" in swept["picture"]
 
 
 def test_a_sweep_is_of_the_sides_that_are_there(lab: Lab) -> None:
@@ -515,6 +575,15 @@ def test_a_port_that_is_taken_is_told() -> None:
     process = start("--no-browser", "--port", "65536")
     assert process.communicate(timeout=_PATIENCE)[1].splitlines()[-1] == (
         "hikebox lab: error: argument --port: expected a number from 0 to 65535, got '65536'"
+    )
+    assert process.returncode == 2
+
+
+def test_a_link_that_is_none_is_told() -> None:
+    process = start("--no-browser", "story=jitter")
+    assert process.communicate(timeout=_PATIENCE)[1].splitlines()[-1] == (
+        "hikebox lab: error: argument LINK: expected a link, as http://127.0.0.1:8000/..#story=quota, got "
+        "'story=jitter'"
     )
     assert process.returncode == 2
 

@@ -3,8 +3,10 @@
 from __future__ import annotations
 
 import asyncio
+import math
 import pickle
 import time
+from datetime import timedelta
 from pathlib import Path
 from typing import Any, Dict, List, Tuple
 
@@ -12,8 +14,19 @@ import pytest
 
 from draws import drawn_by, number
 from processes import Workers, in_a_forked_child
-from hikebox import AsyncRetrying, BudgetError, Ending, Retrying, StoreError, StoreLost, recurs, spaced, state_of
-from hikebox.leased import FileStore, Leased, Range, RedisStore
+from hikebox import (
+    AsyncRetrying,
+    BudgetError,
+    Ending,
+    Retrying,
+    StoreError,
+    StoreLost,
+    TermsError,
+    recurs,
+    spaced,
+    state_of,
+)
+from hikebox.leased import FileStore, Leased, LeasedQuota, Range, RedisStore
 
 
 class Drawers(Workers):
@@ -27,9 +40,9 @@ class Drawers(Workers):
         return len(self.drawn())
 
     def lines(self, number: int, kind: str = "") -> List[str]:
-        """The lines of a process: those of its tickets, or of its pauses."""
+        """The lines that a process has written to their end: those of its tickets, or of its pauses."""
         path = self.notes_of(number)
-        lines = path.read_text().splitlines() if path.exists() else []
+        lines = path.read_text().rpartition("\n")[0].splitlines() if path.exists() else []
         return [line for line in lines if line.startswith("paused") == (kind == "paused")]
 
     def pauses(self) -> List[Tuple[int, int]]:
@@ -76,6 +89,21 @@ def test_parameters() -> None:
     for bad in ({"limit": -1}, {"limit": 2**52}, {"limit": 1, "lease": 0}, {"limit": 1, "per": 0}):
         with pytest.raises(BudgetError):
             Leased(store, "a", **bad)  # type: ignore[arg-type]
+    far: List[Dict[str, Any]] = [{"lease": 2**32 + 1}, {"spare": -1}, {"spare": 2**33}]
+    for too_far in far + [{"again_after": -1}, {"again_after": math.nan}, {"again_after": math.inf}]:
+        with pytest.raises(TermsError, match="expected .*, got"):
+            Leased(store, "a", 5, **too_far)
+        with pytest.raises(TermsError, match="expected .*, got"):
+            LeasedQuota(store, "a", 5, 0.2, 1, **too_far)
+    wrong: List[Dict[str, Any]] = [{"lease": "1"}, {"lease": 1.5}, {"lease": True}, {"spare": 1.5}, {"spare": True}]
+    for of_a_type in wrong + [{"again_after": "1"}, {"again_after": timedelta(seconds=1)}, {"again_after": True}]:
+        with pytest.raises(TypeError, match="expected a .*number of .*, got"):
+            Leased(store, "a", 5, **of_a_type)
+    no_store: Any = "/nowhere/counts"
+    with pytest.raises(TypeError, match=r"expected a store, such as FileStore\(path\), got '/nowhere/counts'"):
+        Leased(no_store, "a", 5)
+    with pytest.raises(TypeError, match=r"expected a store, such as FileStore\(path\), got '/nowhere/counts'"):
+        LeasedQuota(no_store, "a", 5, 0.2, 1)
     leased = Leased(store, "a", 5, per=60)
     assert repr(leased) == "Leased(FileStore('/nowhere/counts'), 'a', limit=5, per=60, lease=1)"
     with pytest.raises(TypeError):
@@ -397,7 +425,7 @@ def test_a_redis_that_was_started_anew_grants_nothing(redis_server: Any) -> None
     with pytest.raises(StoreError):
         store.begin("b")
     server.start()
-    with pytest.raises(StoreLost, match="started anew"):
+    with pytest.raises(StoreLost, match="restarted"):
         store.take("a", 3, 10, None, time.monotonic)
     durable = RedisStore(server.client(), durable=True)
     assert durable.take("a", 7, 20, None, time.monotonic)[:2] == (6, 7)

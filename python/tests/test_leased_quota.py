@@ -14,7 +14,19 @@ import pytest
 
 from draws import drawn_by, number, repeated
 from processes import Workers, in_a_forked_child
-from hikebox import AsyncRetrying, Ending, Retrying, StoreError, TermsError, Usage, recurs, spaced, state_of
+from hikebox import (
+    AsyncRetrying,
+    Ending,
+    Refusal,
+    RefusalReason,
+    Retrying,
+    StoreError,
+    TermsError,
+    Usage,
+    recurs,
+    spaced,
+    state_of,
+)
 from hikebox._engine.calls import MAX_TICKETS
 from hikebox._engine.leasing import Stored, lease_of_quota
 from hikebox.leased import FileStore, Leased, LeasedQuota, QuotaRange, RedisStore
@@ -542,6 +554,76 @@ def test_the_script_grants_what_the_step_of_a_lease_does(redis_server: Any) -> N
             assert client.hmget("k", "asked", "given") == [b"%d" % stored.asked, b"%d" % stored.given]
             granted_in_all += granted.tickets > 0
     assert granted_in_all > 400
+
+
+def test_a_redis_that_answers_something_else_grants_nothing(redis_server: Any, monkeypatch: Any) -> None:
+    from hikebox.leased import redis_store
+
+    store = RedisStore(redis_server().client())
+    time.sleep(3.2)
+    quota = LeasedQuota(store, "a", 9, 0, 0.5, lease=2, again_after=0)
+    for answer in ("{0, -2, 0}", "{-5, 2, 0}", "{0, 2, -1}", "{0, 3, 0}", "{8, 2, 0}", "{0, 2}", "'abc'", "3", "nil"):
+        monkeypatch.setattr(redis_store, "GRANT", f"return {answer}")
+        refused = quota.draw()
+        assert isinstance(refused, Refusal) and refused.reason is RefusalReason.UNREACHABLE
+        assert "expected the count of a window and at most 2 tickets of it, got" in str(refused.error)
+    monkeypatch.setattr(redis_store, "GRANT", "return {7, 2, 0}")
+    assert number(quota.draw()) == 7
+
+
+def test_who_writes_to_the_key_that_nobody_writes_is_told(redis_server: Any, monkeypatch: Any) -> None:
+    client = redis_server().client()
+    watch = type(client.pipeline()).watch
+
+    def disturbs(pipe: Any, name: str) -> Any:
+        try:
+            return watch(pipe, name)
+        finally:
+            client.set(name, "anything")
+
+    monkeypatch.setattr(type(client.pipeline()), "watch", disturbs)
+    time.sleep(3.2)
+    refused = LeasedQuota(RedisStore(client), "a", 9, 0, 0.5).draw()
+    assert isinstance(refused, Refusal) and refused.reason is RefusalReason.UNREACHABLE
+    assert str(refused.error) == "Redis: Watched variable changed."
+    monkeypatch.undo()
+    assert number(LeasedQuota(RedisStore(client), "a", 9, 0, 0.5).draw()) == 0
+
+
+def test_a_client_that_repeats_tells_requests_once(redis_server: Any, monkeypatch: Any) -> None:
+    """Clients of redis 6 make a transaction again to which they got no answer, unless it watches a key."""
+    import redis
+    from redis.backoff import NoBackoff
+    from redis.retry import Retry
+
+    answered = redis.client.Pipeline.parse_response
+    lost: List[str] = []
+
+    def loses_one(pipe: Any, connection: Any, name: str, **options: Any) -> Any:
+        if name == "_" and not lost and any(args[0] == "EVAL" for args, _ in pipe.command_stack):
+            lost.append(name)
+            time.sleep(0.1)
+            raise redis.TimeoutError("the answer was lost")
+        return answered(pipe, connection, name, **options)
+
+    def repeats(pipe: Any, connection: Any, error: Any) -> None:
+        connection.disconnect()
+        if pipe.watching:
+            raise redis.WatchError("watching")
+
+    monkeypatch.setattr(redis.client.Pipeline, "parse_response", loses_one)
+    monkeypatch.setattr(redis.client.Pipeline, "_disconnect_raise_reset", repeats)
+    port = redis_server().port
+    client = redis.Redis(port=port, retry=Retry(NoBackoff(), 3), retry_on_error=[redis.TimeoutError])
+    time.sleep(8.2)
+    while time.time() % 5 > 1:  # all of it is in one window
+        time.sleep(0.01)
+    quota = LeasedQuota(RedisStore(client), "a", 2, 1, 5)
+    quota.deposit(10)
+    with pytest.raises(StoreError, match="Redis: the answer was lost"):
+        quota.seen()
+    assert lost and (quota.seen().asked, quota.seen().left) == (10, 12)
+    assert client.ping()
 
 
 def test_windows_of_redis_two_processes_with_a_clock_an_hour_off(

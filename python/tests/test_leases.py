@@ -3,7 +3,13 @@
 from __future__ import annotations
 
 import asyncio
+import itertools
+import json
+import logging
+import os
 import shutil
+import signal
+import sys
 import threading
 import time
 from pathlib import Path
@@ -13,6 +19,7 @@ import pytest
 
 from draws import number
 from processes import in_a_forked_child
+import hikebox
 from hikebox import (
     AsyncRetrying,
     Ending,
@@ -185,7 +192,7 @@ def test_a_retry_says_why_it_got_no_ticket(awaits: bool, now: Clock, caplog: Any
         assert state is not None and state.refusal is not None
         assert (state.ending, state.granted) == (Ending.BUDGET_REFUSED, retries)
         assert (state.refusal.reason.value, state.refusal.error) == (reason, error)
-        assert f"the budget had no ticket ({reason})" in caplog.records[-1].getMessage()
+        assert f"the budget refused a retry ({reason})" in caplog.records[-1].getMessage()
         now.now += 10
 
 
@@ -254,6 +261,63 @@ def test_a_ticket_of_the_process_before_a_fork_does_not_come_back(tmp_path: Path
     assert [number(quota.draw()) for _ in range(3)] == [0, 1, None]
 
 
+class Forks:
+    """Forks at one step of the package, as the handler of a signal may."""
+
+    def __init__(self, step: int) -> None:
+        self.step = step
+        self.child: Optional[int] = None
+
+    def __call__(self, frame: Any, event: str, _: Any) -> Any:
+        if not frame.f_code.co_filename.startswith(os.path.dirname(hikebox.__file__)):
+            return None
+        if event == "line":
+            self.step -= 1
+            if self.step == 0:
+                self.child = os.fork()
+        return self
+
+
+def drawn_by_parent_and_child(quota: LeasedQuota, step: int, draws: int) -> Optional[List[List[Optional[int]]]]:
+    """The tickets that both draw, of which the first is that of the draw in which the process forks: None where that
+    draw has fewer steps."""
+    forks = Forks(step)
+    read, write = os.pipe()
+    sys.settrace(forks)
+    try:
+        first = quota.draw()
+    finally:
+        sys.settrace(None)
+        if forks.child == 0:
+            drawn = [number(each) for each in [first, *(quota.draw() for _ in range(draws))]]
+            os.write(write, json.dumps(drawn).encode())
+            os._exit(0)
+    os.close(write)
+    with open(read) as file:
+        said = file.read()
+    if forks.child is None:
+        return None
+    assert os.waitstatus_to_exitcode(os.waitpid(forks.child, 0)[1]) == 0
+    return [[number(first), *(number(quota.draw()) for _ in range(draws))], json.loads(said)]
+
+
+def test_a_child_that_is_forked_at_any_step_of_a_draw_has_no_lease_of_its_parents(tmp_path: Path) -> None:
+    ticks = itertools.count()
+    for step in range(1, 10_000):
+        # (by a clock that goes on at each look, as where the machine is busy)
+        store = FileStore(tmp_path / str(step))
+        quota = LeasedQuota(store, "a", 100, 0, LONG, lease=8, clock=lambda: next(ticks) / 1000)
+        both = drawn_by_parent_and_child(quota, step, 9)
+        if both is None:
+            break
+        parents, childs = both
+        if parents[0] == childs[0]:  # it was drawn, and the call was returning it
+            childs = childs[1:]
+        assert None not in parents + childs
+        assert len({*parents, *childs}) == len(parents + childs), (step, both)
+    assert step > 100
+
+
 # Threads
 
 
@@ -285,6 +349,89 @@ def test_nobody_waits_for_the_store_who_has_a_ticket_at_hand(now: Clock) -> None
     assert number(drawn[0]) == 2 and quota.granted == 3
     # the requests that were counted meanwhile, and the terms that were set, count from the next lease on
     assert [number(quota.draw()) for _ in range(6)] == [3, 4, 5, 6, 7, None]
+
+
+@pytest.mark.parametrize("is_drawn", [False, True], ids=["while it asks", "once it has drawn"])
+def test_a_coroutine_that_is_cancelled_in_a_draw_gives_its_ticket_back(is_drawn: bool, now: Clock) -> None:
+    store = Counting(now)
+    quota = LeasedQuota(store, "a", 3, 0, LONG, lease=3, clock=now)
+    retrying = AsyncRetrying(recurs(3), budget=quota)
+    store.may_answer = threading.Event()
+
+    async def fails() -> None:
+        raise KeyError()
+
+    async def main() -> None:
+        task = asyncio.ensure_future(retrying(fails))
+        while not store.was_asked.is_set():
+            await asyncio.sleep(0.001)
+        if is_drawn:
+            store.may_answer.set()
+            while quota.granted == 0:
+                time.sleep(0.001)  # so that the coroutine does not hear of it
+        task.cancel()
+        with pytest.raises(asyncio.CancelledError):
+            await task
+        store.may_answer.set()
+
+    asyncio.run(main())  # which waits for its threads
+    assert quota.granted == 0
+    assert [number(quota.draw()) for _ in range(4)] == [0, 1, 2, None]
+
+
+@pytest.mark.parametrize("asks", ["draw", "seen"])
+def test_a_signals_handler_that_draws_while_its_thread_asks_the_store(asks: str, now: Clock) -> None:
+    store = Counting(now)
+    quota = LeasedQuota(store, "a", 4, 0, 10, lease=2, clock=now)
+    found: List[Any] = []
+
+    turns = itertools.count()
+
+    def handler(number: int, frame: Any) -> None:
+        if next(turns) == 0:
+            found.append(refusal(quota.draw()))
+            with pytest.raises(StoreError, match="is being asked"):
+                quota.seen()
+            store.may_answer.set()
+
+    def signals() -> None:
+        # again and again: one that comes just before the thread waits does not interrupt it
+        while store.was_asked.wait(20) and not store.may_answer.wait(0.01):
+            os.kill(os.getpid(), signal.SIGUSR1)
+
+    before = signal.signal(signal.SIGUSR1, handler)
+    signalling = threading.Thread(target=signals)
+    try:
+        store.may_answer = threading.Event()
+        signalling.start()
+        getattr(quota, asks)()
+    finally:
+        store.may_answer.set()
+        signalling.join()
+        signal.signal(signal.SIGUSR1, before)
+    assert found == [(RefusalReason.UNREACHABLE, None)]
+    assert [number(quota.draw()) for _ in range(4)] == ([1, 2, 3, None] if asks == "draw" else [0, 1, 2, 3])
+    assert not quota.is_asking
+
+
+@pytest.mark.parametrize("fails", ["with an error", "by a loss"])
+def test_a_handler_of_the_log_that_draws(fails: str, now: Clock) -> None:
+    store = Counting(now)
+    store.lost, store.error = fails == "by a loss", None if fails == "by a loss" else StoreError("away")
+    quota = LeasedQuota(store, "a", 4, 0, 10, clock=now)
+    found: List[Any] = []
+
+    class Handler(logging.Handler):
+        def emit(self, record: Any) -> None:
+            found.append(quota.draw())
+
+    handler = Handler()
+    logging.getLogger("hikebox").addHandler(handler)
+    try:
+        assert not quota.draw()
+    finally:
+        logging.getLogger("hikebox").removeHandler(handler)
+    assert [number(each) for each in found] == [None] and store.calls == 1
 
 
 def test_terms_that_are_set_while_the_store_says_that_there_is_none(now: Clock) -> None:

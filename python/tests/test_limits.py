@@ -3,10 +3,14 @@
 from __future__ import annotations
 
 import asyncio
+import copy
+import gc
+import os
 import pickle
 import re
+import sys
 import threading
-from typing import Any, Callable, List
+from typing import Any, Callable, List, Optional
 
 import pytest
 
@@ -46,12 +50,22 @@ def fails() -> Any:
     raise KeyError()
 
 
+def interrupts() -> Any:
+    raise KeyboardInterrupt()
+
+
 # Rows
 
 
 def test_grpc() -> None:
     bucket = Bucket.grpc(4, 0.5)
     draws_as_grpc_says(admitted(bucket), admitted(bucket))
+
+
+def test_the_ratio_of_grpc_has_three_decimals() -> None:
+    # Its proposal A6: "Decimal places beyond 3 are ignored. (eg. .5466 is treated as .546.)"
+    ratios = [0.5466, 0.546, 0.57, 0.1, 0.0019, 0.001, 1]
+    assert [Bucket.grpc(10, ratio).terms[3] for ratio in ratios] == [546, 546, 570, 100, 1, 1, 1000]
 
 
 def test_aws() -> None:
@@ -76,6 +90,33 @@ def test_aws() -> None:
         plain.succeeded()
     assert plain.draw() is None
     assert reason(plain.draw()) is RefusalReason.LEVEL_LOW
+
+
+def test_the_timeouts_of_clients_cost_what_a_timeout_does() -> None:
+    httpx, requests = pytest.importorskip("httpx"), pytest.importorskip("requests")
+    urllib3 = pytest.importorskip("urllib3")
+    late: List[Optional[BaseException]] = [
+        TimeoutError(),
+        asyncio.TimeoutError(),
+        httpx.ReadTimeout("late"),
+        httpx.PoolTimeout("late"),
+        requests.ReadTimeout("late"),
+        requests.ConnectTimeout("late"),
+        urllib3.exceptions.ReadTimeoutError(None, "", "late"),
+    ]
+    others: List[Optional[BaseException]] = [
+        KeyError(),
+        asyncio.CancelledError(),
+        httpx.ConnectError("none"),
+        requests.ConnectionError("none"),
+        urllib3.exceptions.NewConnectionError(None, "refused"),
+        None,
+    ]
+    for errors, cost in ((late, 3), (others, 2)):
+        for error in errors:
+            request = admitted(Bucket(6, cost=2, timeout_cost=3))
+            assert [reason(request.draw(error)) for _ in range(6 // cost)] == [None] * (6 // cost)
+            assert reason(request.draw(error)) is RefusalReason.LEVEL_LOW
 
 
 def test_envoy() -> None:
@@ -134,6 +175,17 @@ def test_throttle() -> None:
     assert request.draw() is None
 
 
+def test_the_windows_of_a_throttle_begin_when_it_is_made() -> None:
+    # Made at 50 ms, its windows of 100 ms end at 150 and at 250: what was counted at 50 counts at 249, and not at 250.
+    for at, refused in ((0.249, RefusalReason.THROTTLED), (0.25, None)):
+        clock = VirtualClock(0.05)
+        throttle = Throttle(2, 0.1, clock=clock, random=lambda: 0.5)
+        for _ in range(2):
+            admitted(throttle).ended()
+        clock.sleep(at - 0.05)
+        assert reason(throttle.request().admit()) is refused
+
+
 def test_both_or_neither() -> None:
     clock = VirtualClock()
     flights = InFlight(0, 0.5)
@@ -164,10 +216,12 @@ def test_what_the_last_of_four_refuses_comes_back_to_all() -> None:
     request = admitted(limit)
     admitted(breaker).failed()
     assert reason(request.draw()) is RefusalReason.BREAKER_OPEN
-    # (a slot is held until its request's next draw or its end, and a token comes back where its draw is cancelled)
-    assert reason(admitted(flights).draw()) is RefusalReason.RETRIES_FULL
+    beside = admitted(flights)
+    assert beside.draw() is None
     request.ended()
-    assert admitted(flights).draw() is None
+    # (the slot came back as the breaker refused, and comes back once)
+    assert reason(admitted(flights).draw()) is RefusalReason.RETRIES_FULL
+    beside.ended()
     assert admitted(bucket).draw() is None and admitted(second).draw() is None
     assert reason(limit.request().admit()) is RefusalReason.BREAKER_OPEN
 
@@ -178,6 +232,16 @@ def test_limits_join_up_to_four() -> None:
     assert both(both(one, two), both(three, one)).request().admit() is None
     with pytest.raises(TermsError, match="at most 4 limits, got 5"):
         both(one, two, three, both(one, two))
+
+
+def test_several_buckets_have_one_cost() -> None:
+    # The engine draws of all at one cost. gRPC's costs nothing, so each retry would take five of its tokens.
+    with pytest.raises(TermsError, match="buckets with the same cost and timeout_cost, got <Bucket.*, <Bucket"):
+        both(Bucket.grpc(10, 0.1), Bucket.aws())
+    with pytest.raises(TermsError, match="the same cost"):
+        both(Bucket(10, cost=2), InFlight.envoy(), Bucket(10, cost=2, timeout_cost=3))
+    request = admitted(both(Bucket(10, cost=2), Bucket(5, cost=2)))
+    assert [reason(request.draw()) for _ in range(3)] == [None, None, RefusalReason.LEVEL_LOW]
 
 
 # Calls
@@ -201,6 +265,42 @@ def test_an_error_that_is_not_retried_is_a_failure() -> None:
     with pytest.raises(KeyError):
         Retrying(recurs(9), budget=bucket, on=ValueError)(fails)
     assert reason(admitted(bucket).draw()) is RefusalReason.LEVEL_LOW
+
+
+@pytest.mark.parametrize("kind", ["call", "await", "loop"])
+def test_an_error_that_is_no_exception_is_a_failure_where_it_is_retried(kind: str) -> None:
+    # Five failures in a row open the breaker, which refuses the fifth retry.
+    breaker = Breaker(5, spaced(30))
+    calls: List[int] = []
+
+    def call() -> None:
+        calls.append(1)
+        raise asyncio.CancelledError()
+
+    async def call_later() -> None:
+        call()
+
+    def run() -> None:
+        if kind == "call":
+            Retrying(recurs(9), budget=breaker, on=asyncio.CancelledError)(call)
+        elif kind == "await":
+            asyncio.run(AsyncRetrying(recurs(9), budget=breaker, on=asyncio.CancelledError)(call_later))
+        else:
+            for attempt in Retrying(recurs(9), budget=breaker, on=asyncio.CancelledError):
+                with attempt:
+                    call()
+
+    with no_waits(), pytest.raises(asyncio.CancelledError):
+        run()
+    assert len(calls) == 5
+    assert reason(breaker.request().admit()) is RefusalReason.BREAKER_OPEN
+
+
+def test_an_attempt_that_is_cancelled_is_no_failure() -> None:
+    breaker = Breaker(1, spaced(30))
+    with pytest.raises(KeyboardInterrupt):
+        Retrying(recurs(9), budget=breaker)(interrupts)
+    assert breaker.request().admit() is None
 
 
 def test_a_refused_result_is_a_failure() -> None:
@@ -401,8 +501,11 @@ def test_a_throttle_counts_each_call() -> None:
         lambda: Breaker(0, spaced(1)),
         lambda: Breaker(1, spaced(1), probes=16),
         lambda: Breaker(1, stop()),
+        lambda: Breaker(10**5000, spaced(1)),
+        lambda: Breaker(1, spaced(1), probe_deadline=-1),
         lambda: Throttle(0.9, 60),
         lambda: Throttle(2, 0),
+        lambda: Throttle(2, 0.0001),
     ],
 )
 def test_terms_out_of_range(make: Callable[[], Any]) -> None:
@@ -414,7 +517,10 @@ def test_terms_out_of_range(make: Callable[[], Any]) -> None:
     "make, told",
     [
         (lambda: InFlight.envoy(-5), "expected budget_percent from 0 to 100, got -5"),
+        (lambda: InFlight.envoy(0.05), "expected 0 or at least 0.1 as budget_percent, got 0.05"),
+        (lambda: InFlight.envoy(20, -1), "min_retry_concurrency: expected 0 to 4294967295, got -1"),
         (lambda: InFlight(3, 20), "expected the share from 0 to 1, got 20"),
+        (lambda: Breaker(1, spaced(1), probe_deadline=-1), "probe_deadline: expected 0 to 4611686018427387903 milli"),
         (lambda: Breaker(5, 30), "open_for: expected a policy, as spaced(30), got 30"),
         (lambda: Breaker(5, spaced(30), clock=ANY_FIVE), "clock: expected a function, got 5"),
         (lambda: Throttle(2, 60, random=ANY_FIVE), "random: expected a function, got 5"),
@@ -459,11 +565,75 @@ def test_misuse() -> None:
         pickle.dumps(breaker)
 
 
+def test_a_request_is_copied_as_itself() -> None:
+    # Were it another one, both would give its handle back, and two requests would have it.
+    limit = InFlight(0, 0.5)
+    request = admitted(limit)
+    assert copy.copy(request) is copy.deepcopy(request) is request
+    copy.copy(request).ended()
+    request.ended()
+    assert [reason(one.admit()) for one in (limit.request(), limit.request())] == [None, None]
+    with pytest.raises(TypeError, match="a Request belongs to its process"):
+        pickle.dumps(request)
+
+
+def test_a_request_that_is_dropped_gives_its_handle_back() -> None:
+    # A limit of several has a million handles. Two of them serve all of these.
+    flights = InFlight(0, 1)
+    limit = both(flights, Bucket(5))
+    handles = [request._handle for request in (admitted(limit) for _ in range(100))]
+    assert len(set(map(id, handles))) <= 2
+    assert reason(admitted(flights).draw()) is None
+
+
+@pytest.mark.parametrize("kind", ["request", "loop"])
+def test_what_the_collector_finds_gives_its_handle_back(kind: str, monkeypatch: Any) -> None:
+    def drops(limit: Limit) -> None:
+        attempts = iter(Retrying(recurs(3), budget=limit))
+        cycle: List[Any] = [admitted(limit) if kind == "request" else (next(attempts), attempts)]
+        cycle.append(cycle)
+
+    told: List[Any] = []
+    monkeypatch.setattr(sys, "unraisablehook", told.append)
+    flights = InFlight(0, 0.5)
+    limit = both(flights, Bucket(5))
+    for _ in range(20):
+        drops(limit)
+    gc.collect()
+    # one is under way, of which half a retry may be; and each handle serves another request
+    assert reason(admitted(flights).draw()) is RefusalReason.RETRIES_FULL
+    assert len([admitted(limit) for _ in range(25)]) == 25
+    drops(both(InFlight(0, 0.5), Bucket(5)))
+    gc.collect()
+    assert told == []
+
+
 def test_names() -> None:
-    assert repr(Bucket.grpc(10, 0.1)) == "<Bucket(10, floor=5.001, debit=1, credit=0.1)>"
+    assert repr(Bucket.grpc(10, 0.1)) == "<Bucket(10, floor=5.001, debit=1, credit=0.1, cost=0)>"
+    aws = "<Bucket(500, floor=0, debit=0, credit=1, cost=5, timeout_cost=10, refund=True)>"
+    assert repr(Bucket.aws()) == aws
     assert repr(InFlight.envoy(25, 5)) == "<InFlight(5, 0.25)>"
     assert repr(Breaker(5, spaced(30))) == "<Breaker(5, spaced(30))>"
     assert repr(Throttle.google()) == "<Throttle(2, 60)>"
+
+
+@pytest.mark.parametrize(
+    "limit",
+    [
+        Bucket.grpc(10, 0.1),
+        Bucket.aws(),
+        Bucket(1_234_567.891, cost=0.125),
+        Breaker(5, spaced(30), probes=3, probe_deadline=0.5),
+        Throttle(2_000_000.5, 1234.567),
+        both(InFlight(3, 0.125), Breaker(1, exponential(0.1, 2))),
+    ],
+    ids=repr,
+)
+def test_a_name_makes_one_like_it(limit: Any) -> None:
+    made = eval(repr(limit)[1:-1])
+    assert repr(made) == repr(limit)
+    for one, other in zip(limit.parts(), made.parts()):
+        assert one.on_storm() == other.on_storm()
 
 
 def test_a_forked_child_begins_anew() -> None:
@@ -472,3 +642,48 @@ def test_a_forked_child_begins_anew() -> None:
     assert reason(breaker.request().admit()) is RefusalReason.BREAKER_OPEN
     in_a_forked_child(lambda: None if breaker.request().admit() is None else 1 / 0)
     assert reason(breaker.request().admit()) is RefusalReason.BREAKER_OPEN
+
+
+def test_several_limits_begin_anew_in_a_forked_child_after_each_of_them() -> None:
+    # (many, since one of them may begin anew last in any order)
+    made = []
+    for _ in range(50):
+        bucket, breaker = Bucket(1, cost=1), Breaker(1, spaced(30))
+        limit = both(bucket, breaker)
+        request = admitted(limit)
+        assert request.draw() is None
+        request.failed()
+        assert reason(limit.request().admit()) is RefusalReason.BREAKER_OPEN
+        made.append((bucket, breaker, limit))
+
+    def in_the_child() -> None:
+        for bucket, breaker, limit in made:
+            child = admitted(limit)
+            assert child.draw() is None
+            assert reason(admitted(bucket).draw()) is RefusalReason.LEVEL_LOW
+            child.failed()
+            assert reason(breaker.request().admit()) is RefusalReason.BREAKER_OPEN
+
+    in_a_forked_child(in_the_child)
+
+
+@pytest.mark.parametrize("limit", [Bucket.aws(), Breaker(50, spaced(30)), InFlight.envoy(20, 3)], ids=repr)
+def test_a_call_that_is_forked_goes_on_by_the_child_s_limit(limit: Any) -> None:
+    runs, ended, child = 0, 0, -1
+
+    @retry(recurs(2), on=OSError, budget=limit)
+    def call() -> None:
+        nonlocal runs, child
+        runs += 1
+        if child == -1:
+            child = os.fork()
+        raise OSError("fails")
+
+    try:
+        with pytest.raises(OSError, match="fails"):
+            call()
+        ended = runs
+    finally:
+        if child == 0:
+            os._exit(0 if ended == 3 else 1)
+    assert ended == 3 and os.waitstatus_to_exitcode(os.waitpid(child, 0)[1]) == 0

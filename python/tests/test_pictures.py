@@ -7,6 +7,7 @@ import re
 import shlex
 import subprocess
 import sys
+import tempfile
 import xml.etree.ElementTree as ElementTree
 from dataclasses import replace
 from pathlib import Path
@@ -18,6 +19,7 @@ from conftest import TOP, python_environment
 from hikebox import (
     Breaker,
     Bucket,
+    Population,
     Quota,
     Storm,
     StormError,
@@ -29,12 +31,14 @@ from hikebox import (
     spaced,
 )
 from hikebox import storm, windowed
+from hikebox._svg import plain_width_of
 from hikebox.cli.main import _parser, _policy, main
 from hikebox.policy.picture import plan_picture
 from hikebox.cli.storm_command import wanted_of
 from hikebox.storms.cores import play_all
 from hikebox.storms.picture import storm_picture
 from hikebox.storms.parameters import RANGES
+from hikebox.sweeps import sweep
 from hikebox.budgets.terms import Terms
 
 SVG = "{http://www.w3.org/2000/svg}"
@@ -122,6 +126,20 @@ def test_several_plans_stand_on_one_axis(width: int) -> None:
     assert begins == [1.0, 2.3, 3.6, 1.0, 3.0, 5.0]
 
 
+def test_days_of_a_plan_have_numbers_that_can_be_read() -> None:
+    words = texts(parsed(plan_picture(recurs(20) & exponential(1, 10), steps=8)))
+    assert {"0", "200,000", "1,000,000", "Waits 1,000,000 s"} <= set(words)
+
+
+@pytest.mark.parametrize("seconds", [10**9, 10**11, 10**15])
+@pytest.mark.parametrize("width", [280, 320, 760])
+def test_waits_of_decades_have_room(width: int, seconds: int) -> None:
+    root = parsed(plan_picture(recurs(3) & spaced(seconds), BACK_OFF, width=width))
+    looks_at_texts(root)
+    waits = [part for part in root.iter(SVG + "text") if (part.text or "").startswith("Waits 1")][0]
+    assert float(waits.get("x")) + plain_width_of(waits.text) <= width
+
+
 def test_the_program_plans_several_policies(capsys: pytest.CaptureFixture[str]) -> None:
     assert main(["plan", "--steps", "2", "--took", "1300", "fixed(1)", "windowed(1)"]) == 0
     wanted = "fixed(1)\n0: 0 next 1000\n2300: 1 next 2300\nwindowed(1)\n0: 0 next 1000\n2300: 1 next 3000\n"
@@ -201,7 +219,7 @@ def test_a_storm_has_its_verdict_and_its_load(width: int) -> None:
     looks_at_texts(root)
     words = texts(root)
     assert {"requests/s", "calls begun", "seconds since the first request"} <= set(words)
-    assert {"succeeded", "failed", "first calls", "retries", "capacity", "peer away 10–20 s"} <= set(words)
+    assert {"succeeded", "failed", "first calls", "retries", "capacity", "peer down 10–20 s"} <= set(words)
     # 8,000 of 48,000 requests come in the outage, and fail; three retries at once are over before the peer is back.
     assert {"no limit", "83.3 % succeeded", "back at 20 s", "recurs(3)"} <= set(words)
     (won,), (failed,) = painted(root, "won"), painted(root, "failed")
@@ -213,7 +231,7 @@ def test_a_storm_has_its_verdict_and_its_load(width: int) -> None:
     assert heights(requests.get("d")) == pytest.approx([10.4] * 60, abs=0.06)
     assert heights(retries.get("d")) == pytest.approx([31.2] * 10, abs=0.06)
     description = next(part.text or "" for part in root if part.tag == SVG + "desc")
-    assert "is away from 10 s to 20 s" in description and "1.50 for each request" in description
+    assert "is down from 10 s to 20 s" in description and "1.50 for each request" in description
 
 
 @pytest.mark.parametrize("width", [320, 360, 760, 1400])
@@ -232,6 +250,24 @@ def test_storms_stand_on_the_same_scales(width: int) -> None:
     assert len(bounds) == 2
     tops = [float(part.get("d").split("M")[1].split(" ")[1].split("V")[0]) for part in painted(root, "mark")]
     assert len(tops) == 1
+
+
+def test_a_storm_that_is_cut_says_so_at_its_verdict() -> None:
+    root = parsed(storm(recurs(0)).svg(storm(recurs(0), calls=30_000)))
+    looks_at_texts(root)
+    assert {"83.3 % succeeded", "73.3 % succeeded until cut"} <= set(texts(root))
+
+
+def test_a_title_that_has_no_room_beside_its_verdict_stands_above_it() -> None:
+    root = parsed(storm(recurs(0), budget=Quota(10, 0.1, 1)).svg(width=280))
+    places = {part.text: part.get("y") for part in root.iter(SVG + "text")}
+    assert places["quota 10/10%/1s"] != places["83.3 % succeeded"]
+
+
+def test_a_storm_without_requests_is_drawn() -> None:
+    root = parsed(storm(recurs(0), seconds=3, rates=[(0, 3, 0)]).svg())
+    looks_at_texts(root)
+    assert "0 % succeeded" in texts(root)
 
 
 def test_a_high_load_alone_is_not_cut() -> None:
@@ -282,11 +318,32 @@ def test_reasons_of_failures_are_told_apart_where_that_is_wanted(width: int) -> 
     assert not {"shed", "timed out", "7,997 denied"} & set(without)
 
 
+@pytest.mark.parametrize("width, cut", [(280, ""), (320, ", up to 4.4×"), (760, ", cut: up to 4.4×")])
+def test_requests_that_were_denied_stand_beside_the_peak_of_a_load_that_is_cut(width: int, cut: str) -> None:
+    throttled = storm(FULL, budget=Throttle(2, period=10))
+    root = parsed(storm(FULL).svg(throttled, width=width, detail=True))
+    looks_at_texts(root)
+    assert f"{throttled.totals.denied:,} denied{cut}" in texts(root)
+
+
+def test_a_narrow_picture_says_in_brief_what_its_scales_count() -> None:
+    how: Any = {**HERD, "outage": (1, 2)}
+    herd = storm(BACK, **how)
+    for width, said in [(280, "so far"), (360, "requests so far")]:
+        root = parsed(herd.svg(width=width))
+        looks_at_texts(root)
+        assert {said, "not back by the end"} <= set(texts(root))
+    # (a throttle counts requests that it denies their first call)
+    root = parsed(storm(FULL).svg(storm(FULL, budget=Throttle(2, period=10)), width=280))
+    looks_at_texts(root)
+    assert {"requests and retries", "up to 4.4×", "calls begun", "cut: up to 8.5×"} <= set(texts(root))
+
+
 @pytest.mark.parametrize("width", [320, 360, 760])
 def test_a_brown_out_bends_what_the_peer_can_do(width: int) -> None:
     root = parsed(storm(recurs(3), outage=(12, 15), slow=(10, 20, 0.5)).svg(width=width))
     looks_at_texts(root)
-    assert {"peer away 12–15 s", "peer at 50 % 10–20 s"} <= set(texts(root))
+    assert {"peer down 12–15 s", "peer at 50 % 10–20 s"} <= set(texts(root))
     assert [part.get("d").count("V") for part in painted(root, "bound")] == [2]
     assert (len(painted(root, "away")), len(painted(root, "shade"))) == (2, 2)
 
@@ -312,6 +369,34 @@ def test_a_legend_names_what_is_in_the_picture() -> None:
     assert "100 % succeeded" in words
 
 
+@pytest.mark.parametrize("detail", [False, True])
+def test_requests_that_are_open_at_the_end_did_not_fail(detail: bool) -> None:
+    # 4,001 requests of the outage wait for their next call as the storm ends.
+    left = storm(recurs(8) & spaced(1), until=15)
+    assert (left.totals.open, left.totals.lost) == (4001, 0)
+    root = parsed(left.svg(detail=detail))
+    looks_at_texts(root)
+    assert "open at the end" in texts(root) and "failed" not in texts(root)
+    (area,) = painted(root, "band")
+    assert heights(area.get("d"))[:5] == pytest.approx([60.0] * 5, abs=0.06)
+    assert detail or not painted(root, "failed")
+
+
+def test_a_window_does_not_tell_open_requests_from_failed_ones() -> None:
+    # One request begins as the storm ends, and 8,000 of the outage failed.
+    mixed = storm(recurs(0), until=30)
+    assert (mixed.totals.open, mixed.totals.lost) == (1, 8000)
+    root = parsed(mixed.svg())
+    assert {"failed", "failed or open at the end"} <= set(texts(root))
+    (failed,) = painted(root, "failed")
+    assert heights(failed.get("d")) == pytest.approx([799 * 60 / 800] * 10, abs=0.06)
+    # All came at the beginning, and 500 of them are open throughout.
+    herd: Any = {**HERD, "rate": 1000, "together": 1000}
+    summed = storm(recurs(1) & spaced(5), until=4, **herd)
+    assert summed.totals.open == 500 and summed.totals.won == 500
+    assert "open at the end" in texts(parsed(summed.svg()))
+
+
 def test_a_request_that_is_denied_its_first_call_is_no_call_of_a_picture() -> None:
     policy = recurs(2) & spaced(0.1)
     for limit, strip, key in [
@@ -332,6 +417,31 @@ def test_large_numbers_and_many_windows_have_room(width: int) -> None:
     long = storm(spaced(1), rate=1, seconds=1, window=0.001, until=65.536, outage=(0, 3600)).svg(width=width)
     looks_at_texts(parsed(long))
     assert len(long) < 60_000
+
+
+@pytest.mark.parametrize("width, said", [(280, "up to"), (760, "cut: up to")])
+def test_the_numbers_of_a_great_load_are_whole(width: int, said: str) -> None:
+    # 17,000 requests a second with nine calls each, on a peer that does one.
+    root = parsed(storm(recurs(8), rate=17_000, capacity=1).svg(width=width))
+    looks_at_texts(root)
+    assert "200,000×" in texts(root) and "e+" not in "".join(texts(root))
+    high = storm(recurs(8), rate=17_000, capacity=1)
+    cut = storm(recurs(0), rate=1, capacity=1).svg(high, width=width)
+    looks_at_texts(parsed(cut))
+    assert f"{said} 153,000.0×" in texts(parsed(cut))
+
+
+@pytest.mark.parametrize("name", ["W" * 100, "\u98a8" * 100, "M" * 40 + " " + "@" * 200, "\U0001f32a" * 90])
+def test_a_wide_name_is_shortened_and_can_be_read_as_a_whole(name: str) -> None:
+    root = parsed(storm_picture([storm(recurs(3), seconds=2)], names=[name], title=name))
+    short = [part for part in root.iter(SVG + "text") if part.findtext(SVG + "title") == name]
+    # (the title and the name)
+    assert len(short) == 2
+    for part in short:
+        said = part.text or ""
+        # (a letter of these is a square of 12 units in most fonts, and more in some)
+        assert said.endswith("…") and 12 + 12 * len(said) < 760
+    assert not [part for part in parsed(storm(FULL).svg()).iter(SVG + "text") if len(part)]
 
 
 def test_a_title_is_text_whatever_it_has() -> None:
@@ -361,6 +471,27 @@ def test_a_width_out_of_range_is_refused(tmp_path: Path, capsys: pytest.CaptureF
     assert capsys.readouterr().err.endswith("argument --width: expected a number from 280 to 4000, got '279'\n")
     assert main(["storm", "--width", "279", "--svg", str(tmp_path / "x.svg"), "recurs(0)"]) == 2
     assert capsys.readouterr().err == "hikebox: width: expected 280 to 4000, got 279\n"
+
+
+def test_what_is_no_width_title_or_storm_of_a_picture_is_named() -> None:
+    played = storm(recurs(0), seconds=1)
+    anything: Any = played.svg
+    along: Any = sweep(played, rate=[1]).svg
+    for given, line in [
+        ({"width": "5"}, "width: expected a whole number, got '5'"),
+        ({"width": True}, "width: expected a whole number, got True"),
+        ({"title": 5}, "title: expected a text, got 5"),
+    ]:
+        for draws in (anything, along):
+            with pytest.raises(TypeError) as caught:
+                draws(**given)
+            assert str(caught.value) == line
+    with pytest.raises(TypeError, match="^svg: expected storms, got 5$"):
+        anything(5)
+    with pytest.raises(StormError, match="^width: expected 280 to 4000, got a number of too many digits$"):
+        anything(width=10**5000)
+    with pytest.raises(StormError, match=r"^measure: expected one of succeeded, .*, got \[\]$"):
+        along([])
 
 
 def test_a_notebook_shows_the_picture() -> None:
@@ -416,7 +547,7 @@ def test_the_page_on_storms_has_the_numbers_that_its_commands_print(capsys: pyte
         (TOP / "docs" / STORMS).read_text(),
         flags=re.M | re.S,
     )
-    assert len(found) == 4
+    assert len(found) == 5
     for command, printed in found:
         assert main(shlex.split(command)[1:]) == 0
         assert capsys.readouterr().out == printed
@@ -435,8 +566,15 @@ def zsched_prints(played: Storm) -> str:
         words.append("--quota={}/{}/{}".format(*parameters.tickets))
     elif parameters.tickets is not None:
         words.append(f"--budget={parameters.tickets}")
-    command = [os.environ["HIKEBOX_ZSCHED"], "storm", "--json", *words, "-"]
-    return subprocess.run(command, input=played.policy.to_json(), stdout=subprocess.PIPE, check=True, text=True).stdout
+    with tempfile.TemporaryDirectory() as folder:
+        for number, (share, policy, patience, is_limited) in enumerate(parameters.beside):
+            file = Path(folder) / f"{number}.json"
+            file.write_text(policy.to_json())
+            waits = "" if patience is None else f"@{patience}"
+            words.append(f"--beside={share}{waits}{'+limited' if is_limited else ''}={file}")
+        command = [os.environ["HIKEBOX_ZSCHED"], "storm", "--json", *words, "-"]
+        how: Any = {"stdout": subprocess.PIPE, "check": True, "text": True}
+        return str(subprocess.run(command, input=played.policy.to_json(), **how).stdout)
 
 
 def test_the_storms_of_the_page_on_storms_are_those_that_zsched_prints(monkeypatch: pytest.MonkeyPatch) -> None:
@@ -445,7 +583,7 @@ def test_the_storms_of_the_page_on_storms_are_those_that_zsched_prints(monkeypat
     if not program or subprocess.run([program, "storm", "--help"], capture_output=True).returncode:
         pytest.skip("HIKEBOX_ZSCHED names no zsched with storms")
     commands = re.findall(r"^hikebox (storm [^\n]*)$", (TOP / "docs" / STORMS).read_text(), flags=re.M)
-    assert len(commands) == 15
+    assert len(commands) == 17
     for command in commands:
         given = _parser().parse_args(shlex.split(command))
         for played in play_all(wanted_of(given, _policy).storms):
@@ -463,11 +601,35 @@ def test_what_the_page_on_storms_says_of_its_storms_is_so() -> None:
     assert (
         storm(recurs(3), budget=Quota(10, 0.1, 1), **brown).totals.recovered_ms == 50_000 and "recover at 50 s" in page
     )
+    half = storm(recurs(3), budget=Quota(10, 0.06, 1), **brown).totals
+    assert (half.recovered_ms, 1000 * half.won // half.requests) == (42_000, 495) and "at 42 s, and 49.5 %" in page
+    borders = [storm(recurs(3), seconds=300, budget=Quota(10, share, 1), **brown).totals for share in (0.22, 0.221)]
+    assert [each.recovered_ms is not None for each in borders] == [True, False]
+    assert "with `--seconds 300` it is 22 %" in page
     spent = storm(back_off.jittered(0, 1), budget=5000)
     assert spent.totals.tickets == 5000 and spent.totals.recovered_ms == 20_000 and "used up within the outage" in page
     assert sum(row.retries for row in spent.rows[:20]) == 5000
     busy = storm(back_off, rate=1500, budget=Quota(10, 0.1, 1))
     assert max(row.retries for row in busy.rows) == 257 and "257 begin in one" in page
+
+
+def test_what_the_page_on_storms_says_of_clients_beside_is_so() -> None:
+    page = (TOP / "docs" / STORMS).read_text()
+    quota = Quota(10, 0.1, 1)
+    back, never = (storm(FULL, budget=quota, beside=[Population(share, FULL)]) for share in (0.2, 0.21))
+    assert (back.totals.recovered_ms, never.totals.recovered_ms) == (20_000, None)
+    assert "With 20 per cent the peer is back at once, and with 21 it never is" in page
+    for seed, border in [*((seed, 20) for seed in range(8) if seed != 6), (6, 21)]:
+        shares = [Population(percent / 100, FULL) for percent in (border, border + 1)]
+        ends = [storm(FULL, budget=quota, seed=seed, beside=[each]).totals.recovered_ms for each in shares]
+        assert ends == [20_000, None], seed
+    assert "(Of the seeds 0 to 7 seven have this border; with `--words 6` it is 21.)" in page
+    half = [Population(0.5, FULL)]
+    with_quota, without = (storm(FULL, budget=each, queue=500, beside=half) for each in (quota, None))
+    assert (with_quota.totals.recovered_ms, without.totals.recovered_ms) == (27_000, 29_000)
+    assert "at 27 s if half of the requests have none, and at 29 s if all have none" in page
+    won = [1000 * each.totals.won // each.totals.requests for each in with_quota.populations]
+    assert won == [781, 980] and "78.1 per cent of your requests succeed, and 98.0 of the others" in page
 
 
 def test_what_the_page_on_storms_says_of_its_sweeps_is_so() -> None:

@@ -712,6 +712,19 @@ def test_terms_that_are_changed_before_the_first_draw_of_a_window(clock: Virtual
     assert [number(quota.draw()) for _ in range(2)] == [WINDOW - 1, None]
 
 
+def test_a_refused_draw_leaves_open_what_is_carried(clock: VirtualClock) -> None:
+    quota = Quota(0, 0, 10, clock=clock, carries=True)
+    quota.deposit(10)
+    clock.advance(10)
+    assert not quota.draw()
+    quota.set_terms(share=0.3)
+    # three of ten: the first draw that gets one has fixed their number
+    assert number(quota.draw()) == WINDOW - 3
+    quota.set_terms(share=1)
+    assert [number(quota.draw()) for _ in range(3)] == [WINDOW - 2, WINDOW - 1, None]
+    assert quota.close() == 3
+
+
 @pytest.mark.parametrize("carries, granted", [(False, 1), (True, 2)])
 @pytest.mark.parametrize("by", ["the quota's clock", "another clock"])
 def test_a_retry_draws_what_is_carried(by: str, carries: bool, granted: int, clock: VirtualClock) -> None:

@@ -3,6 +3,7 @@
 from __future__ import annotations
 
 import asyncio
+import copy
 import functools
 import gc
 import inspect
@@ -18,10 +19,13 @@ import pytest
 from hikebox import (
     MAX_NUMBER,
     AsyncRetrying,
+    Breaker,
     Budget,
     BudgetInUse,
     Ending,
+    NotAdmitted,
     Policy,
+    PolicyError,
     ResultRefused,
     RetryState,
     Retrying,
@@ -496,7 +500,7 @@ def test_a_budget_bounds_the_retries(kind: str, clock: VirtualClock) -> None:
         (Ending.BUDGET_REFUSED, 3, 2),
         (Ending.BUDGET_REFUSED, 1, 0),
     ]
-    assert "the budget had no ticket" in notes_of(caught.value)[0]
+    assert "the budget refused a retry" in notes_of(caught.value)[0]
     assert budget.close() == 5
 
 
@@ -641,8 +645,13 @@ def test_an_exception_that_takes_no_attributes_is_raised_as_it_is() -> None:
         def __setattr__(self, name: str, value: Any) -> None:
             raise AttributeError(name)
 
-    with pytest.raises(Closed):
-        Retrying(recurs(1))(Scripted(Closed()))
+    class Frozen(Closed):
+        def __setattr__(self, name: str, value: Any) -> None:
+            raise RuntimeError(f"{name} can't be set")
+
+    for kind in (Closed, Frozen):
+        with pytest.raises(kind):
+            Retrying(recurs(1))(Scripted(kind()))
 
 
 def test_an_exception_that_a_retry_raised_can_be_pickled() -> None:
@@ -653,6 +662,37 @@ def test_an_exception_that_a_retry_raised_can_be_pickled() -> None:
     assert state is not None and (state.attempt_number, state.ending) == (3, Ending.SCHEDULE_DONE)
     assert state.retry_object is None and state.code == 0
     assert notes_of(again) == notes_of(caught.value)
+
+
+def test_errors_of_the_package_keep_the_state_of_their_retry_as_copies() -> None:
+    breaker = Breaker(1, spaced(60))
+    with pytest.raises(OSError):
+        Retrying(recurs(0), budget=breaker)(Scripted(7))
+    with pytest.raises(NotAdmitted) as refused:
+        Retrying(recurs(1), budget=breaker)(int, "3")
+    with pytest.raises(ResultRefused) as not_accepted:
+        Retrying(recurs(1), on_result=bool)(int, "3")
+    with pytest.raises(PolicyError) as wrong:
+        Retrying(recurs(1))(Policy.from_json, "{")
+    for error in (refused.value, not_accepted.value, wrong.value):
+        for again in (pickle.loads(pickle.dumps(error)), copy.copy(error)):
+            own, state = state_of(error), state_of(again)
+            assert own is not None and state is not None
+            assert (state.ending, state.attempt_number) == (own.ending, own.attempt_number)
+            assert (str(again), notes_of(again)) == (str(error), notes_of(error))
+            assert (state.refusal is None) == (own.refusal is None)
+
+
+def test_an_attempt_has_one_block() -> None:
+    budget = Budget(9)
+    attempt = None
+    with pytest.raises(RuntimeError, match="^an attempt is over once its `with` block was left"):
+        for attempt in Retrying(recurs(2), budget=budget):
+            with attempt:
+                pass
+            with attempt:
+                raise ConnectionError()
+    assert attempt is not None and budget.close() == 0
 
 
 def test_an_exception_that_is_raised_again_and_again_keeps_few_notes() -> None:

@@ -12,7 +12,7 @@ import subprocess
 import sys
 import time
 from pathlib import Path
-from typing import Any, Iterator, List
+from typing import Any, Dict, Iterator, List
 
 import pytest
 from conftest import python_environment
@@ -118,6 +118,37 @@ def test_the_command_is_told_its_attempt() -> None:
     assert hikebox("run", "--policy", "recurs(5)", "--", "sh", "-c", script) == (0, "1\n2\n3\n", "")
 
 
+@pytest.mark.parametrize("own", [[], ["--deadline", "7200"]], ids=["none", "later"])
+def test_a_command_is_told_what_a_run_around_it_has_left(own: List[str], tmp_path: Path) -> None:
+    script = 'echo "$HIKEBOX_SECONDS_LEFT"; sleep 0.1; exit 3'
+    inner = [*PROGRAM, "run", *own, "--policy", "recurs(2)", "--", "sh", "-c", script]
+    status, output, _ = hikebox("run", "--deadline", "3600", "--policy", "recurs(0)", "--", *inner)
+    left = [float(line) for line in output.splitlines()]
+    assert status == 3 and len(left) == 3 and 3000 < left[2] <= left[1] - 0.1 <= left[0] - 0.2 <= 3600 - 0.2
+
+
+def test_a_command_has_no_variable_of_pythons_own() -> None:
+    # (without a locale, as under cron, Python adds an LC_CTYPE to its environment)
+    given = {name: value for name, value in python_environment().items() if name[:3] not in ("LC_", "LAN")}
+    owns: List[Dict[str, str]] = [{}, {"LC_CTYPE": "C.UTF-8"}]
+    for own in owns:
+        done = subprocess.run([*PROGRAM, "run", "--", "env"], env={**given, **own}, stdout=subprocess.PIPE, text=True)
+        told = [line for line in done.stdout.splitlines() if line.startswith("LC_")]
+        assert (done.returncode, told) == (0, [f"{name}={value}" for name, value in own.items()])
+
+
+def test_a_script_that_names_no_shell_is_run_by_sh(tmp_path: Path, monkeypatch: pytest.MonkeyPatch) -> None:
+    (tmp_path / "of-no-shell").write_text('echo "$0 $*"; exit 3\n')
+    (tmp_path / "of-no-machine").write_bytes(b"\x7fELF of another machine\0\n")
+    for file in tmp_path.iterdir():
+        file.chmod(0o755)
+    monkeypatch.setenv("PATH", f"/usr/bin:/bin:{tmp_path}")
+    for name in ("of-no-shell", str(tmp_path / "of-no-shell")):
+        said = hikebox("run", "--policy", "recurs(1)", "--", name, "a b", "c")
+        assert said == (3, f"{tmp_path}/of-no-shell a b c\n" * 2, "")
+    assert hikebox("run", "--", "of-no-machine") == (126, "", "hikebox: of-no-machine: Exec format error\n")
+
+
 # Standard streams
 
 
@@ -166,6 +197,23 @@ def test_a_closed_error_stream_is_not_the_output() -> None:
     for words, status in ((["plan", "nothing()"], 3), (["run", "-v", *AT_ONCE, "--", "false"], 1), (["nope"], 2)):
         done = closed(words, "2>&-")
         assert (done.returncode, done.stdout, done.stderr) == (status, b"", b"")
+
+
+def test_a_full_error_stream_changes_no_run_and_no_status(tmp_path: Path) -> None:
+    script = f'echo "$HIKEBOX_ATTEMPT" >> {tmp_path}/runs; exit 7'
+    lines = (
+        (["run", "-v", *AT_ONCE, "--", "sh", "-c", script], 7),
+        (["run", "--", "no-such-command"], 127),
+        (["run", "--quota", "1/0%/1h@/dev/null/f", *AT_ONCE, "--", "sh", "-c", "exit 7"], 7),
+        (["run", "--polcy", "recurs(1)"], 2),
+        (["plan", "no-such-file"], 4),
+        (["check", '{"recurs":-1}'], 3),
+    )
+    for words, status in lines:
+        with open("/dev/full", "wb") as full:
+            how: Any = {"env": python_environment(), "stdout": subprocess.DEVNULL}
+            assert subprocess.run([*PROGRAM, *words], stderr=full, timeout=60, **how).returncode == status, words
+    assert (tmp_path / "runs").read_text() == "1\n2\n3\n"
 
 
 def test_output_is_held_back_up_to_a_limit(tmp_path: Path) -> None:

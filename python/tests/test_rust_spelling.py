@@ -22,6 +22,7 @@ from hikebox import Policy
 from hikebox.lab.cookbook import COOKBOOK
 from hikebox.policy.spelling import spelt_in_rust
 from hikebox.storms.code import in_rust
+from hikebox.storms.populations import Clients
 from hikebox.storms.parameters import SCENARIOS, Parameters, RateSpan, Slow, Span
 from hikebox.budgets.terms import Terms
 
@@ -60,6 +61,16 @@ STORMS = [
         queue=7,
         together=3,
         rates=(RateSpan(10, 20, 900), RateSpan(100, 1500, 0)),
+    ),
+    Parameters(
+        seconds=1,
+        outage=Span(0, 500),
+        tickets=20,
+        beside=(
+            Clients(30, Policy.parse(COOKBOOK[3][1])),
+            Clients(9, Policy.parse('spaced(1).gather("max")'), 2000, True),
+            Clients(20, Policy.parse("recurs(2)"), None, True),
+        ),
     ),
 ]
 

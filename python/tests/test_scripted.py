@@ -7,13 +7,13 @@ import os
 import random
 import subprocess
 import sys
-from typing import Any, Callable, List, Set, Tuple, Union
+from typing import Any, Callable, Dict, List, Optional, Set, Tuple, Union
 
 import pytest
 import reference
 from conftest import python_environment
 
-from hikebox import Budget, Ending, Policy, Quota, Retrying, milliseconds, state_of
+from hikebox import MAX_NUMBER, Budget, Ending, Policy, Quota, Retrying, milliseconds, state_of
 from hikebox.testing import VirtualClock
 
 
@@ -24,6 +24,8 @@ class Lost(Exception):
 
 
 Run = Tuple[str, int]
+#: How a retry ended, and the milliseconds at which its runs began.
+Timed = Tuple[Ending, List[int]]
 
 
 def some_job(rng: random.Random) -> Tuple[Any, List[Run]]:
@@ -164,6 +166,80 @@ def test_200_retries_on_a_quota_end_as_the_definitions_and_zsched_pool_say() -> 
         assert printed == [f"job 0: {line}", f"granted {line.split()[-1]} in {len(windows)} windows"]
         endings.add(line.split()[0])
     assert endings == {"won", "schedule", "budget"}
+
+
+class SlowClock:
+    """Tells whole milliseconds. Each sleep takes longer than it was asked to: by these, in turn."""
+
+    def __init__(self, late: List[int]) -> None:
+        self.now = 0
+        self.late = iter(late)
+
+    def __call__(self) -> float:
+        return self.now / 1000
+
+    def sleep(self, seconds: float) -> None:
+        self.now += round(seconds * 1000) + next(self.late)
+
+
+def timed(tree: Any, runs: List[Run], took: List[int], late: List[int], deadline: int) -> Optional[Timed]:
+    """How a retry ends whose runs take so long and whose waits end so late, and when its runs began, by the
+    definitions; None where it waits longer than a float tells milliseconds."""
+    now, too_late = 0, iter(late)
+    began: List[int] = []
+    history: List[reference.Event] = []
+    for number, length in enumerate(took):
+        outcome, code = runs[min(number, len(runs) - 1)]
+        began.append(now)
+        now += length
+        if outcome == "won":
+            return Ending.WON, began
+        history.append(reference.Event(now, (2**31,) * 4, code))
+        start = reference.answer(tree, history).start
+        if start is None:
+            return Ending.SCHEDULE_DONE, began
+        if start > deadline:
+            return Ending.DEADLINE, began
+        if start > 10**9:
+            return None
+        now = start + next(too_late) if start > now else now
+        if now > deadline:
+            return Ending.DEADLINE, began
+    raise AssertionError("the policy goes on at most six times")
+
+
+def test_retries_that_take_time_and_wake_late_are_those_of_the_definitions() -> None:
+    rng = random.Random(31)
+    endings: Dict[Ending, int] = {}
+    for _ in range(500):
+        tree, runs = some_job(rng)
+        took, late = ([rng.choice([0, 0, 1, 20, 500]) for _ in range(7)] for _ in range(2))
+        deadline = rng.choice([50, 300, 2000, MAX_NUMBER])
+        right = timed(tree, runs, took, late, deadline)
+        if right is None:
+            continue
+        clock, began, left = SlowClock(late), [], list(zip(took, runs + runs[-1:] * 7))
+
+        def call() -> None:
+            began.append(clock.now)
+            length, (outcome, code) = left.pop(0)
+            clock.now += length
+            if outcome == "lost":
+                raise Lost(code)
+
+        bound = None if deadline == MAX_NUMBER else milliseconds(deadline)
+        policy = Policy.from_dict(tree)
+        retrying = Retrying(policy, clock=clock, sleep=clock.sleep, random=lambda: 0.5, deadline=bound)
+        ending = Ending.WON
+        try:
+            retrying(call)
+        except Lost as error:
+            state = state_of(error)
+            assert state is not None and state.ending is not None
+            ending = state.ending
+        assert (ending, began) == right, (tree, runs, took, late, deadline)
+        endings[ending] = endings.get(ending, 0) + 1
+    assert set(endings) == {Ending.WON, Ending.SCHEDULE_DONE, Ending.DEADLINE} and min(endings.values()) > 30, endings
 
 
 GROWS = """

@@ -20,16 +20,17 @@ import pytest
 from conftest import TOP, heed_signals, python_environment
 
 from hikebox import Breaker, Bucket, Budget, InFlight, Policy, Quota, Storm, StormError, Throttle, both, exponential
-from hikebox import milliseconds, recurs, spaced, storm
+from hikebox import PolicyError, Population, TermsError, milliseconds, recurs, spaced, storm
 from hikebox.cli.storm_options import limits_of, parameters_of, tickets_of
 from hikebox.limits.kinds import times_of
 from hikebox.storms.code import in_command, in_python, in_rust, in_scenario
-from hikebox.storms.limits import LIMIT_WANTED, limit_of
+from hikebox.storms.limits import KINDS, LIMIT_WANTED, limit_of
 from hikebox.storms.parameters import SCENARIOS, Parameters, RateSpan, Slow, Span
-from hikebox.storms.texts import setting
+from hikebox.storms.texts import setting, side_by_side
 from hikebox.errors import BudgetError
 from hikebox.budgets.terms import Terms
 from hikebox.storm import play
+from hikebox.sweeps import sweep
 
 sys.path.insert(0, str(TOP / "tests"))
 storms: Any = importlib.import_module("storms")
@@ -163,14 +164,25 @@ def test_a_storm_under_a_limit_is_spelt_as_a_command_in_python_and_in_rust(word:
     assert shown["lines"][0]["limit"] == word
 
 
+def test_a_request_that_is_denied_its_first_call_is_not_told_as_one_denied_a_retry() -> None:
+    # Of 800 requests a second from 10 s on, five calls fail. Then the breaker is open until 40 s: 800 requests in each
+    # second are denied their first call, and make none.
+    open_for_30 = str(storm(recurs(3), budget="breaker:5/1/1000"))
+    assert "48,000 requests: 23,999 won, 1 lost, 24,000 denied, 0 left open\n24,004 calls, " in open_for_30
+    assert "; the most requests and retries in a window 803, from 10 s on\n" in open_for_30
+    retries = str(storm(recurs(3), budget=0, seconds=1, rate=1, outage=(0, 1)))
+    assert "0 lost, 1 denied a retry, " in retries and "; the most in a window 1, from 0 ms on\n" in retries
+    assert "0 lost, 1 denied, " in str(storm(recurs(3), budget="grpc:1/100", seconds=1, rate=1, outage=(0, 1)))
+
+
 def test_one_of_two_replicas_is_down() -> None:
     half: Dict[str, Any] = {"capacity": 500, "replicas": 2, "down": 1}
     lost = [storm(recurs(retries), rate=rate, **half).totals.lost for rate in (400, 800) for retries in (0, 1)]
     assert lost == [2000, 0, 4000, 37_887]
     one = Parameters(capacity=500, replicas=2, down=1)
-    assert "a peer of 2 replicas that each do 500 calls a second, 1 of them away from 10 s to 20 s;" in setting(one)
-    assert one.weather() == [(10_000, 20_000, "1 of 2 replicas away", "away")]
-    assert Parameters(replicas=2).weather() == [(10_000, 20_000, "peer away", "away")]
+    assert "a peer of 2 replicas that each do 500 calls a second, 1 of them down from 10 s to 20 s;" in setting(one)
+    assert one.weather() == [(10_000, 20_000, "1 of 2 replicas down", "away")]
+    assert Parameters(replicas=2).weather() == [(10_000, 20_000, "peer down", "away")]
     assert Parameters(capacity=500, replicas=2, slow=Slow(0, 9, 50)).capacity_at(8) == 500
 
 
@@ -193,6 +205,19 @@ def test_the_budget_is_a_number_or_one_of_the_package() -> None:
     assert by_number == storm(recurs(3), budget=budget)
     assert by_number.totals.tickets == 100 and budget.granted == 0
     assert storm(recurs(3), budget=0).totals.calls == 48_000
+
+
+def test_a_storm_of_which_no_window_begins_after_the_outage_has_no_verdict() -> None:
+    for how in ({"window": 60}, {"until": 15}, {"calls": 10_000}):
+        options: Any = how
+        played = storm(recurs(3), **options)
+        assert "No window begins at 20 s or later, so a recovery would not show" in str(played).splitlines()
+        assert "no window afterwards: recurs(3)" in repr(played)
+        told = side_by_side([played], ["it"]) + played.svg() + sweep(played, queue=[5000]).table("recovery")
+        assert "no window afterwards" in told and "never" not in told and "ot back by" not in f"{told}{played}"
+    # A window that begins as the outage ends is one after it.
+    assert storm(recurs(3), window=20).totals.recovered_ms == 20_000
+    assert "Not back by the end" in str(storm(FULL, window=20))
 
 
 def test_a_seed_gives_the_same_storm_and_another_one_another() -> None:
@@ -226,6 +251,7 @@ WRONG: List[Tuple[Dict[str, Any], str]] = [
         "rates: 800 a second and the spans for 60 s are 1048620 requests, and a storm has at most 1048576",
     ),
     ({"slow": (0, 1, 50)}, "slow: expected a share of the capacity from 0.01 to 1, got 50"),
+    ({"slow": (0, 1, 0.999)}, "slow: expected a share in whole hundredths, got 0.999"),
     ({"slow": (2, 1, 0.5)}, "slow: it ends at 1000 ms, before it begins at 2000 ms"),
     ({"window": 0}, "window: expected 1 to 3600000 ms, got 0"),
     ({"window": 0.001}, "window: 120000 ms by windows of 1 ms are 120001 lines, and a report has at most 65537"),
@@ -236,6 +262,20 @@ WRONG: List[Tuple[Dict[str, Any], str]] = [
 ]
 
 
+def test_one_is_told_as_one() -> None:
+    one: Any = {"rate": 1, "seconds": 1, "capacity": 1, "patience": 2}
+    alone = storm(recurs(3), outage=None, budget=1, **one)
+    assert [line for line in str(alone).splitlines() if line.startswith("1 ")] == [
+        "1 request: 1 won, 0 lost, 0 denied a retry, 0 left open",
+        "1 call, 1.00 for each request; the most in a window 1, from 0 ms on",
+    ]
+    assert repr(alone) == "<Storm of 1 request, 1 succeeded, 1 call: recurs(3)>"
+    assert setting(alone.parameters).startswith("1 request a second for 1 s on a peer that does 1 call a second;")
+    assert "1 request/s for 1 s, capacity 1 call/s, queue 5,000" in alone.svg()
+    assert "1 ticket given for retries" in str(storm(recurs(3), outage=(0, 1), budget=1, **one))
+    assert repr(sweep(alone, rate=[1])) == "<Sweep of 1 storm along rate>"
+
+
 @pytest.mark.parametrize("given, line", WRONG, ids=lambda value: str(value)[:40])
 def test_what_is_out_of_range_is_named(given: Dict[str, Any], line: str) -> None:
     with pytest.raises(StormError) as caught:
@@ -243,6 +283,32 @@ def test_what_is_out_of_range_is_named(given: Dict[str, Any], line: str) -> None
     assert str(caught.value) == line
     assert caught.value.name == next(iter(given))
     assert str(pickle.loads(pickle.dumps(caught.value))) == line
+
+
+def test_a_number_of_too_many_digits_is_out_of_range() -> None:
+    huge = 10**5000
+    milliseconds_wanted = "expected 0 to 4611686018427387903 milliseconds"
+    wrong: List[Tuple[Dict[str, Any], str]] = [
+        ({"rate": huge}, "rate: expected 1 to 1000000"),
+        ({"seed": -huge}, "seed: expected 0 to 18446744073709551615"),
+        ({"budget": huge}, "budget: expected 0 to 4294967296"),
+        ({"outage": (0, huge)}, f"outage: {milliseconds_wanted}"),
+        ({"window": milliseconds(huge)}, f"window: {milliseconds_wanted}"),
+        ({"rates": [(0, 1, huge)]}, "rates: expected 0 to 1000000 requests a second"),
+        ({"slow": (0, 1, huge)}, "slow: expected a share of the capacity from 0.01 to 1"),
+        ({"beside": [Population(0.1, recurs(1), huge)]}, "beside[0].patience: expected 0.001 to 3600 seconds"),
+    ]
+    for given, line in wrong:
+        with pytest.raises(StormError) as caught:
+            storm(recurs(1), **given)
+        assert str(caught.value) == f"{line}, got a number of too many digits"
+    terms: List[Tuple[Any, Tuple[Any, ...]]] = [(Quota, (huge, 0.1, 1)), (Quota, (1, huge, 1)), (Budget, (huge,))]
+    for kind, numbers in terms:
+        with pytest.raises(TermsError, match=", got a number of too many digits$"):
+            kind(*numbers)
+    for build in (recurs, spaced):
+        with pytest.raises(PolicyError, match=", got a number of too many digits$"):
+            build(huge)
 
 
 @pytest.mark.parametrize(
@@ -256,6 +322,7 @@ def test_what_is_out_of_range_is_named(given: Dict[str, Any], line: str) -> None
         {"rates": [(1, 2)]},
         {"rates": [(1, 2, 2.5)]},
         {"rates": [3]},
+        {"rates": 3},
         {"slow": (1, 2)},
         {"slow": (1, 2, "x")},
     ]
@@ -311,7 +378,7 @@ def test_matplotlib_draws_it() -> None:
         "requests",
         "retries",
         "calls that succeed",
-        "the peer is away",
+        "the peer is down",
         "it works at 50 %",
         "what the peer can do",
     } == set(names)
@@ -374,7 +441,7 @@ def test_a_cut_storm_has_a_status_of_its_own() -> None:
 
 
 COUNTED = "expected FROM below TO and a COUNT from 2 to 64, as rate=200..1600/8"
-NAMES = "rate, clients, together, seconds, capacity, queue, patience, outage, share, reserve, budget"
+NAMES = "rate, clients, together, seconds, capacity, queue, patience, outage, share, reserve, budget, beside"
 
 
 @pytest.mark.parametrize(
@@ -404,20 +471,33 @@ NAMES = "rate, clients, together, seconds, capacity, queue, patience, outage, sh
         (["--budget", "4294967297"], "argument --budget: expected a number from 0 to 4294967296, got '4294967297'"),
         (["--quota", "1/1%/0s"], "argument --quota: expected a window of at least 100 ms, got 0.0"),
         (["--limit", "aws:1"], f"argument --limit: {LIMIT_WANTED}, got 'aws:1'"),
-        (["--limit", "aws", "--open", "spaced(1)"], "open: it is of --limit breaker:.."),
-        (["--open", "spaced(1)"], "open: it is of --limit breaker:.."),
-        (["--csv", "--limit", "aws", "--budget", "1"], "storm: --csv and --json are of one storm, or of a sweep"),
-        (["--csv", "--budget", "1", "--quota", "1/1%/1s"], "storm: --csv and --json are of one storm, or of a sweep"),
+        (["--limit", "aws", "--open", "spaced(1)"], "open: needs --limit breaker:.."),
+        (["--open", "spaced(1)"], "open: needs --limit breaker:.."),
+        (
+            ["--csv", "--limit", "aws", "--budget", "1"],
+            "storm: expected one storm, or a sweep, for --csv and --json, got 2 storms",
+        ),
+        (
+            ["--csv", "--budget", "1", "--quota", "1/1%/1s"],
+            "storm: expected one storm, or a sweep, for --csv and --json, got 2 storms",
+        ),
         (["--csv", "--json"], "argument --json: not allowed with argument --csv"),
-        (["--csv", "recurs(1)", "recurs(2)"], "storm: --csv and --json are of one storm, or of a sweep"),
-        (["--json", "--compare", "recurs(2)"], "storm: --csv and --json are of one storm, or of a sweep"),
+        (
+            ["--csv", "recurs(1)", "recurs(2)"],
+            "storm: expected one storm, or a sweep, for --csv and --json, got 2 storms",
+        ),
+        (
+            ["--json", "--compare", "recurs(2)"],
+            "storm: expected one storm, or a sweep, for --csv and --json, got 2 storms",
+        ),
         (["--width", "4001"], "argument --width: expected a number from 72 to 4000, got '4001'"),
-        (["--width", "100"], "width: it is of --bars, or of a picture"),
-        (["--measure", "calls"], "measure: it is of a sweep"),
-        (["--bars", "--sweep", "rate=1,2"], "storm: --bars is of storms, not of a sweep or a border"),
-        (["--detail"], "detail: it is of a picture of storms"),
+        (["--width", "100"], "width: needs --bars or --svg"),
+        (["--measure", "calls"], "measure: needs --sweep"),
+        (["--bars", "--sweep", "rate=1,2"], "storm: --bars can't be used with --sweep or --find"),
+        (["--detail"], "detail: needs --svg, without --sweep"),
+        (["--title", "x", "--json"], "title: needs --svg"),
         (["--find", "retries", "recurs(1)", "recurs(2)"], "storm: expected one storm for --find, got 2"),
-        (["--find", "quota", "--csv"], "storm: --find prints text or --json"),
+        (["--find", "quota", "--csv"], "storm: --find can't be used with --csv, --svg or --sweep"),
         (["--sweep", "rats=1,2"], "sweep: expected a parameter, as rate=200..1600/8, got 'rats'"),
         (
             ["--sweep", "recurs(3)"],
@@ -448,6 +528,13 @@ def test_a_bad_command_line_is_told_before_the_policy_is_read(words: List[str], 
     assert errors.splitlines()[-1] in (f"hikebox storm: error: {line}", f"hikebox: {line}")
 
 
+def test_the_help_spells_each_limit() -> None:
+    status, told, _ = hikebox("--help")
+    forms = [line.strip() for line in told.splitlines() if line.strip().partition(":")[0] in KINDS]
+    assert status == 0 and {form.partition(":")[0] for form in forms} == set(KINDS)
+    assert [form for form in forms if form.count("/") != max(0, KINDS[form.partition(":")[0]] - 1)] == []
+
+
 #: Three windows of 100 requests, of which the ones in the midst are refused three times each. Bars are 26 columns long.
 BARS = """\
   won %  from ms  requests  retries  failed  waiting  # request, + retry
@@ -471,6 +558,10 @@ def test_bars_have_the_verdict_first_and_their_scale_last() -> None:
     assert [line.strip() for line in told.splitlines() if "600 calls" in line] == ["0" + "600 calls".rjust(25)]
     _, told, _ = hikebox(*options, "--width", "120", "recurs(2)")
     assert max(map(len, told.splitlines())) == 120
+    # The sentences below the bars have lines of 80 columns too. The second one has 96 letters.
+    _, told, _ = hikebox("--limit", "breaker:5/1/1000", "--bars", "recurs(3)")
+    assert max(map(len, told.splitlines())) == 80
+    assert "; the most requests and retries in a window 803," in " ".join(told.split())
     for width in ("71", "1001"):
         assert hikebox(*options, "--width", width, "recurs(2)")[0] == 2
 

@@ -20,6 +20,7 @@ from hikebox.cli.scenario import scenario_of
 from hikebox.storms.axes import AXES, values_of
 from hikebox.storms.parameters import Parameters, RateSpan, Slow, Span
 from hikebox.budgets.terms import Terms
+from hikebox.storms.populations import Clients
 from hikebox.sweeps import Sweep, find, sweep
 
 BRIEF: Dict[str, Any] = {"seconds": 5, "outage": (1, 2), "rate": 100, "capacity": 120}
@@ -87,8 +88,21 @@ def test_what_is_no_sweep_is_refused() -> None:
         sweep(base, rate=[0, 1])
     with pytest.raises(StormError, match="sweep: expected 1 to 64 values, got 65"):
         sweep(base, rate=range(1, 66))
+    for values in ([2, 1], [1, 1]):
+        with pytest.raises(StormError, match=f"rate: expected values, each greater .*, got .{values[0]}, 1.$"):
+            sweep(base, rate=values)
     with pytest.raises(TypeError):
         sweep(base, rate=[1.5])
+    with pytest.raises(StormError, match="sweep: outage: a duration of nan seconds"):
+        sweep(base, outage=[float("nan")])
+    anything: Any = recurs(0)
+    for storms, given in [(anything, {"rate": [1]}), ([anything], {"rate": [1]}), (base, {"rate": anything})]:
+        with pytest.raises(TypeError, match="sweep: expected .*, got recurs"):
+            sweep(storms, **given)
+    with pytest.raises(TypeError, match="find: expected a storm, got recurs"):
+        find(anything, "quota")
+    with pytest.raises(StormError, match="measure: expected one of succeeded, calls, recovery, slowest, got 'x'"):
+        sweep(base, rate=[1]).table("x")
 
 
 def test_it_is_told_as_a_table_csv_and_json() -> None:
@@ -135,6 +149,40 @@ def test_its_picture_has_a_line_a_storm(width: int) -> None:
         assert [part.get("d").count("L") for part in drawn if "h36" not in part.get("d")] == [7, 7, 7]
 
 
+@pytest.mark.parametrize("width", [280, 760])
+def test_a_storm_of_a_sweep_that_is_cut_is_marked(width: int) -> None:
+    swept = sweep(storm(recurs(0), calls=300, **BRIEF), rate=[50, 110])
+    assert [each.totals.cut for each in swept.lines[0]] == [False, True]
+    # Of the 300 requests before the cut 110 come in the outage, and fail.
+    assert str(swept).splitlines()[-2:] == ["50        80.00", "110   63.33 cut"]
+    picture = swept.svg(width=width)
+    root = parsed(picture)
+    looks_at_texts(root)
+    assert "the storm was cut" in texts(root) and "63.33 (cut)." in picture
+    hollow = [part for part in root.iter(SVG + "circle") if part.get("class") == "ground"]
+    # (one in the legend)
+    assert len(hollow) == 2
+    assert "the storm was cut" not in texts(parsed(sweep(two(), rate=[50, 100]).svg()))
+
+
+def test_a_table_rounds_no_share_to_all_or_none() -> None:
+    # Of 48,000 requests two come while the peer is away for 2 ms; or all but one.
+    for outage, won, shown in [((10, 10.002), 47_998, "99.99"), ((0, 59.998), 1, "0.01")]:
+        swept = sweep(storm(recurs(0), outage=outage), rate=[800])
+        assert swept.lines[0][0].totals.won == won
+        assert str(swept).splitlines()[-1].split() == ["800", shown]
+        assert swept.table("slowest").splitlines()[-1].split() == ["800", "0.001"]
+
+
+def test_a_line_does_not_name_the_number_that_is_swept() -> None:
+    for along, name in [("share", "quota 10/a share/1s"), ("reserve", "quota a reserve/10%/1s")]:
+        swept = sweep([storm(recurs(3), budget=TENTH, **BRIEF)], **{along: [0, 1]})
+        assert swept.names == (name,) and name in texts(parsed(swept.svg()))
+        assert json.loads(swept.to_json())["lines"][0]["limit"] == name
+    swept = sweep(two() + [storm(recurs(3), budget=7, **BRIEF)], budget=[5, 100])
+    assert swept.names == ("no limit", "quota 10/10%/1s", "a budget")
+
+
 def test_a_wide_range_of_values_goes_by_ratios() -> None:
     herd: Any = {"together": 100, "rate": 100, "seconds": 1, "outage": None, "queue": 5}
     root = parsed(sweep(storm(recurs(3), **herd), clients=[10, 100, 1000]).svg("calls"))
@@ -145,11 +193,22 @@ def test_a_wide_range_of_values_goes_by_ratios() -> None:
     assert x[1] - x[0] == pytest.approx(x[2] - x[1], abs=0.2)
 
 
+def test_an_axis_of_whole_numbers_has_marks_at_whole_numbers() -> None:
+    herd: Any = {"together": 1, "rate": 1, "seconds": 1, "outage": None}
+    for values, most in [([1, 10], "10"), ([1, 3], "3"), ([1, 1_000_000], "1,000,000")]:
+        words = texts(parsed(sweep(storm(recurs(0), **herd), clients=values).svg("calls")))
+        # (first come the marks below the panel, then the numbers at its left)
+        marks = words[words.index("calls for each request") + 1 : words.index("0")]
+        assert marks[0] == "1" and marks[-1] == most and not [mark for mark in marks if "." in mark or "e" in mark]
+    patience = texts(parsed(sweep(storm(recurs(0), **herd), patience=[1, 2]).svg("calls")))
+    assert "1.5" in patience
+
+
 def test_values_are_spelt_in_the_units_of_the_command_line() -> None:
     assert values_of("outage=1000..30000/3") == ("outage", [1000, 15_500, 30_000])
     assert values_of("clients=5") == ("clients", [5])
     for name, axis in AXES.items():
-        assert axis.put(Parameters(tickets=Terms(1, 1, 1000)), 7).checked()
+        assert axis.put(Parameters(tickets=Terms(1, 1, 1000), beside=(Clients(5, recurs(1)),)), 7).checked()
         assert values_of(f"{name}=7")[0] == name
 
 
@@ -177,15 +236,24 @@ def test_borders_of_retries_and_of_patience() -> None:
     assert storm(FULL, patience=(patience.value - 1) / 1000).totals.recovered_ms is None
 
 
+def test_a_storm_that_is_cut_did_not_recover() -> None:
+    found = find(storm(recurs(0), calls=300, **BRIEF), "quota")
+    assert found.value is None and str(found).splitlines()[-1].endswith("  cut")
+
+
 def test_what_never_recovers_and_what_always_does() -> None:
     assert find(storm(FULL, rate=2000), "quota").value is None
     assert str(find(storm(FULL, rate=2000), "quota")).startswith(
         "greatest share of a quota with which the peer recovers: none\n"
     )
-    assert find(storm(recurs(0), **BRIEF), "retries").value == 64
+    always = find(storm(recurs(0), **BRIEF), "retries")
+    assert always.value == 64 and [value for value, _ in always.tried] == [0, 64]
+    assert str(always).startswith(
+        "most retries of a request with which the peer recovers: 64 (the end of the range: no border found)\n"
+    )
     with pytest.raises(StormError, match="find: expected a storm with an outage, a brown-out or a surge, got"):
         find(storm(recurs(0), outage=None, seconds=1), "quota")
-    with pytest.raises(StormError, match="find: expected one of quota, retries, patience, got 'x'"):
+    with pytest.raises(StormError, match="find: expected one of quota, retries, patience, beside, got 'x'"):
         find(storm(recurs(0), **BRIEF), "x")
 
 
@@ -324,10 +392,14 @@ BAD_SCENARIOS: List[Tuple[Any, str]] = [
     ({"lines": {}}, "lines: expected a list of at most 64 lines, got {}"),
     ({"lines": [5]}, "lines[0]: expected an object, got 5"),
     ({"lines": [{"name": "x"}]}, "lines[0]: expected a policy, got none"),
-    ({"lines": [{"policy": {"recurs": -1}}]}, 'not a plan: expected {"recurs":N}'),
+    ({"lines": [{"policy": {"recurs": -1}}]}, 'lines[0].policy: not a plan: expected {"recurs":N}'),
+    (
+        {"lines": [{"policy": "recurs(1)"}, {"policy": "recs(1)"}]},
+        "lines[1].policy: not a plan: no builder is called 'recs'; did you mean 'recurs'?",
+    ),
     (
         {"lines": [{"policy": "recurs(1)", "limit": "x"}]},
-        "expected RESERVE/SHARE%/PERIOD, such as 10/20%/60s (units: ms, s, m, h, d), got 'x'",
+        "lines[0].limit: expected RESERVE/SHARE%/PERIOD, such as 10/20%/60s (units: ms, s, m, h, d), got 'x'",
     ),
     ({"lines": [{"policy": "recurs(1)", "limit": -1}]}, "lines[0].limit: expected 0 to 4294967296, got -1"),
     ({"lines": [{"policy": "recurs(1)", "limit": 1.5}]}, "lines[0].limit: expected a whole number, got 1.5"),
@@ -344,6 +416,29 @@ def test_a_bad_scenario_is_told_with_its_place(
     assert printed == "" and errors.startswith(f"hikebox: scenario: {file}: {said}"), errors
 
 
+LONG = "9" * 4000
+
+
+@pytest.mark.parametrize(
+    "told",
+    [
+        {LONG: 1},
+        {"title": LONG, "lines": LONG},
+        {"storm": {"rate": int(LONG)}},
+        {"storm": {"words": -int(LONG)}},
+        {"storm": {"outage": [0, int(LONG)]}},
+        {"lines": [{"policy": "recurs(1)", "limit": int(LONG)}]},
+        {"lines": [{"policy": "recurs(1)", "limit": f"{LONG}/1%/1s"}]},
+        {"lines": [{"policy": "recurs(1)", "limit": f"grpc:{LONG}"}]},
+        {"lines": [{"policy": f"{LONG}()"}]},
+    ],
+    ids=lambda told: str(told)[:30],
+)
+def test_what_is_said_of_a_bad_scenario_is_short(told: Any, tmp_path: Path, capsys: pytest.CaptureFixture[str]) -> None:
+    assert main(["storm", "--scenario", written(tmp_path, told)]) == 3
+    assert len(capsys.readouterr().err) < 1000
+
+
 def test_the_schema_takes_what_the_program_takes() -> None:
     jsonschema = pytest.importorskip("jsonschema")
     file = TOP / "schemas" / "scenario.schema.json"
@@ -356,8 +451,8 @@ def test_the_schema_takes_what_the_program_takes() -> None:
     taken = [
         said.split(":")[0] for told, said in BAD_SCENARIOS if not isinstance(told, str) and validator.is_valid(told)
     ]
-    # (nor which signs are printable)
-    assert taken == ["rates", "title", "lines[0].name", "outage"]
+    # (nor which signs are printable, nor what an expression says)
+    assert taken == ["rates", "title", "lines[0].name", "outage", "lines[1].policy"]
 
 
 EXAMPLES = sorted((TOP / "examples" / "storms").glob("*.json"))

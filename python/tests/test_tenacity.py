@@ -10,7 +10,7 @@ from typing import Any, List
 import pytest
 
 import hikebox.testing
-from hikebox import Budget, Quota, Usage, exponential, recurs, spaced
+from hikebox import Breaker, Budget, Quota, Usage, exponential, recurs, spaced
 
 tenacity = pytest.importorskip("tenacity")
 
@@ -147,3 +147,10 @@ def test_hooks_written_for_tenacity_work() -> None:
     theirs, seen = seen, []
     hikebox.Retrying(recurs(1), before=hook, after=hook, before_sleep=hook, fallback=last)(ask, "a")
     assert seen == theirs
+
+
+def test_a_limit_is_not_for_tenacity() -> None:
+    with pytest.raises(
+        TypeError, match=r"^stop_and_wait\(\) takes no Breaker: .* tenacity doesn't say when that begins$"
+    ):
+        stop_and_wait(recurs(1), budget=Breaker(1, spaced(60)))

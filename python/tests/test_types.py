@@ -19,7 +19,7 @@ RIGHT = """
 from __future__ import annotations
 
 import asyncio
-from typing import Callable, Dict, Generic, List, Optional, Tuple, TypeVar
+from typing import Callable, Dict, Generic, List, Optional, Protocol, Tuple, TypeVar
 
 from hikebox import AsyncRetrying, Repeating, Retrying, poll_until, recurs, repeat, retry, spaced
 
@@ -115,6 +115,33 @@ class Sub(Client):
     pass
 
 
+class Reads(Protocol):
+    @property
+    def size(self) -> int:
+        ...
+
+    def read(self, name: str) -> bytes:
+        ...
+
+    async def read_later(self, name: str) -> bytes:
+        ...
+
+
+class Reader(Reads):
+    @property
+    def size(self) -> int:
+        return shared(len, "abc")
+
+    def read(self, name: str) -> bytes:
+        return shared(self._read, name)
+
+    async def read_later(self, name: str) -> bytes:
+        return await AsyncRetrying(policy)(fetch_later, name)
+
+    def _read(self, name: str) -> bytes:
+        return name.encode()
+
+
 class Box(Generic[T]):
     def __init__(self, value: T) -> None:
         self.value = value
@@ -164,7 +191,7 @@ async def use_later(client: Client) -> None:
 """
 
 WRONG = """
-from hikebox import Retrying, recurs, retry
+from hikebox import NotAdmitted, Retrying, recurs, retry
 
 
 @retry(recurs(3))
@@ -197,6 +224,10 @@ async def use(client: Client) -> None:
     retry(recurs(1), max_retry_after="a minute")  # arg-type
     fetch.retry.deadline = 3  # misc
     fetch.retry.policy = recurs(1)  # misc
+    try:
+        fetch("a")
+    except NotAdmitted as error:
+        error.refusal.until  # attr-defined
 """
 
 
@@ -230,4 +261,4 @@ def test_each_option_is_an_attribute_of_the_type_that_it_takes(tmp_path: Path) -
 
 def test_a_wrong_use_is_found(tmp_path: Path) -> None:
     expected = [(number, line.partition("# ")[2]) for number, line in enumerate(WRONG.splitlines(), 1) if "# " in line]
-    assert len(expected) == 14 and sorted(set(complaints(tmp_path, WRONG))) == expected
+    assert len(expected) == 15 and sorted(set(complaints(tmp_path, WRONG))) == expected

@@ -7,8 +7,8 @@
 >>> fetch()
 'fetched'
 
-What a policy answers, that a retry follows its policy and its budget, and that no budget is overdrawn is proved of the
-engine in `libhikebox.so`, which this package calls.
+This package calls an engine, `libhikebox.so`, of which these are proved: a policy decides as it is defined, a retry
+follows its policy and its budget, and no budget is overdrawn.
 """
 
 from ._time import MAX_NUMBER, Duration, Milliseconds, milliseconds
@@ -57,7 +57,7 @@ from .retry.deadline import seconds_left
 from .retry.repeating import AsyncRepeating, Repeating, poll_until, repeat
 from .retry.state import Ending, Outcome, RetryState, Statistics, code_of, state_of
 from .retrying import AsyncRetrying, Attempt, Retrying, Tickets, retry
-from .storm import Storm, StormRow, StormTotals, storm
+from .storm import Population, PopulationReport, Storm, StormRow, StormTotals, storm
 from .version import VERSION
 
 __version__ = VERSION
@@ -85,6 +85,8 @@ __all__ = [
     "Outcome",
     "Policy",
     "PolicyError",
+    "Population",
+    "PopulationReport",
     "Quota",
     "Refusal",
     "RefusalReason",

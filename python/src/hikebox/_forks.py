@@ -5,7 +5,7 @@ from __future__ import annotations
 import os
 import threading
 from typing import Any, Protocol, TypeVar
-from weakref import WeakSet
+from weakref import WeakKeyDictionary
 
 __all__ = ["BeginsAnew", "OfOneProcess", "begins_anew_in_a_child", "no_fork"]
 
@@ -22,12 +22,13 @@ class BeginsAnew(Protocol):
         """Begins as in a process of its own."""
 
 
-_things: WeakSet[BeginsAnew] = WeakSet()
+#: In the order in which they were made: what is made of others, as several limits at once are, begins after them.
+_things: WeakKeyDictionary[BeginsAnew, None] = WeakKeyDictionary()
 
 
 def begins_anew_in_a_child(thing: BeginsAnew) -> None:
     """Has this begin anew in each child that is forked from here on."""
-    _things.add(thing)
+    _things[thing] = None
 
 
 def _begin_all() -> None:

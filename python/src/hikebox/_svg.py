@@ -3,6 +3,7 @@
 from __future__ import annotations
 
 import re
+import unicodedata
 import zlib
 from html import escape
 from typing import Dict, List, NamedTuple, Tuple
@@ -16,6 +17,7 @@ __all__ = [
     "Picture",
     "fitted",
     "headed",
+    "number_text",
     "plain_width_of",
     "ticks",
     "width_of",
@@ -97,6 +99,13 @@ _WIDTHS: Dict[str, float] = {
     **dict.fromkeys("frt()[]{}-/", 5.0),
     **dict.fromkeys("mwMW%@…", 12.0),
 }
+#: The same of letters in bold, beside the usual width of one, and of those that fill a square, such as Chinese ones.
+_USUAL, _SQUARE = 6.8, 13.0
+_BOLD: Dict[str, float] = {
+    **dict.fromkeys("ijlI|.,:;'! \u00a0", 4.0),
+    **dict.fromkeys("ABCDEFGHJKLNOPQRSTUVXYZ", 9.2),
+    **dict.fromkeys("mwMW%@", 13.0),
+}
 #: How far lines of text are apart.
 LINE = 16
 #: How wide a picture is.
@@ -118,14 +127,17 @@ class Picture:
         self._parts: List[str] = []
         self._hatched: List[str] = []
 
-    def text(self, x: float, y: float, words: str, kind: str = "ink", anchor: str = "start") -> None:
+    def text(self, x: float, y: float, words: str, kind: str = "ink", anchor: str = "start", whole: str = "") -> None:
+        """A line of text. Where it is shortened, a pointer that rests on it shows the whole."""
         anchored = "" if anchor == "start" else f' text-anchor="{anchor}"'
-        self._parts.append(f'<text x="{x:.1f}" y="{y:.1f}"{anchored} {self._paint(kind)}>{_spelt(words)}</text>')
+        told = f"<title>{_spelt(whole)}</title>" if whole else ""
+        self._parts.append(f'<text x="{x:.1f}" y="{y:.1f}"{anchored} {self._paint(kind)}>{_spelt(words)}{told}</text>')
 
-    def texts(self, x: float, y: float, lines: List[str], kind: str = "ink") -> None:
-        """Lines one below the other."""
+    def texts(self, x: float, y: float, lines: List[str], kind: str = "ink", whole: str = "") -> None:
+        """Lines one below the other, of which some may be shortened from the whole."""
         for index, line in enumerate(lines):
-            self.text(x, y + LINE * index, line, kind)
+            is_short = line.endswith("…") and line not in whole
+            self.text(x, y + LINE * index, line, kind, whole=whole if is_short else "")
 
     def box(self, x: float, y: float, width: float, height: float, kind: str) -> None:
         size = f'width="{width:.1f}" height="{height:.1f}"'
@@ -176,8 +188,18 @@ def _spelt(words: str) -> str:
 
 
 def width_of(words: str) -> float:
-    """About how wide a line of text is, also in bold, rather more than less."""
-    return 6.8 * len(words)
+    """About how wide a line of text is, also in bold, rather more than less.
+
+    >>> width_of("recurs(3)") < width_of("RECURS(3)") < width_of("WWWWWWWWW")
+    True
+    """
+    return max(_USUAL * len(words), sum(map(_bold_width_of, words)))
+
+
+def _bold_width_of(letter: str) -> float:
+    # (pictograms stand past the first plane)
+    is_square = letter > "\uffff" or unicodedata.east_asian_width(letter) in "WF"
+    return _SQUARE if is_square else _BOLD.get(letter, _USUAL)
 
 
 def plain_width_of(words: str) -> float:
@@ -186,13 +208,21 @@ def plain_width_of(words: str) -> float:
     >>> plain_width_of("first calls") < plain_width_of("succeeded")
     True
     """
-    return sum(_WIDTHS.get(letter, 7.7) for letter in words)
+    return sum(_WIDTHS.get(letter, max(7.7, _bold_width_of(letter))) for letter in words)
 
 
 def fitted(words: str, width: float) -> str:
-    """The text, shortened where it is wider than this."""
-    most = max(4, int(width / 6.8))
-    return words if len(words) <= most else words[: most - 1] + "…"
+    """The text, shortened where it is wider than this.
+
+    >>> fitted("recurs(3)", 70), fitted("WWWWWWWWW", 70)
+    ('recurs(3)', 'WWWW…')
+    """
+    if len(words) <= 4 or width_of(words) <= width:
+        return words
+    kept = 3
+    while width_of(f"{words[:kept + 1]}…") <= width:
+        kept += 1
+    return f"{words[:kept]}…"
 
 
 def wrapped(words: str, width: float) -> List[str]:
@@ -226,6 +256,15 @@ def headed(words: str, width: float, most: int = 3) -> List[str]:
     if len(lines) > most:
         lines = [*lines[: most - 1], " ".join(lines[most - 1 :])]
     return [fitted(line, width) for line in lines]
+
+
+def number_text(number: float) -> str:
+    """A number as a scale has it, never with an exponent.
+
+    >>> number_text(0.25), number_text(150_000)
+    ('0.25', '150,000')
+    """
+    return f"{number:,.4g}" if number < 1000 else f"{number:,.0f}"
 
 
 def ticks(most: float, count: int) -> List[float]:

@@ -6,7 +6,7 @@ import math
 from datetime import timedelta
 from typing import Union
 
-from .errors import Fault, PolicyError
+from .errors import Fault, PolicyError, shown
 
 __all__ = ["FLOAT_ERROR", "MAX_NUMBER", "Duration", "Milliseconds", "milliseconds", "moment", "seconds", "seconds_text"]
 
@@ -69,14 +69,15 @@ def seconds(duration: Duration, what: str = "") -> int:
         count, is_less = _rounded(micros, 1000), 0 < micros < 1000
     elif isinstance(duration, bool) or not isinstance(duration, (int, float)):
         raise TypeError(f"{place}expected seconds or a timedelta, got {duration!r}")
-    elif not math.isfinite(duration):
-        raise PolicyError(Fault.OUT_OF_RANGE, hint=f"{place}a duration of {duration!r} seconds")
     elif isinstance(duration, int):
         count, is_less = duration * 1000, False
+    elif not math.isfinite(duration):
+        raise PolicyError(Fault.OUT_OF_RANGE, hint=f"{place}a duration of {duration!r} seconds")
     else:
         count, is_less = -1 if duration < 0 else round(duration * 1000), 0 < duration < 0.001 - _GRAIN_OFF
     if not 0 <= count <= MAX_NUMBER:
-        raise PolicyError(Fault.OUT_OF_RANGE, hint=f"{place}expected 0 to {MAX_NUMBER} milliseconds, got {duration!r}")
+        wanted = f"expected 0 to {MAX_NUMBER} milliseconds"
+        raise PolicyError(Fault.OUT_OF_RANGE, hint=f"{place}{wanted}, got {shown(duration)}")
     if is_less:
         text = duration if isinstance(duration, timedelta) else f"{duration!r} s"
         raise PolicyError(Fault.OUT_OF_RANGE, hint=f"{place}{text} is less than a millisecond")

@@ -10,7 +10,7 @@ from ._engine.handles import Pass
 from .budgets.granting import Granting
 from .budgets.passes import Passes
 from .budgets.tickets import Refusal, RefusalReason, Ticket
-from .errors import BudgetError, EngineError, TermsError, TicketError
+from .errors import BudgetError, EngineError, TermsError, TicketError, shown
 
 __all__ = ["Budget"]
 
@@ -101,4 +101,4 @@ class Budget(Granting):
 
 def _look_at_limit(limit: int) -> None:
     if not 0 <= limit <= MAX_TICKETS:
-        raise TermsError(f"expected a limit from 0 to {MAX_TICKETS}, got {limit}")
+        raise TermsError(f"expected a limit from 0 to {MAX_TICKETS}, got {shown(limit)}")

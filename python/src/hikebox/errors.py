@@ -1,9 +1,12 @@
-"""What this package raises of its own. A retry that fails raises the call's last exception itself, none of these."""
+"""The package's own exceptions. A retry that fails raises the call's last exception, not one of these."""
 
 from __future__ import annotations
 
 import enum
-from typing import Any, Optional
+from typing import TYPE_CHECKING, Any, Optional
+
+if TYPE_CHECKING:
+    from .budgets.tickets import Refusal
 
 __all__ = [
     "BudgetClosed",
@@ -22,6 +25,18 @@ __all__ = [
     "TicketError",
     "TryAgain",
 ]
+
+
+def shown(value: object) -> str:
+    """A value as an error shows it: Python spells no number of thousands of digits.
+
+    >>> shown(5), shown(-(10**5000))
+    ('5', 'a number of too many digits')
+    """
+    try:
+        return repr(value)
+    except ValueError:
+        return "a number of too many digits"
 
 
 class HikeboxError(Exception):
@@ -59,7 +74,7 @@ class PolicyError(HikeboxError, ValueError):
         self.hint = hint
 
     def __reduce__(self) -> Any:
-        return (type(self), (self.fault, self.place, self.hint))
+        return (type(self), (self.fault, self.place, self.hint), self.__dict__)
 
 
 class BudgetError(HikeboxError):
@@ -87,11 +102,11 @@ class StoreError(HikeboxError):
 
 
 class StoreLost(StoreError):
-    """A store of leases has lost its count, or may have: it grants nothing until it is begun anew."""
+    """A store of leases has lost its count, or may have: it grants nothing until its count begins again."""
 
 
 class StormError(HikeboxError, ValueError):
-    """What a storm was to be played with is out of range. `name` is the parameter's."""
+    """A parameter of a storm is out of range. `name` is its name."""
 
     def __init__(self, name: str, hint: str) -> None:
         super().__init__(f"{name}: {hint}")
@@ -99,11 +114,11 @@ class StormError(HikeboxError, ValueError):
         self.hint = hint
 
     def __reduce__(self) -> Any:
-        return (type(self), (self.name, self.hint))
+        return (type(self), (self.name, self.hint), self.__dict__)
 
 
 class EngineError(HikeboxError, RuntimeError):
-    """The engine answered a status that no right use of it meets. `status` is its number in `hikebox.h`."""
+    """The engine returned a status that a correct call never gets. `status` is its number in `hikebox.h`."""
 
     def __init__(self, call: str, status: int) -> None:
         super().__init__(f"{call} answered status {status}")
@@ -111,18 +126,18 @@ class EngineError(HikeboxError, RuntimeError):
         self.status = status
 
     def __reduce__(self) -> Any:
-        return (type(self), (self.call, self.status))
+        return (type(self), (self.call, self.status), self.__dict__)
 
 
 class NotAdmitted(HikeboxError):
     """A limit did not admit a call, so its first attempt was not made. `refusal` says why."""
 
-    def __init__(self, refusal: Any) -> None:
+    def __init__(self, refusal: Refusal) -> None:
         super().__init__(f"the call was not admitted: {refusal.reason.value}")
         self.refusal = refusal
 
     def __reduce__(self) -> Any:
-        return (type(self), (self.refusal,))
+        return (type(self), (self.refusal,), self.__dict__)
 
 
 class TryAgain(HikeboxError):
@@ -137,4 +152,4 @@ class ResultRefused(HikeboxError):
         self.result = result
 
     def __reduce__(self) -> Any:
-        return (type(self), (self.result,))
+        return (type(self), (self.result,), self.__dict__)

@@ -5,9 +5,18 @@ from __future__ import annotations
 import email.utils
 import time
 from datetime import timezone
-from typing import Any, Callable, Collection, Optional
+from typing import Any, Callable, Collection, FrozenSet, Optional
 
-__all__ = ["METHODS", "STATUSES", "is_bad", "parse_retry_after", "retry_after", "retry_after_of"]
+__all__ = [
+    "METHODS",
+    "STATUSES",
+    "is_bad",
+    "methods_of",
+    "parse_retry_after",
+    "retry_after",
+    "retry_after_of",
+    "statuses_of",
+]
 
 #: The statuses that the adapters retry by default.
 STATUSES = frozenset({429, 502, 503, 504})
@@ -17,6 +26,23 @@ _ASKING = frozenset({413, 429, 503})
 
 #: The methods that may be repeated.
 METHODS = frozenset({"DELETE", "GET", "HEAD", "OPTIONS", "PUT", "TRACE"})
+
+
+def statuses_of(given: Any) -> FrozenSet[int]:
+    """The statuses that were given as `on_status`; a `TypeError` for anything else."""
+    return _all_of("on_status", given, int, "statuses, as {429, 503}")
+
+
+def methods_of(given: Any) -> FrozenSet[str]:
+    """The methods that were given as `methods`, in capitals; a `TypeError` for anything else."""
+    return frozenset(method.upper() for method in _all_of("methods", given, str, "methods, as {'GET', 'PUT'}"))
+
+
+def _all_of(name: str, given: Any, kind: type, such: str) -> FrozenSet[Any]:
+    found = frozenset(given) if hasattr(given, "__iter__") and not isinstance(given, (str, bytes)) else (None,)
+    if not all(isinstance(each, kind) for each in found):
+        raise TypeError(f"{name}: expected {such}, got {given!r}")
+    return frozenset(found)
 
 
 def is_bad(status: int, statuses: Collection[int], asks: bool) -> bool:
@@ -43,7 +69,7 @@ def parse_retry_after(text: Optional[str], now: Callable[[], float] = time.time)
         return float(text[:12])
     try:
         moment = email.utils.parsedate_to_datetime(text)
-    except (TypeError, ValueError):
+    except (OverflowError, TypeError, ValueError):
         return None
     if moment.tzinfo is None:
         moment = moment.replace(tzinfo=timezone.utc)

@@ -56,7 +56,7 @@ class Quota(Granting, CountsRequests):
     `per`
         The length of a window: seconds, or a `timedelta`. Without `carries`, nothing carries over to the next window.
     `counts_successes`
-        Counts a call as a request when it succeeds, and not at its first attempt, as gRPC's throttling does. A callee
+        Counts a call as a request when it succeeds, and not at its first attempt, as gRPC's throttling does. A peer
         that is down then adds no share, so the quota shrinks to its reserve.
     `returns_tickets`
         A call that succeeds after retries hands back the ticket of the last one, as in AWS's SDKs. A repeat hands back
@@ -137,7 +137,7 @@ class Quota(Granting, CountsRequests):
         return self._clock
 
     def set_terms(self, reserve: Optional[int] = None, share: Optional[float] = None) -> None:
-        """Sets the reserve and the share, as when a service reloads its configuration. Each draw goes by them from now
+        """Sets the reserve and the share, as when a service reloads its configuration. Each draw follows them from now
         on, in the present window too. What you leave out stays, and so do windows and the tickets they have given.
 
         >>> quota = Quota(reserve=1, share=0, per=60)

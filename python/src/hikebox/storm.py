@@ -4,20 +4,21 @@ from __future__ import annotations
 
 import json
 from dataclasses import dataclass
-from typing import Any, Dict, List, NamedTuple, Optional, Sequence, Tuple, Union
+from typing import Any, Dict, Iterable, Iterator, List, NamedTuple, Optional, Sequence, Tuple, Union
 
 from ._engine.calls import MAX_TICKETS
 from ._engine.handles import Totals, play_storm
 from ._time import Duration, seconds as in_milliseconds
 from .budget import Budget
-from .errors import PolicyError, StormError
+from .errors import PolicyError, StormError, shown
 from .limits.limit import Limit
 from .policy import Policy
 from .quota import Quota
 from .storms.limits import limit_of
-from .storms.parameters import MAX_SEED, Limited, Parameters, RateSpan, Slow, Span
+from .storms.parameters import MAX_SEED, Limited, Parameters, RateSpan, Slow, Span, look_at_picture, plural
+from .storms.populations import MAX_PATIENCE, Clients, Population, percent_of
 
-__all__ = ["Storm", "StormRow", "StormTotals", "storm"]
+__all__ = ["Population", "PopulationReport", "Storm", "StormRow", "StormTotals", "storm"]
 
 
 class StormRow(NamedTuple):
@@ -61,7 +62,8 @@ class StormTotals:
     calls: int
     #: Calls per request, in hundredths.
     hundredths: int
-    #: The most calls that began in one window, and when that window begins.
+    #: The most calls that began in one window, with the requests that were denied their first call; and when that
+    #: window begins.
     most_calls: int
     most_from_ms: int
     #: The tickets drawn.
@@ -82,13 +84,9 @@ class StormTotals:
         return self.hundredths / 100
 
 
-@dataclass(frozen=True, repr=False)
-class Storm:
-    """A storm that was played. `str` prints it as a table, and a notebook shows it as a picture."""
+class _Report:
+    """Rows and totals as texts."""
 
-    policy: Policy
-    #: What it was played with, in whole milliseconds.
-    parameters: Parameters
     rows: Tuple[StormRow, ...]
     totals: StormTotals
 
@@ -97,19 +95,83 @@ class Storm:
         names = ",".join(("from", *StormRow._fields[1:]))
         return "".join(f"{line}\n" for line in [names, *(",".join(map(str, row)) for row in self.rows)])
 
-    def to_json(self) -> str:
-        """The rows and the totals as JSON on one line, as `zsched storm --json` prints it."""
-        return json.dumps({"windows": self.rows, "totals": self.totals_dict()}, separators=(",", ":"))
+    def _told(self) -> List[str]:
+        totals = self.totals
+        requests, calls = plural(totals.requests, "request"), plural(totals.calls, "call")
+        return [f"{totals.requests} {requests}", f"{totals.won} succeeded", f"{totals.calls} {calls}"]
 
     def totals_dict(self) -> Dict[str, Any]:
         """The totals by their names in JSON."""
         return {name.replace("_ms", ""): value for name, value in vars(self.totals).items()}
+
+
+@dataclass(frozen=True, repr=False)
+class PopulationReport(_Report):
+    """What became of the requests of one population. `waiting` is 0 in its rows, since the queues are everyone's."""
+
+    #: Its share of the requests, such as 0.3.
+    share: float
+    policy: Policy
+    #: How long its clients wait for a call, in milliseconds.
+    patience_ms: int
+    #: Whether they draw on the storm's budget, quota or limit. The first population, of the storm's own policy, always
+    #: does: it is True of that one also where nothing limits the storm.
+    limited: bool
+    rows: Tuple[StormRow, ...]
+    totals: StormTotals
+
+    def __repr__(self) -> str:
+        said = ", ".join(self._told())
+        return f"<PopulationReport of {self.share:.2g} of the requests, {said}: {self.policy!r}>"
+
+
+@dataclass(frozen=True, repr=False)
+class Storm(_Report):
+    """A storm that was played. `str` prints it as a table, and a notebook shows it as a picture."""
+
+    policy: Policy
+    #: What it was played with, in whole milliseconds.
+    parameters: Parameters
+    rows: Tuple[StormRow, ...]
+    totals: StormTotals
+
+    @property
+    def populations(self) -> Tuple[PopulationReport, ...]:
+        """The reports on each population, the first one first; none where all requests are of one. The storm is played
+        again for each of them when they are first asked for."""
+        kept: Optional[Tuple[PopulationReport, ...]] = vars(self).get("_populations")
+        if kept is None:
+            # (not by functools, whose lock would have several storms wait for one another)
+            kept = vars(self)["_populations"] = tuple(self._play_populations())
+        return kept
+
+    def _play_populations(self) -> Iterator[PopulationReport]:
+        parameters = self.parameters
+        for of, each in enumerate(parameters.populations(self.policy), start=1):
+            patience = parameters.patience_of(each)
+            played = _played(self.policy, parameters, of)
+            yield PopulationReport(each.share / 100, each.policy, patience, each.is_limited, *played)
+
+    def to_json(self) -> str:
+        """Returns the rows and the totals of all requests as JSON on one line, as `zsched storm --json` prints it. If
+        there are several populations, it has those of each too."""
+        told: Dict[str, Any] = {"windows": self.rows, "totals": self.totals_dict()}
+        if self.populations:
+            told["populations"] = [
+                {"share": round(100 * each.share), "windows": each.rows, "totals": each.totals_dict()}
+                for each in self.populations
+            ]
+        return json.dumps(told, separators=(",", ":"))
 
     def svg(self, *others: Storm, width: int = 760, detail: bool = False, title: Optional[str] = None) -> str:
         """Returns the picture as SVG of this width. Other storms are drawn beside it on the same scales. `detail` shows
         why calls failed. `title` replaces the policy that the storms share."""
         from .storms.picture import storm_picture
 
+        for other in others:
+            if not isinstance(other, Storm):
+                raise TypeError(f"svg: expected storms, got {shown(other)}")
+        look_at_picture(width, title)
         return storm_picture([self, *others], width=width, detail=detail, title=title)
 
     def _repr_svg_(self) -> str:
@@ -128,11 +190,12 @@ class Storm:
         return table(self)
 
     def __repr__(self) -> str:
-        totals = self.totals
-        said = [f"{totals.requests} requests", f"{totals.won} succeeded", f"{totals.calls} calls"]
+        said = self._told()
         if self.parameters.weather():
-            recovered = totals.recovered_ms
-            said.append("not back by the end" if recovered is None else f"back at {recovered} ms")
+            from .storms.texts import recovery_mark
+
+            recovered = self.totals.recovered_ms
+            said.append(recovery_mark(self)[1] if recovered is None else f"back at {recovered} ms")
         return f"<Storm of {', '.join(said)}: {self.policy!r}>"
 
 
@@ -155,6 +218,7 @@ def storm(
     calls: int = 16_777_216,
     seed: int = 0,
     budget: Union[None, int, str, Budget, Quota, Limit] = None,
+    beside: Sequence[Population] = (),
 ) -> Storm:
     """Simulates many requests under one policy, on a peer that fails for a while. It makes no call and does not wait.
 
@@ -191,6 +255,9 @@ def storm(
         Or the terms of a `Bucket`, an `InFlight`, a `Breaker` or a `Throttle`, which requests also ask before their
         first call; a call that its client gave up costs what a `TimeoutError` does. The limit itself stays as it is.
         A text such as `"grpc:100/100"` spells one as the command line does.
+    `beside`
+        Up to three populations of clients beside those of `policy`, each with a share of the requests and a policy of
+        its own. The storm's `populations` has a report on each.
 
     Times are seconds, or a `timedelta`. A value out of range raises a `StormError`.
 
@@ -202,6 +269,9 @@ def storm(
     >>> totals = storm(policy, budget=Quota(reserve=10, share=0.1, per=1)).totals
     >>> totals.calls_per_request, totals.recovered_ms
     (1.02, 20000)
+    >>> beside = storm(policy, budget=Quota(reserve=10, share=0.1, per=1), beside=[Population(0.3, policy)])
+    >>> [(each.share, each.limited, each.totals.requests) for each in beside.populations]
+    [(0.7, True, 33600), (0.3, False, 14400)]
     """
     parameters = Parameters(
         rate=_whole("rate", rate),
@@ -219,16 +289,23 @@ def storm(
         calls=_whole("calls", calls),
         words=_whole("seed", seed, MAX_SEED),
         tickets=_tickets(budget),
-        rates=tuple(map(_rate_span, rates)),
+        rates=_rate_spans(rates),
+        beside=_beside(beside),
     )
     return play(Policy.of(policy), parameters.checked())
 
 
 def play(policy: Policy, parameters: Parameters) -> Storm:
     """Plays a storm whose parameters were checked."""
-    # (with a handle of its own, since other threads go on meanwhile)
-    windows, totals = play_storm(policy.plan.share(), parameters.for_engine())
-    return Storm(policy, parameters, tuple(StormRow(*window) for window in windows), _totals(totals))
+    return Storm(policy, parameters, *_played(policy, parameters))
+
+
+def _played(policy: Policy, parameters: Parameters, of: int = 0) -> Tuple[Tuple[StormRow, ...], StormTotals]:
+    """The rows and the totals of a population, from 1, or those of all requests."""
+    # (with handles of their own, since other threads go on meanwhile)
+    policies = [each.plan.share() for each in (policy, *(clients.policy for clients in parameters.beside))]
+    windows, totals = play_storm(policies, parameters.for_engine(of))
+    return tuple(StormRow(*window) for window in windows), _totals(totals)
 
 
 def _totals(found: Totals) -> StormTotals:
@@ -256,7 +333,7 @@ def _whole(name: str, number: Any, most: Optional[int] = None) -> int:
     if isinstance(number, bool) or not isinstance(number, int):
         raise TypeError(f"{name}: expected a whole number, got {number!r}")
     if most is not None and not 0 <= number <= most:
-        raise StormError(name, f"expected 0 to {most}, got {number}")
+        raise StormError(name, f"expected 0 to {most}, got {shown(number)}")
     return number
 
 
@@ -277,6 +354,12 @@ def _parts(name: str, given: Any, count: int) -> List[Any]:
     return list(given)
 
 
+def _rate_spans(rates: Any) -> Tuple[RateSpan, ...]:
+    if not isinstance(rates, Iterable):
+        raise TypeError(f"rates: expected a list of (from, to, requests a second), got {rates!r}")
+    return tuple(map(_rate_span, rates))
+
+
 def _rate_span(span: Any) -> RateSpan:
     begins, ends, rate = _parts("rates", span, 3)
     return RateSpan(_time("rates", begins), _time("rates", ends), _whole("rates", rate))
@@ -287,8 +370,43 @@ def _slow(slow: Any) -> Slow:
     if isinstance(share, bool) or not isinstance(share, (int, float)):
         raise TypeError(f"slow: expected a share of the capacity, got {share!r}")
     if not 0.01 <= share <= 1:
-        raise StormError("slow", f"expected a share of the capacity from 0.01 to 1, got {share!r}")
-    return Slow(_time("slow", begins), _time("slow", ends), round(share * 100))
+        raise StormError("slow", f"expected a share of the capacity from 0.01 to 1, got {shown(share)}")
+    percent = round(share * 100)
+    if abs(share * 100 - percent) > 1e-9:
+        raise StormError("slow", f"expected a share in whole hundredths, got {share!r}")
+    return Slow(_time("slow", begins), _time("slow", ends), percent)
+
+
+def _beside(populations: Any) -> Tuple[Clients, ...]:
+    if not isinstance(populations, (tuple, list)) or not all(isinstance(each, Population) for each in populations):
+        raise TypeError(f"beside: expected a list of Population, got {populations!r}")
+    return tuple(_clients(f"beside[{index}]", each) for index, each in enumerate(populations))
+
+
+def _clients(place: str, population: Population) -> Clients:
+    if not isinstance(population.limited, bool):
+        raise TypeError(f"{place}.limited: expected True or False, got {population.limited!r}")
+    share = percent_of(f"{place}.share", population.share)
+    patience = None if population.patience is None else _waits(f"{place}.patience", population.patience)
+    try:
+        policy = Policy.of(population.policy)
+    except PolicyError as error:
+        raise StormError(f"{place}.policy", str(error)) from None
+    except TypeError as error:
+        raise TypeError(f"{place}.policy: {error}") from None
+    return Clients(share, policy, patience, population.limited)
+
+
+def _waits(place: str, patience: Duration) -> int:
+    try:
+        waits = in_milliseconds(patience)
+    except PolicyError:
+        waits = 0
+    except TypeError as error:
+        raise TypeError(f"{place}: {error}") from None
+    if not 1 <= waits <= MAX_PATIENCE:
+        raise StormError(place, f"expected 0.001 to {MAX_PATIENCE // 1000} seconds, got {shown(patience)}")
+    return waits
 
 
 def _tickets(budget: Any) -> Limited:

@@ -5,7 +5,7 @@ from __future__ import annotations
 import contextlib
 from typing import Iterator, List
 
-from .retry.progress import switch
+from .retry.waits import switch
 
 __all__ = ["VirtualClock", "no_waits"]
 

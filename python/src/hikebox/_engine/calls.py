@@ -127,6 +127,17 @@ SIGNATURES: Dict[str, Tuple[Any, ...]] = {
     "hikebox_lease_of_budget": (c_uint64, POINTER(Asking), POINTER(Stored), POINTER(Range)),
     "hikebox_lease_of_quota": (c_uint64, c_uint64, POINTER(Asking), POINTER(Stored), POINTER(Range)),
     "hikebox_storm_play": (_HANDLE, POINTER(Storm), POINTER(Window), c_size_t, POINTER(c_size_t), POINTER(Totals)),
+    "hikebox_storm_play_populations": (
+        _HANDLE,
+        _HANDLE,
+        _HANDLE,
+        _HANDLE,
+        POINTER(Storm),
+        POINTER(Window),
+        c_size_t,
+        POINTER(c_size_t),
+        POINTER(Totals),
+    ),
 }
 
 

@@ -41,10 +41,18 @@ _pass_draw = unchecked("hikebox_pass_draw")
 _pass_deposit = unchecked("hikebox_pass_deposit")
 _pass_hand_back = unchecked("hikebox_pass_hand_back")
 _pass_free = unchecked("hikebox_pass_free")
-#: The one call that takes long: it lets go of the interpreter's lock.
-_storm_play = ctypes.CDLL(library_path()).hikebox_storm_play
-_storm_play.argtypes = SIGNATURES["hikebox_storm_play"]
-_storm_play.restype = ctypes.c_uint32
+
+
+def _patient(call: str) -> Any:
+    """A call that takes long: it lets go of the interpreter's lock."""
+    function = ctypes.CDLL(library_path())[call]
+    function.argtypes = SIGNATURES[call]
+    function.restype = ctypes.c_uint32
+    return function
+
+
+_storm_play = _patient("hikebox_storm_play")
+_storm_play_populations = _patient("hikebox_storm_play_populations")
 
 
 class Refusal(NamedTuple):
@@ -199,13 +207,19 @@ def _decided(lines: bytes, text: str) -> List[Decided]:
     return told
 
 
-def play_storm(policy: PolicyHandle, storm: Storm) -> Tuple[List[Tuple[int, ...]], Totals]:
-    """Plays a storm whose parameters are within their ranges: the fields of each window, and the totals."""
+def play_storm(policies: Sequence[PolicyHandle], storm: Storm) -> Tuple[List[Tuple[int, ...]], Totals]:
+    """Plays a storm whose parameters are within their ranges, with the policy of each of its populations, up to four:
+    the fields of each window, and the totals."""
     room = storm.until // storm.window + 1
     windows, count, totals = (Window * room)(), c_size_t(), Totals()
-    status = _storm_play(policy.at, byref(storm), windows, room, byref(count), byref(totals))
+    told = (byref(storm), windows, room, byref(count), byref(totals))
+    if len(policies) == 1:
+        status = _storm_play(policies[0].at, *told)
+    else:
+        four = [*policies, *(PolicyHandle() for _ in range(4 - len(policies)))]
+        status = _storm_play_populations(*(policy.at for policy in four), *told)
     if status != OK:
-        raise refused("hikebox_storm_play", status)
+        raise refused("hikebox_storm_play" if len(policies) == 1 else "hikebox_storm_play_populations", status)
     wide = ctypes.sizeof(Window) // ctypes.sizeof(c_uint64)
     numbers = (c_uint64 * (wide * count.value)).from_buffer(windows)[:]
     return [tuple(numbers[at : at + wide]) for at in range(0, len(numbers), wide)], totals

@@ -9,7 +9,17 @@ from .calls import NO_DEADLINE, OK, OVER, TOO_MANY_PASSES, WAIT, give_memory_bac
 from .handles import Handle, Pass, PolicyHandle
 from .structs import Next, Words
 
-__all__ = ["Loan", "Machine", "end_retry", "is_crowded", "lend_machine", "park", "resumed", "take_machine_back"]
+__all__ = [
+    "Loan",
+    "Machine",
+    "end_retry",
+    "give_machine_up",
+    "is_crowded",
+    "lend_machine",
+    "park",
+    "resumed",
+    "take_machine_back",
+]
 
 _retry_poll = unchecked("hikebox_retry_poll")
 _retry_new = library.hikebox_retry_new
@@ -115,7 +125,8 @@ class Machine:
             _retry_free(self.at)
 
     def __del__(self, free: Any = _retry_free) -> None:
-        if self.loan is None and self.handle.held:
+        # (an exception of a signal handler may have ended `__init__`)
+        if getattr(self, "loan", self) is None and self.handle.held:
             free(self.at)
 
 
@@ -175,12 +186,18 @@ def lend_machine() -> Machine:
 
 def take_machine_back(machine: Machine) -> None:
     """Takes a machine back, and frees its retry where it holds one."""
-    machine.free()
     if len(_machines) < _MAX_MACHINES:
+        machine.free()
         _machines.append(machine)
     else:
-        _crowd.machines -= 1
-        _crowd.leaves()
+        give_machine_up(machine)
+
+
+def give_machine_up(machine: Machine) -> None:
+    """Frees the retry of a machine that serves no other one."""
+    machine.free()
+    _crowd.machines -= 1
+    _crowd.leaves()
 
 
 def is_crowded() -> bool:

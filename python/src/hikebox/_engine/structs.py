@@ -20,6 +20,7 @@ __all__ = [
     "Next",
     "Phase",
     "Place",
+    "Population",
     "Range",
     "Storm",
     "Stored",
@@ -90,6 +91,12 @@ class Phase(Structure):
     _fields_ = _numbers("until rate")
 
 
+class Population(Structure):
+    """A population of clients beside the first one; of no share where there is none."""
+
+    _fields_ = _numbers("share patience limited")
+
+
 class Storm(_Sized):
     _fields_ = [
         _SIZE,
@@ -101,6 +108,10 @@ class Storm(_Sized):
         ("open_times", c_uint64 * 64),
         *_numbers("replicas down phase_count"),
         ("phases", Phase * 16),
+        ("second", Population),
+        ("third", Population),
+        ("fourth", Population),
+        *_numbers("of"),
     ]
 
 

@@ -5,10 +5,11 @@ from __future__ import annotations
 import inspect
 import weakref
 from functools import partial
+from threading import get_ident
 from typing import Any, ClassVar, Collection, Dict, Generator, Optional, Type, Union
 
 from ..errors import ResultRefused
-from ..http import is_bad, retry_after, retry_after_of
+from ..http import is_bad, methods_of, retry_after, retry_after_of, statuses_of
 from ..policy import Policy
 from ..retry.deadline import enter, leave
 from ..retry.drivers import answer_of, not_awaitable
@@ -32,14 +33,12 @@ _COMMON = """
         The methods that may be repeated. A request with another method, or with a body that can't be sent again, such
         as a stream, is retried only if no connection was made.
 
-    It takes the options of `Retrying` too, such as `budget` and `deadline`. Each wait is the policy's, or the
-    `Retry-After` of the response if that is longer, up to `max_retry_after` seconds. The policy's input is the status
-    of the response. When the retry ends, you get the last response, or the last error is raised. With a `deadline`, the
-    time that is left is the timeout of each attempt, unless the client's own is shorter.
+    It takes the options of `Retrying` too, such as `budget` and `deadline`. A request that a limit doesn't admit raises
+    a `NotAdmitted`. Each wait is the policy's, or the `Retry-After` of the response if that is longer, up to
+    `max_retry_after` seconds. The policy's input is the status of the response. When the retry ends, you get the last
+    response, or the last error is raised. With a `deadline`, the time that is left is the timeout of each attempt,
+    unless the client's own is shorter.
     """
-
-#: Where a request keeps the call that it belongs to.
-_KEY = "hikebox"
 
 #: The parameters of `Retrying`, without `self`.
 _PARAMETERS = frozenset(inspect.signature(BaseRetrying.__init__).parameters) - {"self"}
@@ -51,7 +50,7 @@ class Call:
     They are one request of a quota, have one deadline, and share the number of retries that the policy has.
     """
 
-    __slots__ = ("owner", "start", "deadline", "retries", "hops", "request", "leads_on")
+    __slots__ = ("owner", "start", "deadline", "retries", "hops", "requests", "leads_on")
 
     def __init__(self, owner: BaseRetrying) -> None:
         settings = owner.settings
@@ -62,25 +61,27 @@ class Call:
         self.retries = 0
         #: Requests that it had so far, each counted once.
         self.hops = 0
-        #: The latest of them.
-        self.request: Any = None
-        #: Whether the answer to that is a redirect, which may be followed.
+        #: They, as far as they are still there.
+        self.requests: weakref.WeakSet[Any] = weakref.WeakSet()
+        #: Whether the answer to the latest of them is a redirect, which may be followed.
         self.leads_on = False
 
     @classmethod
     def of(cls, owner: BaseRetrying, kept: Dict[str, Any], request: Any) -> Call:
-        """The call that a request belongs to. `kept` is a dict that clients hand on from a request to its redirects."""
-        call: Optional[Call] = kept.get(_KEY)
-        if call is None or not call.leads_on or call.owner is not owner or call.request() is request:
-            call = kept[_KEY] = Call(owner)
-        call.request = weakref.ref(request)
+        """The call that a request belongs to. `kept` is a dict that clients hand on from a request to its redirects. A
+        request that is made again begins another call, also where its redirect was not followed."""
+        key = _key()
+        call: Optional[Call] = kept.get(key)
+        if call is None or not call.leads_on or call.owner is not owner or request in call.requests:
+            call = kept[key] = Call(owner)
+        call.requests.add(request)
         call.leads_on = False
         return call
 
     def leave(self, kept: Dict[str, Any]) -> None:
         """Its request is over: it goes on only where that leads on."""
         if not self.leads_on:
-            kept.pop(_KEY, None)
+            kept.pop(_key(), None)
 
     def __reduce__(self) -> Any:
         return type(None), ()  # a request that is copied or pickled begins another call
@@ -120,8 +121,8 @@ class PolicyClient:
         look_at_names(name, how, {*_PARAMETERS, *inspect.signature(type(self)).parameters})
         if read_up_to is not None and (type(read_up_to) is not int or read_up_to < 0):
             raise TypeError(f"read_up_to: expected a number of bytes or None, got {read_up_to!r}")
-        self.on_status = frozenset(on_status)
-        self.methods = frozenset(method.upper() for method in methods)
+        self.on_status = statuses_of(on_status)
+        self.methods = methods_of(methods)
         self.read_up_to = read_up_to
         given: Dict[str, Any] = {"on": self._ON, "wait": _asked_for, **how}
         #: What retries the requests.
@@ -143,8 +144,7 @@ class PolicyClient:
         progress = Progress(owner, self._attempt, (request,), start=call.start, deadline=call.deadline)
         token = None if call.deadline is None else enter(call.deadline)
         try:
-            yield from _begins(call, progress)
-            goes_on = True
+            goes_on = yield from _begins(call, progress)
             while goes_on:
                 yield from self._one_attempt(call, progress, request)
                 goes_on = yield from _settled(progress.begins())
@@ -152,8 +152,8 @@ class PolicyClient:
         except ResultRefused as refused:
             return self._refused(refused.result, request)
         finally:
-            if token is not None:
-                leave(token)
+            if call.deadline is not None and token is not None:
+                leave(call.deadline, token)
             progress.close()
 
     def _one_attempt(self, call: Call, progress: Progress, request: Any) -> Steps[None]:
@@ -165,10 +165,10 @@ class PolicyClient:
             if not (yield from _settled(progress.raised(error))):
                 raise
         else:
-            if self._leads_on(response) and not self.is_refused(response):
-                progress.over, progress.answer = True, Outcome(response)
-                progress.state.ending = Ending.WON
-                call.leads_on = True
+            is_refused = self.is_refused(response)
+            call.leads_on = not is_refused and self._leads_on(response)
+            if call.leads_on or (is_refused and progress.settings.on_result is None):
+                _gives(progress, response, Ending.WON if call.leads_on else Ending.NOT_RETRIED)
                 return
             yield from progress.returned(response)
             if not progress.over:
@@ -217,6 +217,11 @@ class PolicyClient:
         return length.isascii() and length.isdigit() and int(length) <= self.read_up_to
 
 
+def _key() -> str:
+    """Where a request keeps the call that it belongs to: threads may make the same request at once."""
+    return f"hikebox {get_ident()}"
+
+
 def _asked_for(state: RetryState) -> Optional[float]:
     """The seconds that a `Retry-After` asks for: that of a response, or of an error's."""
     outcome = state.outcome
@@ -226,14 +231,24 @@ def _asked_for(state: RetryState) -> Optional[float]:
     return retry_after_of(outcome.result()) if error is None else retry_after(error)
 
 
-def _begins(call: Call, progress: Progress) -> Steps[None]:
-    """What comes before the first attempt of a request."""
+def _begins(call: Call, progress: Progress) -> Steps[bool]:
+    """What comes before the first attempt of a request: whether it is made."""
     call.hops += 1
     settings = progress.settings
+    if not (yield from progress.is_admitted()):
+        return False
     if call.hops == 1 and settings.deposit is not None:
         settings.deposit()
     for hook in settings.hooks_before:
         yield hook, progress.state
+    return True
+
+
+def _gives(progress: Progress, response: Any, ending: Ending) -> None:
+    """The request is over, with a response that is neither retried nor a success of the call."""
+    progress.over, progress.answer = True, Outcome(response)
+    progress.state.ending = ending
+    progress.tells(ending is Ending.WON)
 
 
 def _settled(steps: Union[bool, Steps[bool]]) -> Steps[bool]:

@@ -1,4 +1,4 @@
-"""A policy for the sessions of aiohttp, as a wrapper round one.
+"""Retries for the sessions of aiohttp, as a wrapper around one.
 
 >>> import aiohttp
 >>> from hikebox import exponential, recurs
@@ -16,6 +16,7 @@ from typing import Any, Collection, Dict, Generator, List, Optional, Union
 
 import aiohttp
 from aiohttp.base_protocol import BaseProtocol
+from aiohttp.http_exceptions import HttpProcessingError
 
 from ..http import METHODS, STATUSES
 from ..policy import Policy
@@ -27,10 +28,17 @@ __all__ = ["PolicySession"]
 
 #: What is raised where a request was never sent.
 _NOT_SENT = (aiohttp.ClientConnectorError,)
+
+
+def _is_no_http(error: Exception) -> bool:
+    """Whether an answer was not HTTP. aiohttp raises a response's error for that, with a status of its own."""
+    return isinstance(error, aiohttp.ClientResponseError) and isinstance(error.__cause__, HttpProcessingError)
+
+
 #: Connections that broke or took too long.
-_BROKEN = (aiohttp.ClientConnectionError, aiohttp.ClientPayloadError, asyncio.TimeoutError)
-#: Bodies that may be sent twice.
-_KEPT = (bytes, bytearray, str, dict, list, tuple, type(None))
+_BROKEN = (aiohttp.ClientConnectionError, aiohttp.ClientPayloadError, asyncio.TimeoutError, _is_no_http)
+#: Bodies, and parts of a form, that may be sent twice.
+_KEPT = (bytes, bytearray, str, int, float, type(None))
 
 
 class PolicySession(PolicyClient):
@@ -97,7 +105,7 @@ class PolicySession(PolicyClient):
     async def _made(self, request: PolicyRequest) -> aiohttp.ClientResponse:
         """The response to a request, or to the last attempt of it."""
         call = Call(self.retrying)
-        may_repeat = request.method in self.methods and isinstance(request.how.get("data"), _KEPT)
+        may_repeat = request.method in self.methods and _is_kept(request.how.get("data"))
         response: aiohttp.ClientResponse = await drive_async(self.attempts(call, request, may_repeat))
         if self.is_refused(response):
             await request.checks(response)
@@ -165,6 +173,13 @@ class PolicyRequest:
 
     async def __aexit__(self, *_: Any) -> None:
         self._response.release()
+
+
+def _is_kept(body: Any) -> bool:
+    """Whether a body may be sent twice. A form with a file may not, since the file is closed once it is sent."""
+    if isinstance(body, (dict, list, tuple)):
+        return all(_is_kept(part) for part in (body.values() if isinstance(body, dict) else body))
+    return isinstance(body, _KEPT)
 
 
 async def _drained(response: aiohttp.ClientResponse) -> Optional[bytes]:

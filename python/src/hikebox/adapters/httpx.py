@@ -1,4 +1,4 @@
-"""A policy for the clients of httpx, as a transport round their own.
+"""Retries for the clients of httpx, as a transport around their own.
 
 >>> import httpx
 >>> from hikebox import exponential, recurs

@@ -1,4 +1,4 @@
-"""A policy for the sessions of requests.
+"""Retries for the sessions of requests.
 
 >>> import requests
 >>> from hikebox import exponential, recurs

@@ -22,6 +22,7 @@ from tenacity.stop import stop_base
 from tenacity.wait import wait_base
 
 from ..leased import LeasedQuota
+from ..limits import look_at_no_limit
 from ..policy import Policy
 from ..quota import Quota
 from ..retry.drivers import settle
@@ -33,13 +34,14 @@ __all__ = ["before_deposit", "stop_and_wait"]
 
 
 def stop_and_wait(policy: Union[Policy, str, bytes, Dict[str, Any]], **how: Any) -> Tuple[stop_base, wait_base]:
-    """The `stop` and the `wait` of a policy, for one `tenacity.retry` or `Retrying`; both are to be given to it.
+    """Returns the `stop` and the `wait` of a policy. Pass both to one `tenacity.retry` or `Retrying`.
 
     `how` is what `hikebox.Retrying` takes: `budget`, `code`, `retry_after`, `deadline`, `clock`, `random`. The policy
-    is asked once for each attempt that tenacity finds failed, whichever of the two tenacity asks first. You may join
-    other stops and waits by tenacity's `|` and `+`. They hear of no call that succeeds, and of no wait that ends too
-    early: with a quota, `before_deposit` counts the requests, at their first attempts, and no ticket comes back.
+    is asked once for each failed attempt, whichever of the two tenacity calls first. You may join other stops and
+    waits by tenacity's `|` and `+`. tenacity calls neither for a call that succeeds or a wait that ends early. So with
+    a quota, `before_deposit` counts each request at its first attempt, and no ticket comes back.
     """
+    look_at_no_limit("stop_and_wait()", how.get("budget"), "tenacity")
     shared = _Shared(Retrying(policy, **how))
     return _Stop(shared), _Wait(shared)
 

@@ -1,4 +1,4 @@
-"""A policy as the `Retry` of urllib3, and so of everything that takes one.
+"""Retries for urllib3, and for everything that takes its `Retry`.
 
 >>> import urllib3
 >>> from hikebox import exponential, recurs
@@ -14,7 +14,8 @@ from urllib3.exceptions import MaxRetryError, ResponseError
 from urllib3.util.retry import Retry
 
 from ..budget import Budget
-from ..http import METHODS, STATUSES, is_bad, parse_retry_after
+from ..http import METHODS, STATUSES, is_bad, parse_retry_after, statuses_of
+from ..limits import look_at_no_limit
 from ..policy import Policy
 from ..quota import Quota
 from ..retry.drivers import settle
@@ -83,6 +84,7 @@ class PolicyRetry(Retry):
     ) -> None:
         how = {name: kw.pop(name) for name in _HOW if name in kw}
         if policy is not None:
+            look_at_no_limit(f"{type(self).__name__}()", budget, "urllib3")
             kw = _retrys(type(self).__name__, on_status, kw)
         super().__init__(**kw)
         #: How it retries, or None where it is a `Retry` without a policy.
@@ -113,7 +115,7 @@ class PolicyRetry(Retry):
         self._deposit()
         if self._is_bad(method, status_code, has_retry_after):
             return True
-        self._succeeds(status_code)
+        self._gives(status_code, self.respect_retry_after_header and has_retry_after)
         return False
 
     def _is_bad(self, method: str, status_code: int, has_retry_after: bool) -> bool:
@@ -122,7 +124,7 @@ class PolicyRetry(Retry):
             return False
         return is_bad(status_code, self.status_forcelist, self.respect_retry_after_header and has_retry_after)
 
-    def _succeeds(self, status: int) -> None:
+    def _gives(self, status: int, has_retry_after: bool) -> None:
         """The request is over, with this response."""
         if self.retrying is None:
             return
@@ -132,6 +134,8 @@ class PolicyRetry(Retry):
             if status in _REDIRECT_STATUSES:
                 # (neither a success nor a failure: what it leads to is)
                 progress.over, progress.state.ending = True, Ending.WON
+            elif is_bad(status, self.status_forcelist, has_retry_after):
+                progress.over, progress.state.ending = True, Ending.NOT_RETRIED
             else:
                 settle(progress.returned(status))
         finally:
@@ -207,7 +211,7 @@ class PolicyRetry(Retry):
         delay = settle(progress.delay())
         if delay > 0:
             progress.settings.sleeps(delay)
-        if not progress.waited():
+        if not progress.wakes():
             progress.close()
             raise self._late
 
@@ -227,7 +231,7 @@ def _retrys(owner: str, on_status: Optional[Collection[int]], kw: Dict[str, Any]
         raise TypeError(f"{owner}() takes on_status or status_forcelist, which mean the same, and got both")
     made: Dict[str, Any] = {
         "total": None,
-        "status_forcelist": frozenset(STATUSES if on_status is None else on_status),
+        "status_forcelist": STATUSES if on_status is None else statuses_of(on_status),
         **kw,
     }
     if made["total"] is None and made.get("redirect") is None:

@@ -2,14 +2,22 @@
 
 from __future__ import annotations
 
-import math
 from typing import NamedTuple, Optional
 
 from .._engine.calls import MAX_SHARE, MAX_TICKETS, MIN_PERIOD
 from .._time import Duration, seconds, seconds_text
-from ..errors import PolicyError, TermsError
+from ..errors import PolicyError, TermsError, shown
 
-__all__ = ["CountsRequests", "Terms", "requests_of", "terms_of", "thousandths_of"]
+__all__ = [
+    "CountsRequests",
+    "Terms",
+    "duration_of",
+    "requests_of",
+    "terms_of",
+    "thousandths_of",
+    "thousandths_text",
+    "tickets_of",
+]
 
 
 class Terms(NamedTuple):
@@ -41,8 +49,7 @@ class Terms(NamedTuple):
         )
 
     def __str__(self) -> str:
-        share = repr(self.share // 1000 if self.share % 1000 == 0 else self.share / 1000)
-        return f"{self.reserve}, {share}, per={seconds_text(self.period)}"
+        return f"{self.reserve}, {thousandths_text(self.share)}, per={seconds_text(self.period)}"
 
 
 class CountsRequests:
@@ -80,27 +87,27 @@ def terms_of(reserve: int, share: float, per: Duration) -> Terms:
 
 def requests_of(requests: int) -> int:
     """Returns a number of requests that can be counted at once, or raises a `TermsError`."""
-    return _tickets_of(requests, "requests", f"0 to {MAX_TICKETS} requests at once")
+    return tickets_of(requests, "requests", f"0 to {MAX_TICKETS} requests at once")
 
 
 def _reserve_of(reserve: int) -> int:
-    return _tickets_of(reserve, "retries as the reserve", f"a reserve from 0 to {MAX_TICKETS} retries a window")
+    return tickets_of(reserve, "retries as the reserve", f"a reserve from 0 to {MAX_TICKETS} retries a window")
 
 
-def _tickets_of(number: int, of: str, bounds: str) -> int:
+def tickets_of(number: int, of: str, bounds: str) -> int:
     """Returns a number of tickets, or raises an error that says of what, and from where to where."""
     if isinstance(number, bool) or not isinstance(number, int):
         raise TypeError(f"expected a whole number of {of}, got {number!r}")
     if not 0 <= number <= MAX_TICKETS:
-        raise TermsError(f"expected {bounds}, got {number}")
+        raise TermsError(f"expected {bounds}, got {shown(number)}")
     return number
 
 
 def _share_of(share: float) -> int:
     if isinstance(share, bool) or not isinstance(share, (int, float)):
         raise TypeError(f"expected a number of retries a request as the share, got {share!r}")
-    if not (math.isfinite(share) and 0 <= share <= MAX_SHARE / 1000):
-        raise TermsError(f"expected a share from 0 to {MAX_SHARE // 1000} retries a request, got {share!r}")
+    if not 0 <= share <= MAX_SHARE / 1000:
+        raise TermsError(f"expected a share from 0 to {MAX_SHARE // 1000} retries a request, got {shown(share)}")
     thousandths = round(share * 1000)
     if share > 0 and thousandths == 0:
         raise TermsError(f"expected a share of 0 or at least 0.001 retries a request, got {share!r}")
@@ -115,19 +122,37 @@ def thousandths_of(name: str, value: float, most: int) -> int:
     """
     if isinstance(value, bool) or not isinstance(value, (int, float)):
         raise TypeError(f"expected a number as {name}, got {value!r}")
-    if not (math.isfinite(value) and 0 <= value and round(value * 1000) <= most):
-        raise TermsError(f"expected {name} from 0 to {most / 1000:.13g}, got {value!r}")
+    if not (0 <= value <= most and round(value * 1000) <= most):
+        raise TermsError(f"expected {name} from 0 to {most / 1000:.13g}, got {shown(value)}")
     thousandths = round(value * 1000)
     if value > 0 and thousandths == 0:
         raise TermsError(f"expected 0 or at least 0.001 as {name}, got {value!r}")
     return thousandths
 
 
-def _period_of(per: Duration) -> int:
+def thousandths_text(count: int) -> str:
+    """What a person writes for so many thousandths.
+
+    >>> thousandths_text(500_000), thousandths_text(2**40)
+    ('500', '1099511627.776')
+    """
+    return repr(count // 1000 if count % 1000 == 0 else count / 1000)
+
+
+def duration_of(name: str, duration: Duration) -> int:
+    """Returns a duration in whole milliseconds, or raises a `TermsError`.
+
+    >>> duration_of("the window", 0.1)
+    100
+    """
     try:
-        period = seconds(per)
+        return seconds(duration, name)
     except PolicyError as error:
-        raise TermsError(f"the window of a quota: {error.hint}") from None
+        raise TermsError(error.hint) from None
+
+
+def _period_of(per: Duration) -> int:
+    period = duration_of("the window of a quota", per)
     if period < MIN_PERIOD:
         raise TermsError(f"expected a window of at least {MIN_PERIOD} ms, got {per!r}")
     return period

@@ -7,6 +7,8 @@ import difflib
 import sys
 from typing import Any, Callable, Iterable, List, NoReturn, Optional
 
+from .streams import tell
+
 __all__ = ["Once", "Parser"]
 
 
@@ -63,8 +65,8 @@ class Parser(argparse.ArgumentParser):
             status = type(self).prints(message)
             if status != 0:
                 raise SystemExit(status)
-        else:
-            super()._print_message(message, file)
+        elif message:
+            tell(message)
 
 
 def _nearest(word: str, known: Iterable[str]) -> str:

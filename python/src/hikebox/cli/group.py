@@ -13,7 +13,7 @@ __all__ = ["Group"]
 
 
 class Group:
-    """A command and all that it starts, but for what makes a session of its own.
+    """A command and all that it starts, but for what makes a group or a session of its own.
 
     `command` is the id of the command, and `number` that of the group. `grace` is how many seconds it has after a
     SIGTERM.

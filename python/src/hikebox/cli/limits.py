@@ -5,12 +5,12 @@ from __future__ import annotations
 from typing import Dict, Optional
 
 from ..errors import BudgetError, TermsError
-from ..leased import FileStore
 from ..leased.shared import SharedLimit
 from ..limits import Breaker, Bucket, Limit
 from ..policy import Policy
 from ..policy.builders import spaced
 from ..storms.limits import limit_of
+from .values import folder
 
 __all__ = ["SPELLINGS", "limit"]
 
@@ -55,7 +55,7 @@ and a folder keeps one word of a limit
         made = _breaker(dict(terms.numbers), open_for) if kind == "breaker" else _bucket(dict(terms.numbers))
     except TermsError as error:
         raise BudgetError(f"--limit: {error}, in {spelt!r}") from None
-    return SharedLimit(FileStore(path), "run", made)
+    return SharedLimit(folder(path), "run", made)
 
 
 def _bucket(numbers: Dict[str, int]) -> Limit:

@@ -15,6 +15,7 @@ from ..errors import BudgetError, Fault, PolicyError, StoreError, StormError
 from ..policy import Policy, builders
 from ..policy.picture import plan_picture
 from ..storms.axes import axes_text
+from ..storms.limits import LIMIT_FORMS
 from ..version import VERSION
 from . import values
 from .arguments import Once, Parser
@@ -23,7 +24,7 @@ from .run import MAX_OUTPUT, RunOptions, run_command
 from .seeded import seeded
 from .storm_command import result_of
 from .storm_options import add_storm_options
-from .streams import settle
+from .streams import settle, tell
 
 __all__ = ["main"]
 
@@ -43,18 +44,18 @@ next one begins: by SIGTERM, and after --kill-after by SIGKILL. SIGINT, SIGTERM,
 group, and no further attempt is made; between two attempts they end hikebox. On a terminal the command is in the
 foreground.
 
-The command has HIKEBOX_ATTEMPT, the number of the attempt from 1, and with a deadline HIKEBOX_SECONDS_LEFT. A deadline
-does not end an attempt that is under way.
+The command has HIKEBOX_ATTEMPT, the number of the attempt from 1, and with a deadline, also of a run around this one,
+HIKEBOX_SECONDS_LEFT. A deadline does not end an attempt that is under way.
 
 A policy is the name of a JSON file, JSON, or an expression. By default it is
   {DEFAULT}
 
-A limit is one of these, which `hikebox storm` reads too:
+A limit is one of these, spelt as for `hikebox storm`:
   {SPELLINGS.replace(", ", chr(10) + "  ")}
-A bucket's numbers are thousandths of a token, and RATIO is thousandths. LATE is the cost of a retry after a timeout.
-DEADLINE is in milliseconds. A run that a breaker does not admit ends with status 75 and does not begin. Bounds on what
-is in flight and throttles are not shared: a run that is killed would keep its place in flight, and a folder keeps one
-word of a limit.
+A bucket's numbers are thousandths of a token, and RATIO is in thousandths. LATE is the cost of a retry after a timeout.
+DEADLINE is in milliseconds. If a breaker refuses a run, the command is not started and the status is 75. Runs can't
+share the other limits of `hikebox storm`: a run that is killed would keep its place in flight for ever, and a throttle
+has two words, of which a folder keeps one.
 
 examples:
   hikebox run -- curl --fail https://example.org
@@ -66,11 +67,16 @@ examples:
 
 _STORM = f"""\
 Plays a storm: requests come to a peer that fails for a while, and each retries by your policy. It makes no call and
-takes no time. All times are in milliseconds.
+takes no time. Times are in milliseconds, except for --seconds and a quota's PERIOD. An expression has seconds.
 
 Each line of the report is a window of time, named by its first moment. A request or a retry counts in the window in
 which it begins. A call counts in the window in which it ends: it succeeded, was refused in the outage, was shed because
 the queue was full, or was late because its client had given up. The status is 6 if a storm was cut by --calls.
+
+A LIMIT is one of these:
+{chr(10).join(f"  {form}" for form in LIMIT_FORMS)}
+A bucket's numbers are thousandths of a token, and LATE is the cost of a retry after a late call. RATIO and SHARE are in
+thousandths, DEADLINE and PERIOD in milliseconds.
 
 --sweep plays the storms for each value of a parameter, as NAME=FROM..TO/COUNT or NAME=A,B,C:
 {axes_text()}
@@ -79,6 +85,7 @@ examples:
   hikebox storm 'recurs(8) & exponential(0.1, 2).cap(10).jittered(0, 1)'
   hikebox storm --quota 10/10%/1s --without --svg storm.svg plans/back-off.json
   hikebox storm --scenario herd plans/back-off.json plans/jittered-back-off.json
+  hikebox storm --quota 10/10%/1s --beside 30=plans/three-tries.json plans/back-off.json
   hikebox storm --quota 10/10%/1s --without --sweep rate=200..1600/8 --svg load.svg plans/back-off.json
   hikebox storm --scenario brown-out --find quota 'recurs(3)'
 """
@@ -110,9 +117,12 @@ def _does(words: Optional[List[str]]) -> int:
 
 
 def _fails(line: str, status: int) -> int:
-    print(f"hikebox: {line}", file=sys.stderr)
+    tell(f"hikebox: {line}\n")
     return status
 
+
+#: What a policy is on the command line.
+_POLICY = "a JSON file's name, JSON, or an expression"
 
 #: How the width of a picture is given.
 _WIDE: Any = {"metavar": "N", "type": values.number(MAX_WIDTH, MIN_WIDTH), "default": 760}
@@ -167,14 +177,23 @@ def _add_run(commands: Any) -> None:
 
 def _add_plan(commands: Any) -> None:
     plan = commands.add_parser("plan", help="play a policy and print what it does, in milliseconds")
-    several = "as for run; - or nothing: standard input; several stand in one picture, or one below the other"
+    several = f"{_POLICY}; - or nothing reads standard input; with several, a picture shows all of them"
     plan.add_argument("file", nargs="*", metavar="POLICY", help=several)
     plan.add_argument("--steps", type=values.number(4096), default=10, metavar="N", help="how many events at most (10)")
     plan.add_argument(
-        "--from", type=values.number(MAX_NUMBER), default=0, metavar="M", dest="start", help="the first moment (0)"
+        "--from",
+        type=values.number(MAX_NUMBER),
+        default=0,
+        metavar="M",
+        dest="start",
+        help="the first moment, in milliseconds (0)",
     )
     plan.add_argument(
-        "--took", type=values.number(MAX_NUMBER), default=0, metavar="M", help="how long each further call takes (0)"
+        "--took",
+        type=values.number(MAX_NUMBER),
+        default=0,
+        metavar="M",
+        help="how long each further call takes, in milliseconds (0)",
     )
     codes = plan.add_mutually_exclusive_group()
     codes.add_argument(
@@ -183,10 +202,11 @@ def _add_plan(commands: Any) -> None:
     in_turn = "the codes of the failures, in turn; the last one repeats"
     codes.add_argument("--inputs", type=values.inputs(MAX_NUMBER), metavar="A,B,..", help=in_turn)
     words = plan.add_mutually_exclusive_group()
+    same = "the random number of each event, from 0 to 4294967295 (the middle)"
+    words.add_argument("--word", type=values.number(2**32 - 1), default=2**31, metavar="W", help=same)
     words.add_argument(
-        "--word", type=values.number(2**32 - 1), default=2**31, metavar="W", help="each random word (middle)"
+        "--words", type=values.number(2**64 - 1), metavar="SEED", help="different random numbers, from this seed"
     )
-    words.add_argument("--words", type=values.number(2**64 - 1), metavar="SEED", help="other random words, by a seed")
     plan.add_argument("--svg", metavar="FILE", help="write the picture into this file; - is standard output")
     plan.add_argument("--width", help="how wide the picture is, from 280 to 4000 (760)", **_WIDE)
     plan.set_defaults(does=_plan, parser=plan)
@@ -194,7 +214,8 @@ def _add_plan(commands: Any) -> None:
 
 def _add_check(commands: Any) -> None:
     check = commands.add_parser("check", help="say what a policy is, or where it is wrong")
-    check.add_argument("file", nargs="?", default="-", metavar="POLICY", help="as for plan")
+    one = f"{_POLICY}; - or nothing reads standard input"
+    check.add_argument("file", nargs="?", default="-", metavar="POLICY", help=one)
     check.set_defaults(does=_check, parser=check)
 
 
@@ -206,9 +227,8 @@ def _add_storm(commands: Any) -> None:
     storm.add_argument("--compare", metavar="POLICY", action="append", default=[], help=compare)
     forms = storm.add_mutually_exclusive_group()
     forms.add_argument("--csv", action="store_true", help="print the windows of one storm, or a sweep, as CSV")
-    forms.add_argument(
-        "--json", action="store_true", help="print the windows and totals of one storm, or a sweep, as JSON"
-    )
+    shown = "print the windows and totals of one storm, a sweep, or what --find found, as JSON"
+    forms.add_argument("--json", action="store_true", help=shown)
     forms.add_argument("--svg", metavar="FILE", help="write a picture to this file; - is standard output")
     shown = "print each window with a bar of its calls, in colour on a terminal unless NO_COLOR is set"
     forms.add_argument("--bars", action="store_true", help=shown)
@@ -218,9 +238,8 @@ def _add_storm(commands: Any) -> None:
     storm.add_argument("--title", metavar="TEXT", help="the title of the picture, in place of the policy")
     name = "the name of a storm in a picture or a table; give one for each storm"
     storm.add_argument("--name", metavar="TEXT", action="append", help=name)
-    storm.add_argument(
-        "file", nargs="*", metavar="POLICY", help="as for plan; with several, the totals are printed side by side"
-    )
+    several = f"{_POLICY}; with several, the totals are printed side by side"
+    storm.add_argument("file", nargs="*", metavar="POLICY", help=several)
     storm.set_defaults(does=_storm, parser=storm)
 
 
@@ -229,13 +248,25 @@ def _add_lab(commands: Any) -> None:
         "lab", help="serve a page on which you try policies and storms, on this machine, until Ctrl-C"
     )
     lab.add_argument(
-        "link", nargs="?", default="", metavar="LINK", help="a link of the page, of any run: open what it carries"
+        "link",
+        nargs="?",
+        default="",
+        type=_link,
+        metavar="LINK",
+        help="a link that the page made, in this run or another: open what it carries",
     )
     lab.add_argument(
         "--port", type=values.number(65535), default=0, metavar="N", help="the port on 127.0.0.1 (a free one)"
     )
     lab.add_argument("--no-browser", action="store_true", help="print the address, and open no browser")
     lab.set_defaults(does=_lab, parser=lab)
+
+
+def _link(text: str) -> str:
+    """A link of the page, also one that carries nothing."""
+    if text and "#" not in text and not text.startswith(("http://127.0.0.1:", "http://localhost:")):
+        raise argparse.ArgumentTypeError(f"expected a link, as http://127.0.0.1:8000/..#story=quota, got {text!r}")
+    return text
 
 
 class _Told(logging.Handler):
@@ -249,13 +280,13 @@ class _Told(logging.Handler):
         line = record.getMessage()
         if line not in self.told and not hasattr(record, "hikebox_ending"):
             self.told.add(line)
-            print(f"hikebox: {line}", file=sys.stderr, flush=True)
+            tell(f"hikebox: {line}\n")
 
 
 def _run(given: Any) -> int:
     command = given.command[1:] if given.command[:1] == ["--"] else given.command
-    if not command:
-        return _fails("run: expected a command, got none", BAD_COMMAND_LINE)
+    if not command or not command[0]:
+        return _fails(f"run: expected a command, got {repr(command[0]) if command else 'none'}", BAD_COMMAND_LINE)
     options = RunOptions(
         policy=_policy(given.policy),
         budget=_limit(given),
@@ -371,6 +402,8 @@ def _policy(word: str) -> Policy:
     """The policy that a word of the command line names: standard input, JSON, an expression or a file."""
     if word == "-":
         return Policy.from_json(_read(0))
+    if not word:
+        _stop("expected a policy, got ''", BAD_COMMAND_LINE)
     if word.lstrip()[:1] in ("{", '"'):
         return Policy.from_json(word)
     if ("(" in word or word in builders.__all__) and not os.path.exists(word):
@@ -381,7 +414,7 @@ def _policy(word: str) -> Policy:
 def _read(source: Union[int, str]) -> bytes:
     """The bytes of a file, or of standard input."""
     if source == 0 and os.isatty(0):
-        print("hikebox: reading a policy as JSON from the terminal; Ctrl-D ends it", file=sys.stderr, flush=True)
+        tell("hikebox: reading a policy as JSON from the terminal; Ctrl-D ends it\n")
     try:
         with open(source, "rb", closefd=source != 0) as file:
             text = file.read(MAX_BYTES + 1)

@@ -18,12 +18,12 @@ from ..errors import NotAdmitted, StoreError
 from ..leased import Leased, LeasedQuota
 from ..leased.shared import SharedLimit
 from ..policy import Policy
-from ..retry.deadline import seconds_left
 from ..retry.state import RetryState
 from ..retrying import Retrying
+from .command import Environment, spawned
 from .group import Group
 from .status_line import StatusLine
-from .streams import named
+from .streams import named, tell
 from .terminal import Terminal
 from .values import size_text
 
@@ -37,9 +37,6 @@ TIMED_OUT = 124
 NOT_ADMITTED = 75
 #: The statuses of a command that was not found, and of one that could not be run, as of a shell.
 NOT_FOUND, NOT_RUN = 127, 126
-
-#: What tell a command how many seconds it is until the deadline, and the number of its attempt.
-_LEFT, _ATTEMPT = "HIKEBOX_SECONDS_LEFT", "HIKEBOX_ATTEMPT"
 
 #: Signals that end the run: no attempt follows. After some of them a command gets a SIGKILL where it does not end.
 _ENDING = (signal.SIGINT, signal.SIGTERM, signal.SIGHUP, signal.SIGQUIT)
@@ -154,6 +151,7 @@ class _Runner:
     def __init__(self, command: Sequence[str], options: RunOptions) -> None:
         self.command = list(command)
         self.options = options
+        self.environment = Environment()
         self.input: Optional[int] = None
         self.output: Optional[int] = None
         self.number = 0
@@ -172,6 +170,8 @@ class _Runner:
                 self.watched.add(number)
 
     def __enter__(self) -> _Runner:
+        # (of a command that ends while SIGCHLD is ignored, the system tells nothing)
+        signal.signal(signal.SIGCHLD, signal.SIG_DFL)
         # (a signal ends hikebox while it reads, since there is no command yet that it could go to)
         if self.options.replay_input:
             self.input = _spooled(0)
@@ -232,19 +232,15 @@ class _Runner:
             os.lseek(self.output, 0, os.SEEK_SET)
             actions.append((os.POSIX_SPAWN_DUP2, self.output, 1))
         sys.stdout.flush()
-        left = seconds_left()
-        told = {_ATTEMPT: str(self.number), **({} if left is None else {_LEFT: f"{left:.3f}"})}
         leader = self.terminal.lead() if self.terminal.is_to_give() else 0
+        how = {
+            "file_actions": actions,
+            "setpgroup": leader,
+            "setsigmask": list(self.mask),
+            "setsigdef": [signal.SIGPIPE, signal.SIGXFSZ, *(_USING if self.terminal.file >= 0 else ())],
+        }
         try:
-            command = os.posix_spawnp(
-                self.command[0],
-                self.command,
-                {**os.environ, **told},
-                file_actions=actions,
-                setpgroup=leader,
-                setsigmask=list(self.mask),
-                setsigdef=[signal.SIGPIPE, signal.SIGXFSZ, *(_USING if self.terminal.file >= 0 else ())],
-            )
+            command = spawned(self.command, self.environment.of_attempt(self.number), how)
         except OSError:
             self.terminal.take()
             raise
@@ -449,7 +445,7 @@ class _Runner:
 
     def _tell(self, line: str, always: bool = False) -> None:
         if always or self.options.verbose:
-            print(f"hikebox: {line}", file=sys.stderr, flush=True)
+            tell(f"hikebox: {line}\n")
 
 
 def _unnamed() -> int:

@@ -3,7 +3,7 @@
 from __future__ import annotations
 
 import json
-from typing import Any, List, NamedTuple, Optional, Tuple
+from typing import Any, Dict, List, NamedTuple, Optional, Tuple
 
 from .._engine.calls import MAX_TICKETS
 from ..budgets.terms import terms_of
@@ -11,14 +11,18 @@ from ..errors import BudgetError, PolicyError, StormError
 from ..policy import Policy
 from ..storms.limits import KINDS, limit_of
 from ..storms.parameters import RANGES, SCENARIOS, Limited, Parameters, RateSpan, Slow, Span
+from ..storms.populations import Clients
 from .values import terms
 
 __all__ = ["Line", "Scenario", "scenario_of"]
 
 #: What a scenario has, what its storm has, and what a line of it has.
 _MEMBERS = {"$schema", "title", "about", "sources", "left_out", "storm", "lines"}
-_LINE = {"name", "policy", "limit"}
+_LINE = {"name", "policy", "limit", "beside"}
+_POPULATION = {"share", "policy", "patience", "limited"}
 _MAX_BYTES = 1 << 20
+#: So long is what is said of a file at most.
+_MAX_SAID = 500
 
 
 class Line(NamedTuple):
@@ -27,6 +31,8 @@ class Line(NamedTuple):
     name: Optional[str]
     policy: Policy
     tickets: Limited
+    #: The populations beside, where it has others than the scenario.
+    beside: Optional[Tuple[Clients, ...]] = None
 
 
 class Scenario(NamedTuple):
@@ -55,8 +61,8 @@ def scenario_of(word: str) -> Scenario:
         raise StormError("scenario", f"{word}: expected JSON: {error}") from None
     try:
         return _scenario(told)
-    except (StormError, PolicyError, BudgetError) as error:
-        raise StormError("scenario", f"{word}: {error}") from None
+    except StormError as error:
+        raise StormError("scenario", f"{word}: {_short(str(error), _MAX_SAID)}") from None
 
 
 def _scenario(told: Any) -> Scenario:
@@ -65,14 +71,18 @@ def _scenario(told: Any) -> Scenario:
     if not isinstance(lines, list) or len(lines) > 64:
         raise StormError("lines", f"expected a list of at most 64 lines, got {_brief(lines)}")
     parameters = _parameters(told.get("storm", {}))
-    return Scenario(
-        parameters, _text("title", told.get("title")), tuple(_line(index, line) for index, line in enumerate(lines))
-    )
+    found = tuple(_line(index, line) for index, line in enumerate(lines))
+    for index, line in enumerate(found):
+        try:
+            parameters._replace(beside=line.beside or ()).checked()
+        except StormError as error:
+            raise StormError(f"lines[{index}].{error.name}", error.hint) from None
+    return Scenario(parameters, _text("title", told.get("title")), found)
 
 
 def _parameters(told: Any) -> Parameters:
-    _has("storm", told, {*RANGES, "rates", "outage", "slow"})
-    found = {name: _whole(name, told[name]) for name in RANGES if name in told}
+    _has("storm", told, {*RANGES, "rates", "outage", "slow", "beside"})
+    found: Dict[str, Any] = {name: _whole(name, told[name]) for name in RANGES if name in told}
     spans: List[Tuple[str, int]] = [("outage", 2), ("slow", 3)]
     ends = {
         name: [_whole(name, end) for end in _list(name, told[name], count)]
@@ -81,6 +91,7 @@ def _parameters(told: Any) -> Parameters:
     }
     outage = Span(*ends["outage"]) if "outage" in ends else Span(0, 0)
     slow = Slow(*ends["slow"]) if "slow" in ends else None
+    found["beside"] = _beside("beside", told.get("beside", []))
     return Parameters(outage=outage, slow=slow, rates=_rates(told.get("rates", [])), **found).checked()
 
 
@@ -96,10 +107,37 @@ def _line(index: int, told: Any) -> Line:
     if "policy" not in told:
         raise StormError(place, "expected a policy, got none")
     name = _text(f"{place}.name", told.get("name"))
-    policy = told["policy"]
-    is_expression = isinstance(policy, str) and "(" in policy
-    read = Policy.parse(policy) if is_expression else Policy.from_json(json.dumps(policy))
-    return Line(name, read, _limit(place, told.get("limit")))
+    beside = _beside(f"{place}.beside", told["beside"]) if "beside" in told else None
+    return Line(name, _policy(f"{place}.policy", told["policy"]), _limit(f"{place}.limit", told.get("limit")), beside)
+
+
+def _policy(place: str, told: Any) -> Policy:
+    """A policy as JSON, or as an expression."""
+    is_expression = isinstance(told, str) and "(" in told
+    try:
+        return Policy.parse(told) if is_expression else Policy.from_json(json.dumps(told))
+    except PolicyError as error:
+        raise StormError(place, str(error)) from None
+
+
+def _beside(place: str, told: Any) -> Tuple[Clients, ...]:
+    if not isinstance(told, list):
+        raise StormError(place, f"expected a list of populations, got {_brief(told)}")
+    return tuple(_clients(f"{place}[{index}]", each) for index, each in enumerate(told))
+
+
+def _clients(place: str, told: Any) -> Clients:
+    _has(place, told, _POPULATION)
+    for name in ("share", "policy"):
+        if name not in told:
+            raise StormError(place, f"expected a {name}, got none")
+    is_limited = told.get("limited", False)
+    if not isinstance(is_limited, bool):
+        raise StormError(f"{place}.limited", f"expected true or false, got {_brief(is_limited)}")
+    patience = told.get("patience")
+    waits = None if patience is None else _whole(f"{place}.patience", patience)
+    share = _whole(f"{place}.share", told["share"])
+    return Clients(share, _policy(f"{place}.policy", told["policy"]), waits, is_limited)
 
 
 def _text(place: str, value: Any) -> Optional[str]:
@@ -111,11 +149,14 @@ def _text(place: str, value: Any) -> Optional[str]:
 
 def _limit(place: str, limit: Any) -> Limited:
     if isinstance(limit, str):
-        return limit_of(limit) if limit.partition(":")[0] in KINDS else terms_of(*terms(limit))
+        try:
+            return limit_of(limit) if limit.partition(":")[0] in KINDS else terms_of(*terms(limit))
+        except BudgetError as error:
+            raise StormError(place, str(error)) from None
     if limit is None:
         return None
-    if not 0 <= _whole(f"{place}.limit", limit) <= MAX_TICKETS:
-        raise StormError(f"{place}.limit", f"expected 0 to {MAX_TICKETS}, got {limit}")
+    if not 0 <= _whole(place, limit) <= MAX_TICKETS:
+        raise StormError(place, f"expected 0 to {MAX_TICKETS}, got {_brief(limit)}")
     return int(limit)
 
 
@@ -140,5 +181,8 @@ def _whole(name: str, value: Any) -> int:
 
 
 def _brief(value: Any) -> str:
-    text = json.dumps(value)
-    return text if len(text) <= 60 else text[:59] + "…"
+    return _short(json.dumps(value), 60)
+
+
+def _short(text: str, most: int) -> str:
+    return text if len(text) <= most else text[: most - 1] + "…"

@@ -4,6 +4,7 @@ from __future__ import annotations
 
 import sys
 import time
+from textwrap import wrap
 from typing import Any, Callable, List, NamedTuple, Optional, Sequence, Tuple
 
 from ..errors import StormError
@@ -14,11 +15,12 @@ from ..storms.axes import values_of
 from ..storms.bars import bars, has_colour
 from ..storms.cores import Told, play_all
 from ..storms.limits import LimitTerms
-from ..storms.parameters import Parameters, limit_text
+from ..storms.parameters import Parameters, limit_text, plural
+from ..storms.populations import Clients
 from ..storms.picture import storm_picture
-from ..storms.texts import beside, sentences
+from ..storms.texts import populations_table, sentences, side_by_side
 from ..sweeps import Sweep, find_from, swept
-from .scenario import Scenario, scenario_of
+from .scenario import Line, Scenario, scenario_of
 from .status_line import StatusLine
 from .storm_options import limits_of, parameters_of
 
@@ -53,13 +55,16 @@ def wanted_of(given: Any, policy_of: PolicyOf) -> Wanted:
     limits = limits_of(given, _open_times(given, policy_of))
     has_limits = bool(given.limits or given.without)
     _look_at(given, len(words) * len(limits) if words else len(scenario.lines) * (len(limits) if has_limits else 1))
+    _look_at_input(given, words)
     title = given.title or scenario.title or ""
+    beside = tuple(Clients(each.share, policy_of(each.word), *each[2:]) for each in given.beside)
+    parameters = parameters._replace(beside=beside or parameters.beside)
     if words:
         policies = [policy_of(word) for word in words]
         storms = [(policy, parameters._replace(tickets=tickets)) for policy in policies for tickets in limits]
         return Wanted(storms, given.name or (), title)
     storms = [
-        (line.policy, parameters._replace(tickets=tickets))
+        (line.policy, _on_line(line, parameters, bool(beside))._replace(tickets=tickets))
         for line in scenario.lines
         for tickets in (limits if has_limits else [line.tickets])
     ]
@@ -67,12 +72,19 @@ def wanted_of(given: Any, policy_of: PolicyOf) -> Wanted:
     return Wanted(storms, given.name or (names if all(names) and not has_limits else ()), title)
 
 
+def _on_line(line: Line, parameters: Parameters, is_given: bool) -> Parameters:
+    """The parameters with the populations of a line of the scenario, where it has such and no others were given."""
+    if is_given or line.beside is None:
+        return parameters
+    return parameters._replace(beside=line.beside).checked()
+
+
 def _open_times(given: Any, policy_of: PolicyOf) -> Optional[Tuple[int, ...]]:
     """The open times of breakers, where a file has their policy."""
     if given.open is None:
         return None
     if not any(isinstance(limit, LimitTerms) and limit.times for limit in given.limits):
-        raise StormError("open", "it is of --limit breaker:..")
+        raise StormError("open", "needs --limit breaker:..")
     return tuple(times_of(policy_of(given.open)))
 
 
@@ -82,22 +94,31 @@ def _words(given: Any, scenario: Scenario) -> List[str]:
     return [str(word) for word in words]
 
 
+def _look_at_input(given: Any, words: Sequence[str]) -> None:
+    """Refuses standard input as the policy of several populations."""
+    count = [*words, *(each.word for each in given.beside)].count("-")
+    if given.beside and count > 1:
+        raise StormError("beside", f"expected one policy from standard input, got {count}")
+
+
 def _look_at(given: Any, count: int) -> None:
     """Refuses options that do not go together, where so many storms are wanted."""
     if (given.csv or given.json) and count > 1 and not given.sweep and not given.find:
-        raise StormError("storm", "--csv and --json are of one storm, or of a sweep")
+        raise StormError("storm", f"expected one storm, or a sweep, for --csv and --json, got {count} storms")
     if given.find and (given.csv or given.svg is not None or given.sweep):
-        raise StormError("storm", "--find prints text or --json")
+        raise StormError("storm", "--find can't be used with --csv, --svg or --sweep")
     if given.find and count > 1:
         raise StormError("storm", f"expected one storm for --find, got {count}")
     if given.width is not None and given.svg is None and not given.bars:
-        raise StormError("width", "it is of --bars, or of a picture")
+        raise StormError("width", "needs --bars or --svg")
     if given.measure and not given.sweep:
-        raise StormError("measure", "it is of a sweep")
+        raise StormError("measure", "needs --sweep")
     if given.bars and (given.sweep or given.find):
-        raise StormError("storm", "--bars is of storms, not of a sweep or a border")
+        raise StormError("storm", "--bars can't be used with --sweep or --find")
+    if given.title is not None and given.svg is None:
+        raise StormError("title", "needs --svg")
     if given.detail and (given.svg is None or given.sweep):
-        raise StormError("detail", "it is of a picture of storms")
+        raise StormError("detail", "needs --svg, without --sweep")
     if given.name and len(given.name) != count:
         raise StormError("name", f"expected as many names as storms, {count}, got {len(given.name)}")
     if given.sweep:
@@ -111,7 +132,7 @@ def result_of(given: Any, policy_of: PolicyOf) -> Result:
     begun = time.monotonic()
 
     def told(done: int, all: int) -> None:
-        line.show(f"{done} of {all} storms played, {time.monotonic() - begun:.0f} s")
+        line.show(f"{done} of {all} {plural(all, 'storm')} played, {time.monotonic() - begun:.0f} s")
 
     try:
         if given.find:
@@ -142,7 +163,7 @@ def _sweep_text(given: Any, sweep: Sweep, wanted: Wanted) -> str:
 
 
 def _played(given: Any, wanted: Wanted, told: Told) -> Result:
-    storms = play_all(wanted.storms, told)
+    storms = play_all(wanted.storms, told, not given.csv)
     return Result(_storm_text(given, storms, wanted), any(storm.totals.cut for storm in storms))
 
 
@@ -155,9 +176,16 @@ def _storm_text(given: Any, storms: List[Storm], wanted: Wanted) -> str:
     if given.json:
         return storms[0].to_json() + "\n"
     names = list(wanted.names) or [f"{storm.policy!r}, {limit_text(storm.parameters.tickets)}" for storm in storms]
+    several = f"{side_by_side(storms, names)}\n" if len(storms) > 1 else ""
     if given.bars:
-        told = bars(storms, names, given.width or 80, has_colour())
-        return (
-            told + "\n".join(sentences(storms[0])) + "\n" if len(storms) == 1 else f"{told}\n{beside(storms, names)}\n"
-        )
-    return f"{storms[0]}\n" if len(storms) == 1 else beside(storms, names) + "\n"
+        width = given.width or 80
+        told = bars(storms, names, width, has_colour())
+        return f"{told}\n{several}" if several else told + _below_bars(storms[0], width)
+    return several or f"{storms[0]}\n"
+
+
+def _below_bars(storm: Storm, width: int) -> str:
+    """What the bars of one storm come to, in lines of this width."""
+    said = [line for sentence in sentences(storm) for line in wrap(sentence, width, subsequent_indent="  ")]
+    populations = ["", populations_table(storm)] if storm.populations else []
+    return "".join(f"{line}\n" for line in [*said, *populations])

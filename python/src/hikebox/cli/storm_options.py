@@ -4,7 +4,7 @@ from __future__ import annotations
 
 import argparse
 import re
-from typing import Any, List, Optional, Tuple
+from typing import Any, List, NamedTuple, Optional, Tuple
 
 from .._engine.calls import MAX_TICKETS
 from .._svg import fitted
@@ -13,10 +13,11 @@ from ..errors import BudgetError, TermsError
 from ..storms.axes import MEASURES
 from ..storms.limits import KINDS, LimitTerms, limit_of
 from ..storms.parameters import RANGES, Limited, Parameters, RateSpan, Slow, Span
+from ..storms.populations import MAX_PATIENCE, MAX_SHARE, look_at_shares
 from . import values
 from .arguments import Once
 
-__all__ = ["add_storm_options", "limits_of", "parameters_of", "tickets_of"]
+__all__ = ["Beside", "add_storm_options", "limits_of", "parameters_of", "tickets_of"]
 
 #: So long is the longest text of a budget or a quota.
 _MAX_TEXT = 100
@@ -25,7 +26,7 @@ _HELP = {
     "rate": "requests a second (800)",
     "together": "requests that come at one moment (1)",
     "seconds": "how long requests come, in seconds (60)",
-    "capacity": "calls a second that each replica of the peer can do (1000)",
+    "capacity": "calls a second that each replica of the peer can serve (1000)",
     "patience": "how long a client waits for a call, in milliseconds (500)",
     "queue": "calls that each replica of the peer queues at most (5000)",
     "replicas": "how many replicas the peer is, to which calls go in turn (1)",
@@ -33,8 +34,17 @@ _HELP = {
     "window": "the length of a window of the report, in milliseconds (1000)",
     "until": "when the storm ends, in milliseconds (a minute after the last request)",
     "calls": "cut the storm after this many calls (16777216)",
-    "words": "the seed of the random words (0)",
+    "words": "the seed of the random numbers (0)",
 }
+
+
+class Beside(NamedTuple):
+    """A population as the command line has it: `word` names its policy."""
+
+    share: int
+    word: str
+    patience: Optional[int]
+    is_limited: bool
 
 
 def add_storm_options(storm: argparse.ArgumentParser) -> None:
@@ -52,13 +62,19 @@ def add_storm_options(storm: argparse.ArgumentParser) -> None:
     storm.add_argument("--outage", type=_span, metavar="FROM..TO", help=outage)
     slow = "when the peer works at PERCENT of its capacity, in milliseconds (never)"
     storm.add_argument("--slow", type=_slow, metavar="FROM..TO@PERCENT", help=slow)
+    beside = (
+        "clients who send PERCENT of the requests and retry by another POLICY, such as 30=recurs(3) or "
+        "30@2000+limited=recurs(3); they wait PATIENCE milliseconds for a call, or as long as the others; with "
+        "+limited they draw on the same budget, quota or limit, if there is one; you can give it three times"
+    )
+    storm.add_argument("--beside", type=_beside, metavar=_BESIDE_FORM, action="append", default=[], help=beside)
     limits: Any = {"dest": "limits", "action": "append", "default": []}
     budget = "limit all retries to N; each --budget and --quota is a storm of its own"
     storm.add_argument("--budget", type=values.number(MAX_TICKETS), metavar="N", help=budget, **limits)
     quota = "limit the retries in each PERIOD to RESERVE and a SHARE of its requests, such as 10/10%/1s"
     shown = quota.replace("%", "%%")
     storm.add_argument("--quota", type=_quota, metavar="RESERVE/SHARE%/PERIOD", help=shown, **limits)
-    limit = "a limit that requests also ask before their first call, such as grpc:100/100, aws or breaker:5/1/1000"
+    limit = "a limit that requests also ask before their first call, such as grpc:100/100 or aws (see below)"
     storm.add_argument("--limit", type=_limit, metavar="LIMIT", help=limit, **limits)
     open_for = "how long a breaker is open, each time that it opens (30 s); spelt as POLICY"
     storm.add_argument("--open", action=Once, metavar="POLICY", help=open_for)
@@ -67,8 +83,11 @@ def add_storm_options(storm: argparse.ArgumentParser) -> None:
     storm.add_argument("--sweep", action=Once, metavar="NAME=VALUES", help=along)
     drawn = "what a sweep shows (succeeded); you can give it again"
     storm.add_argument("--measure", choices=list(MEASURES), action="append", default=[], help=drawn)
-    border = "find the greatest share of a quota, the most retries or the least patience with which the peer recovers"
-    storm.add_argument("--find", choices=["quota", "retries", "patience"], help=border)
+    border = (
+        "find the greatest share of a quota, the most retries, the least patience or the greatest share of the first "
+        "population beside with which the peer recovers before requests end"
+    )
+    storm.add_argument("--find", choices=["quota", "retries", "patience", "beside"], help=border)
 
 
 def limits_of(given: Any, times: Optional[Tuple[int, ...]] = None) -> List[Limited]:
@@ -85,6 +104,7 @@ def parameters_of(given: Any, base: Parameters) -> Parameters:
     """The parameters that were given over those of a scenario, or a `StormError`."""
     told = {name: getattr(given, name) for name in (*RANGES, "rates", "outage", "slow")}
     changed = {name: value for name, value in told.items() if value is not None}
+    look_at_shares([each.share for each in given.beside])
     return base._replace(**changed).checked()
 
 
@@ -134,6 +154,23 @@ def _rates(text: str) -> Tuple[RateSpan, ...]:
     if not all(found):
         raise argparse.ArgumentTypeError(f"expected FROM..TO@N,.., as 10000..15000@2400, got {fitted(text, 300)!r}")
     return tuple(RateSpan(*map(int, each.groups())) for each in found if each)
+
+
+_BESIDE_FORM = "PERCENT[@PATIENCE][+limited]=POLICY"
+_BESIDE = re.compile(r"([0-9]{1,19})(?:@([0-9]{1,19}))?(\+limited)?=(.+)", re.DOTALL | re.ASCII)
+
+
+def _beside(text: str) -> Beside:
+    found = _BESIDE.fullmatch(text)
+    if found is None:
+        part = re.match(r"[0-9]{0,19}\.[0-9]{1,19}(?=[@+=])", text, re.ASCII)
+        if part is not None:
+            raise argparse.ArgumentTypeError(f"expected whole per cent, such as 30, got {part[0]!r}")
+        wanted = f"expected {_BESIDE_FORM}, as 30@2000+limited=recurs(3)"
+        raise argparse.ArgumentTypeError(f"{wanted}, got {fitted(text, 300)!r}")
+    share = values.number(MAX_SHARE, 1)(found[1])
+    patience = None if found[2] is None else values.number(MAX_PATIENCE, 1)(found[2])
+    return Beside(share, found[4], patience, found[3] is not None)
 
 
 def _limit(text: str) -> LimitTerms:

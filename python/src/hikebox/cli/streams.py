@@ -7,7 +7,7 @@ import sys
 from contextlib import contextmanager
 from typing import Iterator
 
-__all__ = ["named", "settle"]
+__all__ = ["named", "settle", "tell"]
 
 
 @contextmanager
@@ -37,3 +37,13 @@ def settle() -> None:
         sys.stdout = open(1, "w", encoding="utf-8", closefd=False)
     if sys.stderr is None:
         sys.stderr = open(2, "w", encoding="utf-8", closefd=False)
+
+
+def tell(text: str) -> None:
+    """Writes a text to standard error. What can't be written is dropped, since no run and no status depends on it."""
+    try:
+        sys.stderr.write(text)
+        sys.stderr.flush()
+    except OSError:
+        # (the stream keeps what it could not write, and would try again)
+        sys.stderr = open(2, "w", encoding=sys.stderr.encoding, errors="backslashreplace", closefd=False)

@@ -3,6 +3,7 @@
 from __future__ import annotations
 
 import argparse
+import os
 import re
 from typing import Callable, FrozenSet, List, Optional, Tuple, Union
 
@@ -10,7 +11,19 @@ from ..budget import Budget
 from ..errors import BudgetError
 from ..leased import FileStore, Leased, LeasedQuota
 
-__all__ = ["budget", "duration", "inputs", "number", "quota", "size", "size_text", "span", "statuses", "terms"]
+__all__ = [
+    "budget",
+    "duration",
+    "folder",
+    "inputs",
+    "number",
+    "quota",
+    "size",
+    "size_text",
+    "span",
+    "statuses",
+    "terms",
+]
 
 
 def number(most: int, least: int = 0) -> Callable[[str], int]:
@@ -38,7 +51,7 @@ def duration(text: str) -> float:
         count = -1.0
     if 0 < count < 1e9:
         return count
-    raise argparse.ArgumentTypeError(f"expected a number of seconds, got {text!r}")
+    raise argparse.ArgumentTypeError(f"expected seconds, more than 0 and less than 1000000000, got {text!r}")
 
 
 _SIZES = {"K": 1 << 10, "M": 1 << 20, "G": 1 << 30}
@@ -87,6 +100,11 @@ def statuses(text: str) -> FrozenSet[int]:
     return frozenset(found)
 
 
+def folder(path: str) -> FileStore:
+    """The store in the folder behind an `@`, where no shell expands a `~`."""
+    return FileStore(os.path.expanduser(path))
+
+
 def budget(text: Optional[str]) -> Union[Budget, Leased, None]:
     """A budget of this run, `N`, or one that all runs with the same folder share, `N@FOLDER`."""
     if text is None:
@@ -94,7 +112,7 @@ def budget(text: Optional[str]) -> Union[Budget, Leased, None]:
     tickets, at, path = text.partition("@")
     if not (tickets.isascii() and tickets.isdigit()) or (at and not path):
         raise BudgetError(f"expected N or N@FOLDER, got {text!r}")
-    return Leased(FileStore(path), "run", int(tickets), lease=1) if at else Budget(int(tickets))
+    return Leased(folder(path), "run", int(tickets), lease=1) if at else Budget(int(tickets))
 
 
 def quota(text: str) -> LeasedQuota:
@@ -103,7 +121,7 @@ def quota(text: str) -> LeasedQuota:
     if not (at and path):
         raise BudgetError(f"expected RESERVE/SHARE%/PERIOD@FOLDER, as 10/20%/60s@FOLDER, got {text!r}")
     reserve, share, per = terms(spelt)
-    return LeasedQuota(FileStore(path), "run", reserve, share, per, lease=1)
+    return LeasedQuota(folder(path), "run", reserve, share, per, lease=1)
 
 
 def span(text: str) -> Optional[float]:
@@ -130,8 +148,8 @@ def terms(text: str) -> Tuple[int, float, float]:
     >>> terms("1/500/100")
     Traceback (most recent call last):
     ...
-    hikebox.errors.BudgetError: '1/500/100' has no units: as retries a request and seconds it is 1/50000%/100s, as \
-thousandths and milliseconds, which zsched reads, 1/50%/100ms
+    hikebox.errors.BudgetError: '1/500/100' has no units: write 1/50000%/100s (retries a request, and seconds) or \
+1/50%/100ms (thousandths and milliseconds, as zsched reads it)
     """
     found = _SPELT.fullmatch(text)
     if found:
@@ -143,8 +161,8 @@ thousandths and milliseconds, which zsched reads, 1/50%/100ms
         ours = f"{reserve}/{_plain(float(share) * 100)}%/{count}s"
         theirs = f"{reserve}/{_plain(float(share) / 10)}%/{count}ms"
         raise BudgetError(
-            f"{text!r} has no units: as retries a request and seconds it is {ours}, as thousandths and milliseconds, "
-            f"which zsched reads, {theirs}"
+            f"{text!r} has no units: write {ours} (retries a request, and seconds) or {theirs} (thousandths and "
+            "milliseconds, as zsched reads it)"
         )
     raise BudgetError(f"expected RESERVE/SHARE%/PERIOD, such as 10/20%/60s (units: ms, s, m, h, d), got {text!r}")
 

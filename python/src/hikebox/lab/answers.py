@@ -2,7 +2,7 @@
 
 from __future__ import annotations
 
-from typing import Any, Dict, List, Optional, Sequence, Tuple
+from typing import Any, Dict, List, NamedTuple, Optional, Sequence, Tuple
 
 from .._svg import MIN_WIDTH, MAX_WIDTH
 from ..cli.storm_options import tickets_of
@@ -13,14 +13,15 @@ from ..storm import Storm, play
 from ..storms.axes import AXES
 from ..storms.code import in_command, in_python, in_rust, in_scenario
 from ..storms.heads import names_of
-from ..storms.parameters import RANGES, Limited, Parameters, RateSpan, Slow, Span
+from ..storms.parameters import RANGES, Limited, Parameters, RateSpan, Slow, Span, plural
 from ..storms.picture import storm_picture
+from ..storms.populations import Clients
 from ..storms.sweep_picture import sweep_picture
-from ..storms.texts import recovery_mark, sentences, share_text
+from ..storms.texts import population_sentences, recovery_mark, sentences, share_text
 from ..sweeps import swept
 from .cookbook import COOKBOOK
 from .faults import Marked, policy_in
-from .stories import STORIES
+from .stories import STORIES, Story
 
 __all__ = ["BadRequest", "plan_answer", "start_answer", "storm_answer", "sweep_answer"]
 
@@ -32,7 +33,14 @@ _SHARES = (0, 25, 50, 100, 150, 200, 300, 400)
 _ALONG = ("rate", "capacity", "outage", "patience", "queue", "share")
 
 Json = Dict[str, Any]
-Tickets = Limited
+
+
+class _Side(NamedTuple):
+    """A side of the page: its policy, its limit, and whether the clients beside draw on that, too."""
+
+    policy: Policy
+    tickets: Limited
+    is_shared: bool
 
 
 class BadRequest(Exception):
@@ -44,8 +52,11 @@ def start_answer() -> Json:
     stories = {
         name: {
             "title": story.title,
-            "storm": _told_parameters(story.parameters),
-            "sides": [{"text": text, "limit": limit} for text, limit in story.sides],
+            "storm": _told_parameters(story),
+            "sides": [
+                {"text": text, "limit": limit, "limited": limited}
+                for (text, limit), limited in zip(story.sides, story.limited)
+            ],
         }
         for name, story in STORIES.items()
     }
@@ -57,10 +68,12 @@ def start_answer() -> Json:
     }
 
 
-def _told_parameters(parameters: Parameters) -> Json:
+def _told_parameters(story: Story) -> Json:
+    parameters = story.parameters
     told = parameters._asdict()
     del told["until"], told["tickets"]
     told["rates"] = parameters.rates[0] if parameters.rates else None  # (the page has one span at most)
+    told["beside"] = story.beside
     return told
 
 
@@ -83,10 +96,10 @@ def storm_answer(asked: Json) -> Json:
     """The storms of policies in one picture, each with its totals in words and its programs; None for what is none."""
     sides = _sides(asked)
     try:
-        parameters = _parameters(asked.get("storm"))
+        wanted = _wanted(asked, sides)
     except StormError as error:
         return _fault(error)
-    storms = [None if side is None else play(side[0], parameters._replace(tickets=side[1])) for side in sides]
+    storms = [None if each is None else play(*each) for each in wanted]
     played = [storm for storm in storms if storm is not None]
     if not played:
         return {"sides": [None for _ in storms], "picture": "", "scenario": ""}
@@ -106,9 +119,8 @@ def sweep_answer(asked: Json) -> Json:
         raise BadRequest(f"along: expected one of {', '.join(_ALONG)}, got {name!r}")
     sides = _sides(asked)
     try:
-        parameters = _parameters(asked.get("storm"))
-        storms = [(side[0], parameters._replace(tickets=side[1])) for side in sides if side is not None]
-        values = _values(name, parameters)
+        storms = [each for each in _wanted(asked, sides) if each is not None]
+        values = _values(name, _parameters(asked.get("storm")))
         if not storms or len(values) < 2:
             return {"picture": "", "said": f"There is nothing to play along {AXES[name].title}."}
         played = swept(storms, name, values, _letters(sides))
@@ -140,10 +152,38 @@ def _letters(sides: Sequence[Optional[Any]]) -> List[str]:
 
 
 def _fault(error: StormError) -> Json:
-    return {"fault": {"name": error.name, "said": error.hint}}
+    # (the clients beside have one place on the page)
+    return {"fault": {"name": error.name.partition("[")[0], "said": error.hint}}
 
 
-def _sides(asked: Json) -> List[Optional[Tuple[Policy, Tickets]]]:
+def _wanted(asked: Json, sides: Sequence[Optional[_Side]]) -> List[Optional[Tuple[Policy, Parameters]]]:
+    """The storms of the sides; None for a side that has none."""
+    parameters = _parameters(asked.get("storm"))
+    share, policy = _beside(asked["storm"].get("beside", [0, ""]))
+    found: List[Optional[Tuple[Policy, Parameters]]] = []
+    for side in sides:
+        if side is None:
+            found.append(None)
+            continue
+        own = side.policy if policy is None else policy
+        clients = Clients(share, own, None, side.is_shared)
+        changed = parameters._replace(tickets=side.tickets, beside=(clients,) if share else ())
+        found.append((side.policy, changed.checked()))
+    return found
+
+
+def _beside(given: Any) -> Tuple[int, Optional[Policy]]:
+    """The share of the clients beside, in per cent, and their policy; None where it is that of the side."""
+    if not isinstance(given, list) or len(given) != 2 or not isinstance(given[1], str):
+        raise BadRequest("beside: expected a share and a text")
+    share, text = _whole("beside", given[0]), given[1]
+    found = policy_in(text) if text else None
+    if isinstance(found, Marked):
+        raise StormError("beside", f"{found.said}: {found.hint}")
+    return share, found
+
+
+def _sides(asked: Json) -> List[Optional[_Side]]:
     sides = asked.get("sides")
     if not isinstance(sides, list) or len(sides) > _MAX_SIDES or not all(map(_is_object, sides)):
         raise BadRequest("sides: expected a list of objects")
@@ -154,22 +194,24 @@ def _is_object(value: Any) -> bool:
     return isinstance(value, dict)
 
 
-def _side(side: Json) -> Optional[Tuple[Policy, Tickets]]:
+def _side(side: Json) -> Optional[_Side]:
     found = policy_in(_text(side, "text"))
     try:
         tickets = tickets_of(_text(side, "limit"))
     except BudgetError:
         return None
-    return None if isinstance(found, Marked) else (found, tickets)
+    return None if isinstance(found, Marked) else _Side(found, tickets, side.get("limited") is True)
 
 
 def _shown(storm: Storm) -> Json:
     totals = storm.totals
     back = recovery_mark(storm)[1]
-    brief = f"{share_text(totals)} of {totals.requests:,} requests succeeded{back and ', ' + back}"
+    until = " until the storm was cut" if totals.cut else ""
+    requests = f"{totals.requests:,} {plural(totals.requests, 'request')}"
+    brief = f"{share_text(totals)} of {requests} succeeded{until}{back and ', ' + back}"
     return {
         "brief": f"{brief}; {totals.calls_per_request:.2f} calls for each",
-        "lines": sentences(storm),
+        "lines": [*sentences(storm), *population_sentences(storm)],
         "json": storm.policy.to_json(),
         "command": in_command(storm.policy, storm.parameters),
         "python": in_python(storm.policy, storm.parameters),

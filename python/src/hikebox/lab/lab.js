@@ -1,12 +1,12 @@
 "use strict";
 
 // What is on the page: the story, what was changed of its numbers, and the two sides with a policy and a limit each.
-const state = { story: "quota", storm: {}, sides: [{ text: "", limit: "" }, { text: "", limit: "" }], along: "rate" };
+const state = { story: "quota", storm: {}, sides: [{ text: "", limit: "", limited: false }, { text: "", limit: "", limited: false }], along: "rate" };
 const page = crypto.randomUUID();
 let known = { stories: {}, ranges: {}, cookbook: [], along: {} };
 
 // Name, label, and the least and the most of the slider; a time is in milliseconds. `part` is one of an outage, a
-// brown-out or a surge.
+// brown-out, a surge or the clients beside, whose second part is their policy.
 const CONTROLS = [
   { name: "rate", label: "Requests per second", least: 1, most: 20000 },
   { name: "capacity", label: "Capacity of the peer, calls per second", least: 1, most: 20000 },
@@ -21,15 +21,16 @@ const CONTROLS = [
   { name: "patience", label: "Patience of the clients, ms", least: 1, most: 60000 },
   { name: "queue", label: "Queue of the peer, calls", least: 0, most: 100000 },
   { name: "replicas", label: "Replicas of the peer, each with this capacity and queue", least: 1, step: 1, most: 4 },
-  { name: "down", label: "Replicas away in the outage", least: 1, step: 1, most: 4 },
+  { name: "down", label: "Replicas down in the outage", least: 1, step: 1, most: 4 },
   { name: "together", label: "Requests at one moment", least: 1, most: 20000 },
   { name: "seconds", label: "Requests come for, s", least: 1, most: 600 },
   { name: "window", label: "Window of the picture, ms", least: 1, most: 60000 },
   { name: "until", label: "End of the storm, ms", least: 0, step: 1000, most: 600000 },
   { name: "calls", label: "Cut after this many calls", least: 1, most: 16777216 },
   { name: "words", label: "Seed of the random words", least: 0, step: 1, most: 100 },
+  { name: "beside", part: 0, label: "Share of the requests that are theirs, %", least: 0, step: 1, most: 99, range: [0, 99] },
 ];
-const PARTS = { outage: 2, slow: 3, rates: 3 };
+const PARTS = { outage: 2, slow: 3, rates: 3, beside: 2 };
 const HOUR = 3600000;
 // What there is of a brown-out or a surge where there is none.
 const NONE = { slow: [0, 0, 100], rates: [0, 0, 2400] };
@@ -45,7 +46,7 @@ const say = (place, said) => { if (place.textContent !== said) place.textContent
 async function ask(name, asked, signal) {
   const answer = await fetch(name, {
     method: "POST", headers: { "Content-Type": "application/json" }, body: JSON.stringify(asked), signal,
-  });
+  }).catch((error) => { throw error.name === "AbortError" ? error : new Error("hikebox lab does not answer. Is it still running?"); });
   if (!answer.ok) throw new Error(answer.status === 403 ? "this page is of another run of hikebox lab" : await answer.text());
   return answer.json();
 }
@@ -170,6 +171,30 @@ function stormAsked() {
 
 const sidesAsked = () => state.sides.map((side) => side.text.trim() ? side : { text: "", limit: "" });
 
+// ---- The clients beside
+
+function makeBeside() {
+  const policy = byId("beside-policy");
+  for (const [title, spelt] of known.cookbook) policy.append(new Option(title, spelt));
+  policy.addEventListener("change", () => { state.storm.beside = [whole("beside")[0], policy.value]; stormChanged(); });
+  SIDES.forEach((name, index) => {
+    const label = document.createElement("label"), box = document.createElement("input");
+    Object.assign(box, { type: "checkbox", id: name + "-limited" });
+    box.setAttribute("aria-label", "They draw on the limit of " + name.toUpperCase());
+    box.addEventListener("change", () => { state.sides[index].limited = box.checked; stormChanged(); });
+    label.append(box, " " + name.toUpperCase());
+    byId("beside-limited").append(label);
+  });
+}
+
+// Shows their policy, also one that is not of the cookbook, and whose limits they draw on.
+function showBeside() {
+  const policy = byId("beside-policy"), text = whole("beside")[1];
+  if (![...policy.options].some((option) => option.value === text)) policy.append(new Option(text, text));
+  policy.value = text;
+  SIDES.forEach((name, index) => { byId(name + "-limited").checked = Boolean(state.sides[index].limited); });
+}
+
 // ---- The sides
 
 function makeSide(name, index) {
@@ -207,6 +232,7 @@ function showChosen(part) {
 }
 
 function showSides() {
+  showBeside();
   state.sides.forEach((side, index) => {
     const part = partOf(index);
     part.querySelector("textarea").value = side.text;
@@ -263,6 +289,7 @@ async function plan(index) {
 const planLater = SIDES.map((_, index) => later(120, () => plan(index)));
 
 function sideChanged(index) {
+  ++planTurns[index];  // (a plan that was asked for before is of another text)
   planLater[index]();
   stormChanged();
 }
@@ -288,7 +315,7 @@ async function play() {
     const answer = await ask("storm", { page, sides: sidesAsked(), storm: stormAsked(), width, is_brief: width < WIDE }, mine.signal);
     if (playing === mine) { showPlayed(answer); sweepLater(); }
   } catch (error) {
-    if (playing === mine && error.name !== "AbortError") say(byId("storm-fault"), error.message);
+    if (playing === mine && error.name !== "AbortError") showStale(error.message);
   } finally {
     clearTimeout(slow);
     if (playing === mine) { playing = null; busy(""); }
@@ -304,7 +331,8 @@ function busy(said) {
 function showPlayed(answer) {
   const fault = answer.fault;
   say(byId("storm-fault"), fault && !CONTROLS.some((control) => control.name === fault.name) ? fault.said : "");
-  for (const control of CONTROLS.filter((control) => fault && control.name === fault.name)) {
+  // (a box that was changed since has a fault of its own)
+  for (const control of CONTROLS.filter((control) => fault && control.name === fault.name && isShown(control))) {
     tell(byId(idOf(control)), byId(idOf(control) + "-fault"), fault.said);
   }
   const isWhole = !fault && answer.sides.every((side, index) => side || !state.sides[index].text.trim());
@@ -318,12 +346,15 @@ function showPlayed(answer) {
   showStale();
 }
 
+// Whether a box has the number that is played, and nothing that is none.
+function isShown(control) {
+  const spelt = byId(idOf(control)).value.trim();
+  return /^\d+$/.test(spelt) && Number(spelt) === valueOf(control);
+}
+
 // Numbers that were wrong together are right again.
 function clearPlayedFaults() {
-  for (const control of CONTROLS) {
-    const number = byId(idOf(control));
-    if (/^\d+$/.test(number.value.trim()) && Number(number.value) === valueOf(control)) tell(number, byId(number.id + "-fault"), "");
-  }
+  for (const control of CONTROLS.filter(isShown)) tell(byId(idOf(control)), byId(idOf(control) + "-fault"), "");
 }
 
 let scenario = "";
@@ -340,11 +371,12 @@ function showSide(side, index) {
   }));
 }
 
-// Says that the picture is not of what stands in the boxes, where one of these is faulty.
-function showStale() {
+// Says that the picture is not of what stands in the boxes, where one of these is faulty or for this reason.
+function showStale(why = "") {
   const isFaulty = document.querySelector(".controls [aria-invalid=true]") !== null;
-  say(byId("stale"), isFaulty ? "This picture shows the last valid input. What is wrong is marked." : "");
-  for (const name of ["played", "swept"]) byId(name).classList.toggle("stale", isFaulty);
+  const isDrawn = byId("played").firstChild !== null, said = why || (isFaulty ? "What is wrong is marked." : "");
+  say(byId("stale"), said && isDrawn ? `This picture shows the last valid input. ${said}` : said);
+  for (const name of ["played", "swept"]) byId(name).classList.toggle("stale", Boolean(said));
 }
 
 // ---- Along a parameter
@@ -380,6 +412,7 @@ function keepLink() {
   state.sides.forEach((side, index) => {
     told.set(SIDES[index], side.text);
     if (side.limit) told.set(SIDES[index] + "-limit", side.limit);
+    if (side.limited) told.set(SIDES[index] + "-limited", "1");
   });
   if (state.along !== "rate") told.set("along", state.along);
   history.replaceState(null, "", "#" + told);
@@ -392,22 +425,36 @@ function beginWith(name) {
   clearFaults();
 }
 
+// The parts of a value, of which the last one has what is too much.
+function partsOf(value, count) {
+  const parts = value.split("-");
+  return parts.length <= count ? parts : [...parts.slice(0, count - 1), parts.slice(count - 1).join("-")];
+}
+
 // Takes what the link carries. What is wrong in it is told at its box, or above the page.
 function readLink() {
   const told = new URLSearchParams(location.hash.slice(1)), unknown = [];
-  const named = told.get("story");
-  beginWith(named in known.stories ? named : "quota");
-  if (named !== null && !(named in known.stories)) unknown.push(`story=${named}`);
-  if (SIDES.some((name) => told.has(name))) {
-    state.sides = SIDES.map((name) => ({ text: told.get(name) || "", limit: told.get(name + "-limit") || "" }));
-  }
-  if (told.get("along") in known.along) state.along = told.get("along");
+  const named = told.get("story"), along = told.get("along");
+  beginWith(Object.hasOwn(known.stories, named) ? named : "quota");
+  if (named !== null && named !== state.story) unknown.push(`story=${named}`);
+  const hasSides = SIDES.some((name) => told.has(name));
+  state.sides = SIDES.map((name, index) => {
+    const side = hasSides ? { text: "", limit: "", limited: false } : state.sides[index], limited = told.get(name + "-limited");
+    return {
+      text: told.get(name) ?? side.text, limit: told.get(name + "-limit") ?? side.limit,
+      limited: limited === null ? side.limited : limited === "1",
+    };
+  });
+  state.along = Object.hasOwn(known.along, along) ? along : "rate";
+  if (along !== null && along !== state.along) unknown.push(`along=${along}`);
   showControls();
   for (const [name, value] of told) {
     const controls = CONTROLS.filter((control) => control.name === name);
-    const texts = PARTS[name] ? value.split("-") : [value];
+    const texts = controls.length && controls[0].part !== undefined ? partsOf(value, PARTS[name]) : [value];
+    if (name === "beside") state.storm.beside = [whole("beside")[0], texts[1] || ""];
     controls.forEach((control, index) => take(control, index < texts.length ? texts[index] : ""));
-    if (!controls.length && !["story", "along", ...SIDES, ...SIDES.map((side) => side + "-limit")].includes(name)) unknown.push(name);
+    if (/^[ab]-limited$/.test(name) && value !== "1") unknown.push(`${name}=${value}`);
+    if (!controls.length && !["story", "along", ...SIDES.flatMap((side) => [side, side + "-limit", side + "-limited"])].includes(name)) unknown.push(name);
   }
   say(byId("said"), unknown.length ? `The link has what this page does not know: ${unknown.join(", ").slice(0, 80)}.` : "");
   byId("along").value = state.along;
@@ -437,8 +484,9 @@ function makeCopies() {
 }
 
 async function copy(text, what) {
-  byId("copied").hidden = false;
+  byId("copied").hidden = !text;
   say(byId("copied"), text);
+  if (!text) { say(byId("said"), "There is nothing to copy: no such storm is played."); return; }
   try {
     await navigator.clipboard.writeText(text);
     say(byId("said"), `${what} is copied.`);
@@ -465,7 +513,9 @@ async function start() {
     return;
   }
   makeStories();
-  byId("numbers").append(...CONTROLS.map(makeControl));
+  byId("numbers").append(...CONTROLS.filter((control) => control.name !== "beside").map(makeControl));
+  byId("beside-share").append(makeControl(CONTROLS.find((control) => control.name === "beside")));
+  makeBeside();
   SIDES.forEach(makeSide);
   makeCopies();
   for (const [name, title] of Object.entries(known.along)) byId("along").append(new Option(title, name));

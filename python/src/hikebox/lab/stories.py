@@ -18,6 +18,10 @@ class Story(NamedTuple):
     title: str
     parameters: Parameters
     sides: Tuple[Tuple[str, str], Tuple[str, str]]
+    #: The share of the clients beside, in per cent, their policy, or none where it is that of the side, and on which
+    #: sides they draw on the limit.
+    beside: Tuple[int, str] = (0, "")
+    limited: Tuple[bool, bool] = (False, False)
 
 
 STORIES: Dict[str, Story] = {
@@ -30,4 +34,11 @@ STORIES: Dict[str, Story] = {
     ),
     "back-off": Story("Back-off alone does not end a storm", SCENARIOS["outage"], (("recurs(3)", ""), (_FULL, ""))),
     "deadline": Story("A deadline helps", SCENARIOS["outage"], ((_FULL, ""), (f"({_FULL}).ends_by(1)", ""))),
+    "beside": Story(
+        "A quota beside clients without one",
+        SCENARIOS["outage"],
+        ((_FULL, "10/10%/1s"), (_FULL, "10/10%/1s")),
+        (30, ""),
+        (True, False),
+    ),
 }

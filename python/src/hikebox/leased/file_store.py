@@ -12,9 +12,9 @@ from typing import Callable, Iterator, Optional, TypeVar, Union
 from .._engine.leasing import Stored, lease_of_budget, lease_of_quota
 from .._engine.structs import Kept
 from ..budgets.terms import Terms
-from ..errors import StoreError
+from ..errors import StoreError, StoreLost
 from .slots import NO_BOOT, Copy, Slot, make_slot, slot_path, sync_folder, unpack
-from .stores import Present, QuotaRange, Range, checked_name, present_window
+from .stores import Present, QuotaRange, Range, checked_name, checked_seconds, present_window
 
 __all__ = ["FileStore", "shared_uptime"]
 
@@ -33,14 +33,12 @@ class FileStore:
     time namespace of a container. The folder must be on a local disk. If you delete it, all its budgets and quotas
     begin anew. A damaged file grants nothing (`StoreLost`).
 
-    `patience` is how many seconds a lease waits for the lock.
+    `patience` is how many seconds a lease waits for the lock. A relative path becomes absolute when the store is made.
     """
 
     def __init__(self, path: Union[str, os.PathLike[str]], *, patience: float = 5.0) -> None:
-        self.path = os.fsdecode(path)
-        if not self.path:
-            raise StoreError("expected the path of a folder, got an empty one")
-        self.patience = patience
+        self.path = _checked_path(path)
+        self.patience = checked_seconds("patience", patience)
         self._look_at_path()
 
     def __repr__(self) -> str:
@@ -121,6 +119,8 @@ class FileStore:
             try:
                 slot = Slot(path, key, to_disk)
             except FileNotFoundError:
+                if os.path.islink(path):
+                    raise StoreLost(f"{path}: expected a slot, got a link to nothing") from None
                 self._make(path, key, to_disk)
                 continue
             try:
@@ -136,7 +136,8 @@ class FileStore:
     def _make(self, path: str, key: bytes, to_disk: bool) -> None:
         folder = os.path.dirname(path)
         os.makedirs(folder, exist_ok=True)
-        with contextlib.suppress(FileNotFoundError):  # the folder was deleted just now
+        # (the folder was deleted just now; or a child, which a signal's handler forked, writes beside it by this name)
+        with contextlib.suppress(FileNotFoundError, FileExistsError):
             make_slot(path, _nothing_counted(key), to_disk)
             if to_disk:
                 sync_folder(self.path)
@@ -147,6 +148,25 @@ class FileStore:
             raise StoreError(
                 f"{self.path}: expected a folder, got a file. Counts are kept in a folder now; name another path."
             )
+
+
+def _checked_path(path: Union[str, os.PathLike[str]]) -> str:
+    """The absolute path of a folder, or a `StoreError`: a process that changes its directory keeps the folder."""
+    decoded = os.fsdecode(path)
+    if not decoded:
+        raise StoreError("expected the path of a folder, got an empty one")
+    try:
+        has_null = b"\0" in os.fsencode(decoded)
+    except UnicodeEncodeError:
+        raise StoreError(f"expected a path that the file system can encode, got {decoded!r}") from None
+    if has_null:
+        raise StoreError(f"expected a path without a null byte, got {decoded!r}")
+    if os.path.isabs(decoded):
+        return decoded
+    try:
+        return os.path.join(os.getcwd(), decoded)
+    except OSError as error:
+        raise StoreError(f"{decoded}: the current directory can't be read: {error.strerror}") from error
 
 
 def _present(period: int, clock: Callable[[], float]) -> Present:
@@ -174,20 +194,33 @@ def shared_uptime() -> int:
 def _shift() -> int:
     """By how many nanoseconds this process's clock is ahead of the machine's."""
     try:
-        with open("/proc/self/timens_offsets", encoding="ascii") as file:
-            for line in file:
-                clock, seconds, nanos = line.split()
-                if clock in ("boottime", "7"):  # (the first kernels with time namespaces wrote the clock's number)
-                    return int(seconds) * 10**9 + int(nanos)
+        offsets = _content("/proc/self/timens_offsets")
     except FileNotFoundError:  # a kernel without time namespaces
-        pass
+        return 0
+    for line in offsets.splitlines():
+        clock, seconds, nanos = line.split()
+        if clock in (b"boottime", b"7"):  # (the first kernels with time namespaces wrote the clock's number)
+            return int(seconds) * 10**9 + int(nanos)
     return 0
+
+
+#: Linux's name of this start of the machine. A chroot without /proc has none.
+_BOOT_ID = "/proc/sys/kernel/random/boot_id"
 
 
 def this_boot() -> bytes:
     """A name of this start of the machine."""
-    with open("/proc/sys/kernel/random/boot_id", "rb") as file:
-        return file.read(36)
+    try:
+        return _content(_BOOT_ID)[:36]
+    except OSError as error:
+        raise StoreError(f"{_BOOT_ID}: {error.strerror}") from error
+
+
+def _content(path: str) -> bytes:
+    """What a small file has."""
+    with open(path, "rb", buffering=0) as file:
+        # (by its place: a child that a signal's handler forks in here reads the same open file)
+        return os.pread(file.fileno(), 4096, 0)
 
 
 #: At how many other files a lease looks that makes a new one.

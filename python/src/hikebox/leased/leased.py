@@ -7,11 +7,11 @@ from typing import Callable, Optional
 
 from .._engine.leasing import Grant
 from .._time import Duration, seconds, seconds_text
-from ..budgets.terms import CountsRequests, Terms, requests_of, terms_of
-from ..errors import TermsError
+from ..budgets.terms import CountsRequests, Terms, requests_of, terms_of, tickets_of
+from ..errors import StoreError, TermsError
 from ..quota import Usage
 from .leases import Leases
-from .stores import QuotaRange, QuotaStore, Range, Store, uptime
+from .stores import QuotaRange, QuotaStore, Range, Store, checked_store, uptime
 
 __all__ = ["Leased", "LeasedQuota"]
 
@@ -50,7 +50,7 @@ class Leased(Leases):
         millis = None if per is None else seconds(per, "per")
         if millis == 0:
             raise TermsError(f"expected a window of at least a millisecond, got {per!r}")
-        self.store = store
+        self.store = checked_store(store, "take")
         self.limit = limit
         self.lease = _checked_lease(lease) or max(1, min(1000, limit // 64))
         super().__init__(name, millis, spare, again_after, clock)
@@ -101,7 +101,7 @@ class LeasedQuota(Leases, CountsRequests):
         clock: Callable[[], float] = uptime,
     ) -> None:
         self.terms: Terms = terms_of(reserve, share, per)
-        self.store = store
+        self.store = checked_store(store, "take_of_quota")
         self.lease = _checked_lease(lease)
         self._counts_successes = counts_successes
         self._returns_tickets = returns_tickets
@@ -111,7 +111,7 @@ class LeasedQuota(Leases, CountsRequests):
 
     def begin_anew(self) -> None:
         super().begin_anew()
-        self._terms_lock = threading.Lock()
+        self._terms_lock = threading.RLock()
         #: How many tickets are leased next.
         self._next = self._lease_of(self.terms.reserve)
         #: Whether the store had no ticket left when it was asked last, and by which terms it was asked.
@@ -138,7 +138,13 @@ class LeasedQuota(Leases, CountsRequests):
         A process whose calls seldom fail can call this now and then, so that others draw on the share of its requests.
         """
         with self.lock:
-            found = self._asked(self.terms, 0)
+            if self.is_asking:
+                raise StoreError("the store is being asked by the code that a signal interrupted")
+            try:
+                self.is_asking = True
+                found = self._asked(self.terms, 0)
+            finally:
+                self.is_asking = False
             # (requests are counted apart before and after the end of the window)
             self.leased.granted(Grant(found.window, 0, 0, self.moments.of(found.until)))
         self._may_ask_again()
@@ -185,6 +191,6 @@ class LeasedQuota(Leases, CountsRequests):
 
 def _checked_lease(lease: Optional[int]) -> Optional[int]:
     """How many tickets are leased at a time, where that is said: or a `TermsError`."""
-    if lease is not None and not 1 <= lease <= 2**32:
-        raise TermsError(f"expected a lease of 1 to 2**32 tickets, got {lease!r}")
-    return lease
+    if lease == 0:
+        raise TermsError("expected a lease of 1 to 2**32 tickets, got 0")
+    return None if lease is None else tickets_of(lease, "tickets as the lease", "a lease of 1 to 2**32 tickets")

@@ -2,18 +2,21 @@
 
 from __future__ import annotations
 
+import contextlib
 import logging
 import math
 import threading
 from typing import Any, Awaitable, Callable, ClassVar, List, Optional, Union
 
+from .._engine.calls import MAX_TICKETS
 from .._engine.leasing import Grant, LeasedPass, LeasedTicket
 from .._forks import begins_anew_in_a_child
 from .._time import MAX_NUMBER, FLOAT_ERROR
 from ..budgets.drawing import Drawing
+from ..budgets.terms import tickets_of
 from ..budgets.tickets import Refusal, RefusalReason, Ticket, checked_ticket
 from ..errors import StoreError, StoreLost, TicketError
-from .stores import Range, checked_name
+from .stores import Range, checked_name, checked_seconds
 
 __all__ = ["Leases", "Moments"]
 
@@ -67,8 +70,8 @@ class Leases:
     ) -> None:
         self.name = checked_name(name)
         #: How many tickets this process may draw while the store can't be reached, in all or in each window.
-        self.spare = spare
-        self.again_after = again_after
+        self.spare = tickets_of(spare, "tickets to spare", f"0 to {MAX_TICKETS} tickets to spare")
+        self.again_after = checked_seconds("again_after", again_after)
         self.clock = clock
         #: The length of a window in milliseconds, or None.
         self.millis = period
@@ -85,8 +88,9 @@ class Leases:
     def begin_anew(self) -> None:
         """Begins with no lease, as in a forked child."""
         self.generation += 1
-        #: Who has it asks the store.
-        self.lock = threading.Lock()
+        #: Who has it asks the store. A signal's handler that draws may interrupt that, on the same thread.
+        self.lock = threading.RLock()
+        self.is_asking = False
         self.moments = Moments(self.clock)
         #: What was leased, and what is drawn while the store can't be reached, in windows of the process's own.
         self.leased = LeasedPass(self.millis or 0)
@@ -125,11 +129,11 @@ class Leases:
             return self._drawn_anew()
 
     async def draw_async(self) -> Union[Ticket, Refusal]:
-        """The same for a coroutine: it waits for the store on another thread."""
+        """The same for a coroutine: under asyncio it waits for the store on another thread."""
         found = self._at_hand()
         if isinstance(found, Ticket):
             return found
-        if not self.lock.locked() and not self._may_ask(found):
+        if not self.is_asking and not self._may_ask(found):
             return self.draw()
         import asyncio
 
@@ -137,7 +141,7 @@ class Leases:
             loop = asyncio.get_running_loop()
         except RuntimeError:  # a coroutine of another library
             return self.draw()
-        return await loop.run_in_executor(None, self.draw)
+        return await _Elsewhere(self).drawn(loop)
 
     def hand_back(self, ticket: Ticket) -> None:
         """Hands a ticket back that was drawn by hand, and not used: this process may draw it again while its window
@@ -164,8 +168,10 @@ class Leases:
 
     def _at_hand(self) -> Union[Ticket, int]:
         """A ticket of what was leased, or the moment from which on the store may be asked."""
-        leased = self.leased
-        return self._ticket(leased, leased.draw(self.moments.now()))
+        generation, leased = self.generation, self.leased
+        found = self._ticket(leased, leased.draw(self.moments.now()))
+        # (a signal's handler may have forked meanwhile: in the child it is the parent's)
+        return found if generation == self.generation else self._at_hand()
 
     def _ticket(self, drawn_of: LeasedPass, found: Union[LeasedTicket, int]) -> Union[Ticket, int]:
         if isinstance(found, int):
@@ -183,12 +189,20 @@ class Leases:
 
     def _drawn_anew(self) -> Union[Ticket, Refusal]:
         """A ticket: what another thread leased meanwhile, or of a new lease, or one without the store."""
-        for _ in range(_TRIES):
+        tries = 0
+        while tries < _TRIES:
+            generation = self.generation
             found = self._at_hand()
             if isinstance(found, Ticket):
                 return found
-            if not self._may_ask(found) or not self._lease():
+            if self.is_asking:  # this thread is, and was interrupted
+                return Refusal(RefusalReason.UNREACHABLE)
+            may_ask = self._may_ask(found)
+            if generation != self.generation:  # a signal's handler forked meanwhile: in the child it is the parent's
+                continue
+            if not may_ask or not self._lease():
                 break
+            tries += 1
         else:
             self.leave_alone()
         found = self._at_hand()
@@ -202,35 +216,50 @@ class Leases:
         self.leased.leave_alone(min(again, self.moments.after(until)))
 
     def _lease(self) -> bool:
-        """Asks the store for a range: whether it granted one. Where not it is left alone for a while."""
+        """Asks the store for a range: whether to draw again. Where it granted none it is left alone for a while."""
+        generation, leased = self.generation, self.leased
         try:
+            self.is_asking = True
             found = self._take()
         except StoreError as error:
-            if self._error is None:
-                logger.warning("%s: %s; it grants nothing until it can be reached", self.name, error)
-            self._reason = RefusalReason.LOST if isinstance(error, StoreLost) else RefusalReason.UNREACHABLE
-            self._error = error.with_traceback(None)
-            self.leave_alone()
-            return False
-        if found.lost and self._reason is not RefusalReason.LOST:
-            logger.warning("%s: the store may have lost its count of this window, and grants nothing of it", self.name)
+            return generation != self.generation or self._failed(error)
+        finally:
+            self.is_asking = False
+        if generation != self.generation:  # a signal's handler forked meanwhile: in the child it is the parent's
+            return True
+        was_lost = self._reason is RefusalReason.LOST
         self._reason = RefusalReason.LOST if found.lost else RefusalReason.USED_UP
         self._error = None
         grant = Grant(found.window, found.first, found.tickets, self.moments.of(found.until))
-        if not self.leased.granted(grant):
-            self._begin_leases_anew(grant)
+        if not leased.granted(grant):
+            self._begin_leases_anew(grant, generation)
         if not found.tickets:
             # (tickets end with the millisecond before the window's end, and others may be had in the one after)
             self.leased.leave_alone(self.moments.after(found.until))
             self._granted_none(found)
+        if found.lost and not was_lost:
+            logger.warning("%s: the store may have lost its count of this window, and grants nothing of it", self.name)
         return found.tickets > 0
 
-    def _begin_leases_anew(self, grant: Grant) -> None:
+    def _failed(self, error: StoreError) -> bool:
+        """The store failed: there is no reason to draw again."""
+        is_told = self._error is not None
+        self._reason = RefusalReason.LOST if isinstance(error, StoreLost) else RefusalReason.UNREACHABLE
+        self._error = error.with_traceback(None)
+        self.leave_alone()
+        # (last, since what handles the log may draw too)
+        if not is_told:
+            logger.warning("%s: %s; it grants nothing until it can be reached", self.name, error)
+        return False
+
+    def _begin_leases_anew(self, grant: Grant, generation: int) -> None:
         """The store granted what it had granted before, so it began anew, as where its folder was deleted."""
-        logger.warning("%s: the store began anew", self.name)
-        self._past.append(self.leased)
-        self.leased = LeasedPass(self.millis or 0)
-        self.leased.granted(grant)
+        leased = LeasedPass(self.millis or 0)
+        leased.granted(grant)
+        if generation == self.generation:
+            self._past.append(self.leased)
+            self.leased = leased
+            logger.warning("%s: the store began anew", self.name)
 
     def _spare_one(self) -> Optional[Ticket]:
         """A ticket of those that are drawn while the store can't be reached."""
@@ -247,6 +276,43 @@ class Leases:
         return drawn if isinstance(drawn, Ticket) else None
 
 
+class _Elsewhere:
+    """A draw on another thread, for a coroutine: if that is cancelled meanwhile, the ticket comes back."""
+
+    __slots__ = ("_leases", "_lock", "_drawn", "_is_wanted")
+
+    def __init__(self, leases: Leases) -> None:
+        self._leases = leases
+        self._lock = threading.Lock()
+        self._drawn: Union[Ticket, Refusal, None] = None
+        self._is_wanted = True
+
+    async def drawn(self, loop: Any) -> Union[Ticket, Refusal]:
+        """What the thread drew."""
+        try:
+            drawn: Union[Ticket, Refusal] = await loop.run_in_executor(None, self._draw)
+        except BaseException:
+            with self._lock:
+                self._is_wanted = False
+            self._lets_go()
+            raise
+        return drawn
+
+    def _draw(self) -> Union[Ticket, Refusal]:
+        drawn = self._leases.draw()
+        with self._lock:
+            self._drawn, is_wanted = drawn, self._is_wanted
+        if not is_wanted:
+            self._lets_go()
+        return drawn
+
+    def _lets_go(self) -> None:
+        """Nobody waits any more: what was drawn comes back, where it can."""
+        if isinstance(self._drawn, Ticket) and self._leases.TAKES_BACK:
+            with contextlib.suppress(TicketError):  # of a forked child, it is the parent's
+                self._drawn.hand_back()
+
+
 class ByLease:
     """Draws of leases for one retry, which keeps its latest ticket."""
 
@@ -260,15 +326,16 @@ class ByLease:
 
     def draw(self) -> Union[Optional[Refusal], Awaitable[Optional[Refusal]]]:
         """Draws a ticket: why there is none."""
-        return self._draw_async() if self._awaits else self._drawn(self._leases.draw())
+        generation = self._leases.generation
+        return self._draw_async(generation) if self._awaits else self._drawn(self._leases.draw(), generation)
 
-    async def _draw_async(self) -> Optional[Refusal]:
-        return self._drawn(await self._leases.draw_async())
+    async def _draw_async(self, generation: int) -> Optional[Refusal]:
+        return self._drawn(await self._leases.draw_async(), generation)
 
-    def _drawn(self, drawn: Union[Ticket, Refusal]) -> Optional[Refusal]:
+    def _drawn(self, drawn: Union[Ticket, Refusal], generation: int) -> Optional[Refusal]:
         if isinstance(drawn, Refusal):
             return drawn
-        self._latest, self._generation = drawn, self._leases.generation
+        self._latest, self._generation = drawn, generation
         return None
 
     def end(self, hands_back: bool) -> None:

@@ -95,10 +95,11 @@ class RedisStore:
                 return QuotaRange(0, 0, present.until, present.number, 0, lost=True)
             key = f"{self._key(name)}:quota:{terms.period}:{present.number}"
             wanted = (asked(present.began_by), count, terms.reserve, terms.share, MAX_TICKETS, 2 * terms.period)
-            pipe = self._transaction()
+            pipe = self._transaction(once=key + ":once")
             pipe.eval(GRANT, 1, key, *wanted)
-            ((before, tickets, requests),) = self._answers(pipe, server)
-            return QuotaRange(int(before), int(tickets), present.until, present.number, int(requests))
+            (found,) = self._answers(pipe, server)
+            before, tickets, requests = _granted(found, terms, count)
+            return QuotaRange(before, tickets, present.until, present.number, requests)
 
     def _key(self, name: str) -> str:
         return f"{self.prefix}:{{{name}}}"
@@ -115,7 +116,7 @@ class RedisStore:
             raise StoreLost(f"Redis has no count of {name!r}: begin() makes one")
         begun_on = server.decode() if isinstance(server, bytes) else server
         if not self.durable and begun_on != info["run_id"]:
-            raise StoreLost(f"Redis was started anew since {name!r} was begun, and may have lost some of its count")
+            raise StoreLost(f"Redis was restarted since {name!r} was begun, and may have lost some of its count")
         return _below(limit, before, count)
 
     def _window(self, period: int, clock: Callable[[], float]) -> Tuple[Present, Optional[str]]:
@@ -129,9 +130,14 @@ class RedisStore:
         started_by = (int(whole) - int(info["uptime_in_seconds"]) + _UPTIME_OFF) * 10**6 + int(micros)
         return present, info["run_id"] if present.number * period * 1000 >= started_by else None
 
-    def _transaction(self) -> Any:
-        """A transaction whose first answer tells about the server."""
+    def _transaction(self, once: str = "") -> Any:
+        """A transaction whose first answer tells about the server. With a key that nobody writes it is made once: a
+        client that repeats what it got no answer to repeats none that watches a key, since requests would be counted
+        twice."""
         pipe = self.client.pipeline(transaction=True)
+        if once:
+            pipe.watch(once)
+            pipe.multi()
         pipe.info("server")
         return pipe
 
@@ -139,8 +145,18 @@ class RedisStore:
         """The further answers of a transaction, where the server is still in this start."""
         info, *answers = list(pipe.execute())
         if info["run_id"] != server:
-            raise StoreLost("Redis was started anew while it was asked")
+            raise StoreLost("Redis was restarted while it was asked")
         return answers
+
+
+def _granted(found: Any, terms: Terms, count: int) -> Tuple[int, int, int]:
+    """The tickets given before, those granted, and the requests, where the script can have answered this."""
+    if isinstance(found, list) and len(found) == 3:
+        before, tickets, requests = map(int, found)
+        most = min(count, max(0, terms.allowed(max(0, requests)) - before))
+        if before >= 0 and requests >= 0 and 0 <= tickets <= most:
+            return before, tickets, requests
+    raise StoreError(f"Redis: expected the count of a window and at most {count} tickets of it, got {found!r}")
 
 
 def _below(limit: int, before: int, count: int, present: Optional[Present] = None) -> Range:
@@ -160,4 +176,6 @@ def _errors() -> Iterator[None]:
     except StoreError:
         raise
     except Exception as error:
-        raise StoreError(f"Redis: {error}") from error
+        # (of a connection that broke where a key is watched, a client says that alone)
+        why = (error.__context__ if type(error).__name__ == "WatchError" else None) or error
+        raise StoreError(f"Redis: {why}") from error

@@ -30,7 +30,7 @@ class SharedLimit(Limit):
 
     Each call of a request is one change of a file under its lock, so all calls of all processes act as one sequence. A
     process may be killed at any moment. What it drew of a bucket is then lost, and a probe of a breaker is over at its
-    deadline. A bucket goes on after the machine is started anew, and a breaker is then closed.
+    deadline. A bucket goes on after the machine is restarted, and a breaker is then closed.
 
     While the folder can't be reached, first attempts are admitted and no retry is granted.
     """

@@ -31,7 +31,7 @@ SIZE = 2 * _COPY
 #: length of the key, and the key.
 _BODY = struct.Struct("<16s4Q36sH2x416s4x")
 _CHECK = struct.Struct("<I")
-#: The boot of a count that goes on after the machine is started anew.
+#: The boot of a count that goes on after the machine is restarted.
 NO_BOOT = bytes(36)
 
 #: The turn after which there is none: it is only ever met in a file that something else wrote.
@@ -97,6 +97,13 @@ class _File(io.FileIO):
         """In a forked child: closes the file."""
         self.close()
 
+    def fileno(self) -> int:
+        """Its number, where no fork has closed it."""
+        try:
+            return super().fileno()
+        except ValueError:
+            raise StoreError(f"{self.name!r}: the process was forked in the middle of a lease") from None
+
 
 def slot_path(folder: str, key: bytes) -> str:
     """Where the slot of a key is: the key's FNV-1a hash, in a subfolder of its first two digits."""
@@ -111,7 +118,7 @@ def make_slot(path: str, first: Copy, to_disk: bool) -> None:
     """Makes a slot, whole beside its name and then linked to that, unless another process was first."""
     folder = os.path.dirname(path)
     beside = os.path.join(folder, f".new-{os.getpid()}-{secrets.token_hex(8)}")
-    with _File.opened(beside, "x+") as file:
+    with contextlib.closing(_File.opened(beside, "x+")) as file:
         try:
             _write_at(file.fileno(), first.pack() * 2, 0)
             if to_disk:
@@ -153,7 +160,7 @@ class Slot:
         given_up_at = time.monotonic() + patience
         while True:
             try:
-                fcntl.flock(self._number(), fcntl.LOCK_EX | fcntl.LOCK_NB)
+                fcntl.flock(self._file.fileno(), fcntl.LOCK_EX | fcntl.LOCK_NB)
                 return self._is_named()
             except BlockingIOError:
                 if time.monotonic() >= given_up_at:
@@ -177,18 +184,18 @@ class Slot:
         """Writes these counts in the place of those that were read."""
         self._turn += 1
         copy = Copy(self._key, self._turn, stored.window, stored.given, stored.asked, boot).pack()
-        _write_at(self._number(), copy, 0)
-        _write_at(self._number(), copy, _COPY)
+        _write_at(self._file.fileno(), copy, 0)
+        _write_at(self._file.fileno(), copy, _COPY)
         if self._to_disk:
-            os.fsync(self._number())
+            os.fsync(self._file.fileno())
 
     def content(self) -> bytes:
         """What the file has, up to one byte more than a slot."""
-        return os.pread(self._number(), SIZE + 1, 0)
+        return os.pread(self._file.fileno(), SIZE + 1, 0)
 
     def age(self) -> float:
         """How many seconds ago the file was changed."""
-        return time.time() - os.fstat(self._number()).st_mtime
+        return time.time() - os.fstat(self._file.fileno()).st_mtime
 
     def close(self) -> None:
         """Unlocks and closes the file. (To close it is not enough, where a child was forked that has it open too.)"""
@@ -196,14 +203,9 @@ class Slot:
             fcntl.flock(self._file, fcntl.LOCK_UN)
             self._file.close()
 
-    def _number(self) -> int:
-        if self._file.closed:
-            raise StoreError(f"{self.path}: the process was forked in the middle of a lease")
-        return self._file.fileno()
-
     def _is_named(self) -> bool:
         try:
-            return os.path.samestat(os.fstat(self._number()), os.stat(self.path))
+            return os.path.samestat(os.fstat(self._file.fileno()), os.stat(self.path))
         except FileNotFoundError:
             return False
 

@@ -2,13 +2,27 @@
 
 from __future__ import annotations
 
+import math
 import time
-from typing import Callable, NamedTuple, Optional, Protocol
+from typing import Callable, NamedTuple, Optional, Protocol, TypeVar
 
 from ..budgets.terms import Terms
 from ..errors import TermsError
 
-__all__ = ["Present", "QuotaRange", "QuotaStore", "Range", "Store", "checked_name", "present_window", "uptime"]
+__all__ = [
+    "Present",
+    "QuotaRange",
+    "QuotaStore",
+    "Range",
+    "Store",
+    "checked_name",
+    "checked_seconds",
+    "checked_store",
+    "present_window",
+    "uptime",
+]
+
+T = TypeVar("T")
 
 
 def uptime() -> float:
@@ -91,3 +105,19 @@ def checked_name(name: str) -> str:
     if not 1 <= length <= 255:
         raise TermsError(f"expected a name of 1 to 255 bytes, got {length}")
     return name
+
+
+def checked_seconds(what: str, value: float) -> float:
+    """A number of seconds that is waited at most, or a `TermsError`."""
+    if isinstance(value, bool) or not isinstance(value, (int, float)):
+        raise TypeError(f"{what}: expected a number of seconds, got {value!r}")
+    if not 0 <= value < math.inf:
+        raise TermsError(f"{what}: expected 0 seconds or more, and not for ever, got {value!r}")
+    return value
+
+
+def checked_store(store: T, method: str) -> T:
+    """A store, which has this method, or a `TypeError`."""
+    if not hasattr(store, method):
+        raise TypeError(f"expected a store, such as FileStore(path), got {store!r}")
+    return store

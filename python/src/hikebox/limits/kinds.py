@@ -3,13 +3,14 @@
 from __future__ import annotations
 
 import random as _random
+import sys
 import time
-from typing import Any, Callable, List, Optional, Tuple
+from typing import Any, Callable, List, Optional, Tuple, Type
 
 from .._engine.limits import LimitHandle
-from .._time import Duration, moment, seconds
-from ..budgets.terms import thousandths_of
-from ..errors import TermsError
+from .._time import FLOAT_ERROR, Duration, moment, seconds_text
+from ..budgets.terms import duration_of, thousandths_of, thousandths_text
+from ..errors import TermsError, shown
 from ..policy import Policy
 from ..storms.limits import LimitTerms, breaker, bucket, in_flight, throttle
 from .limit import Limit
@@ -22,6 +23,15 @@ _MAX_CAPACITY = 2**40
 _MAX_COUNT = 2**32 - 1
 #: The most open times of a breaker.
 _MAX_TIMES = 64
+#: Timeouts that are no `TimeoutError`, each by its module. That of asyncio is one from Python 3.11 on.
+_TIMEOUTS = (
+    ("asyncio", "TimeoutError"),
+    ("httpx", "TimeoutException"),
+    ("requests", "Timeout"),
+    ("urllib3.exceptions", "TimeoutError"),
+)
+#: What is no timeout, though of one of these types: urllib3 1.26 raises it where a connection is refused.
+_NO_TIMEOUTS = (("urllib3.exceptions", "NewConnectionError"),)
 
 
 class Bucket(Limit):
@@ -34,7 +44,8 @@ class Bucket(Limit):
     `debit`, `credit`
         The tokens that a failed attempt takes, and that a success gives.
     `cost`, `timeout_cost`
-        The tokens that a retry takes; and after a `TimeoutError`, if that differs.
+        The tokens that a retry takes; and after a timeout, if that differs: a `TimeoutError`, or the timeouts of
+        asyncio, httpx, requests and urllib3.
     `refund`
         A success gives back what the call's last retry took, instead of the credit.
 
@@ -75,10 +86,13 @@ class Bucket(Limit):
     @classmethod
     def grpc(cls, max_tokens: int, token_ratio: float) -> Bucket:
         """gRPC's `retryThrottling`: a failure takes one token, a success gives `token_ratio` of one, and a retry is
-        granted while more than half of `max_tokens` are left."""
+        granted while more than half of `max_tokens` are left. As in gRPC, what follows the third decimal of the ratio
+        is ignored."""
         most = thousandths_of("max_tokens", max_tokens, _MAX_CAPACITY)
         made = cls.__new__(cls)
         credit = thousandths_of("token_ratio", token_ratio, most)
+        if credit > 1 and credit > token_ratio * 1000 + FLOAT_ERROR:
+            credit -= 1  # which was rounded up
         if most < 1000:
             raise TermsError(f"max_tokens: expected 1 token or more, got {max_tokens!r}")
         made._begin_with(most, most // 2 + 1, 1000, credit, refund=False)
@@ -86,14 +100,19 @@ class Bucket(Limit):
 
     @classmethod
     def aws(cls) -> Bucket:
-        """The AWS SDKs' standard mode: 500 tokens. A retry takes 5, and 10 after a `TimeoutError`. A success gives back
-        what the call's last retry took, or else 1."""
+        """The AWS SDKs' standard mode: 500 tokens. A retry takes 5, and 10 after a timeout. A success gives back what
+        the call's last retry took, or else 1."""
         return cls(500, credit=1, cost=5, timeout_cost=10, refund=True)
 
     @property
     def terms(self) -> Tuple[int, int, int, int, bool]:
         """The capacity, the floor, the debit and the credit in thousandths, and whether a success refunds."""
         return self._terms
+
+    @property
+    def costs(self) -> Tuple[int, int]:
+        """What a retry takes, and what it takes after a timeout, in thousandths."""
+        return self._cost, self._timeout_cost
 
     def make(self) -> LimitHandle:
         return LimitHandle.of_bucket(*self._terms)
@@ -103,13 +122,27 @@ class Bucket(Limit):
         return bucket(capacity, floor, self._cost, self._timeout_cost, debit, credit, refund)
 
     def cost_of(self, error: Optional[BaseException]) -> int:
-        return self._timeout_cost if isinstance(error, TimeoutError) else self._cost
+        return self._cost if self._cost == self._timeout_cost or not _is_timeout(error) else self._timeout_cost
 
     def expression(self) -> str:
         *levels, refund = self._terms
-        capacity, floor, debit, credit = (f"{level / 1000:g}" for level in levels)
+        capacity, floor, debit, credit, cost, late = map(thousandths_text, (*levels, self._cost, self._timeout_cost))
+        timeout = "" if late == cost else f", timeout_cost={late}"
         told = ", refund=True" if refund else ""
-        return f"Bucket({capacity}, floor={floor}, debit={debit}, credit={credit}{told})"
+        return f"Bucket({capacity}, floor={floor}, debit={debit}, credit={credit}, cost={cost}{timeout}{told})"
+
+
+def _is_timeout(error: Optional[BaseException]) -> bool:
+    """Whether an error is a timeout, of Python or of a client that is loaded."""
+    if isinstance(error, TimeoutError):
+        return True
+    return isinstance(error, _loaded(_TIMEOUTS)) and not isinstance(error, _loaded(_NO_TIMEOUTS))
+
+
+def _loaded(names: Tuple[Tuple[str, str], ...]) -> Tuple[Type[Any], ...]:
+    """The types of these names, each by its module, as far as they are loaded."""
+    found = [getattr(sys.modules.get(module), name, None) for module, name in names]
+    return tuple([each for each in found if isinstance(each, type)])
 
 
 def _named(floor: float, debit: float, credit: float) -> Tuple[Tuple[str, float], ...]:
@@ -119,7 +152,7 @@ def _named(floor: float, debit: float, credit: float) -> Tuple[Tuple[str, float]
 class InFlight(Limit):
     """Bounds the retries in flight: the greater of a least number and a share of the calls in flight.
 
-    A retry is in flight from its draw, through its wait, to the end of its attempt.
+    A retry is in flight from its draw to the call's next draw or its end, or until it is cancelled in its wait.
 
     `least`
         The retries that there may be, however few calls there are.
@@ -140,7 +173,11 @@ class InFlight(Limit):
     @classmethod
     def envoy(cls, budget_percent: float = 20, min_retry_concurrency: int = 3) -> InFlight:
         """Envoy's `retry_budget`, with its defaults."""
-        return cls(min_retry_concurrency, thousandths_of("budget_percent", budget_percent, 100_000) / 100_000)
+        least = _count("min_retry_concurrency", min_retry_concurrency, 0)
+        percent = thousandths_of("budget_percent", budget_percent, 100_000)
+        if 0 < percent < 100:
+            raise TermsError(f"expected 0 or at least 0.1 as budget_percent, got {budget_percent!r}")
+        return cls(least, percent / 100_000)
 
     def make(self) -> LimitHandle:
         return LimitHandle.of_flight(*self._terms)
@@ -150,7 +187,7 @@ class InFlight(Limit):
 
     def expression(self) -> str:
         least, share = self._terms
-        return f"InFlight({least}, {share / 1000:g})"
+        return f"InFlight({least}, {thousandths_text(share)})"
 
 
 class Breaker(Limit):
@@ -163,7 +200,7 @@ class Breaker(Limit):
     `probes`
         How many probes it admits, and how many successes close it: 1 to 15.
     `probe_deadline`
-        How long after its last probe it admits others, if the probes told nothing: seconds, or a `timedelta`.
+        How long after its last probe it admits others, if the probes have no result by then: seconds, or a `timedelta`.
     `clock`
         What returns the time in seconds, to be replaced in tests.
 
@@ -199,7 +236,7 @@ class Breaker(Limit):
             raise TypeError(f"open_for: expected a policy, as spaced({open_for}), got {open_for!r}")
         self._policy = Policy.of(open_for)
         self._probes = _count("probes", probes, 1, 15)
-        self._deadline = seconds(probe_deadline, "probe_deadline")
+        self._deadline = duration_of("probe_deadline", probe_deadline)
         self._times = times_of(self._policy)
         super().__init__(clock)
 
@@ -215,7 +252,9 @@ class Breaker(Limit):
         return breaker(self._failures, self._probes, self._deadline, tuple(self._times))
 
     def expression(self) -> str:
-        return f"Breaker({self._failures}, {self._policy!r})"
+        probes = "" if self._probes == 1 else f", probes={self._probes}"
+        deadline = "" if self._deadline == 30_000 else f", probe_deadline={seconds_text(self._deadline)}"
+        return f"Breaker({self._failures}, {self._policy!r}{probes}{deadline})"
 
 
 class Throttle(Limit):
@@ -247,7 +286,7 @@ class Throttle(Limit):
         random: Callable[[], float] = _random.random,
     ) -> None:
         self._ratio = thousandths_of("the ratio", ratio, _MAX_COUNT)
-        self._period = seconds(period, "period")
+        self._period = duration_of("period", period)
         if self._ratio < 1000:
             raise TermsError(f"expected a ratio of 1 or more, got {ratio!r}")
         if self._period == 0:
@@ -266,14 +305,14 @@ class Throttle(Limit):
         return throttle(self._ratio, self._period)
 
     def expression(self) -> str:
-        return f"Throttle({self._ratio / 1000:g}, {self._period / 1000:g})"
+        return f"Throttle({thousandths_text(self._ratio)}, {seconds_text(self._period)})"
 
 
 def _count(name: str, value: int, least: int, most: int = _MAX_COUNT) -> int:
     if isinstance(value, bool) or not isinstance(value, int):
         raise TypeError(f"{name}: expected a whole number, got {value!r}")
     if not least <= value <= most:
-        raise TermsError(f"{name}: expected {least} to {most}, got {value}")
+        raise TermsError(f"{name}: expected {least} to {most}, got {shown(value)}")
     return value
 
 

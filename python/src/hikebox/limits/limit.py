@@ -19,10 +19,11 @@ from .._engine.limits import (
 from .._forks import OfOneProcess, begins_anew_in_a_child
 from .._time import moment
 from ..budgets.tickets import Refusal, RefusalReason
+from ..errors import EngineError
 from ..policy.preview import word_of
 from ..storms.limits import LimitTerms
 
-__all__ = ["Limit", "Request"]
+__all__ = ["Limit", "Request", "look_at_no_limit"]
 
 _REASONS = {
     LEVEL_LOW: RefusalReason.LEVEL_LOW,
@@ -38,14 +39,13 @@ class Limit(OfOneProcess):
     """What calls ask before their first attempt, and again before each retry.
 
     Pass one as `budget` wherever a `Quota` goes. A call that is not admitted raises a `NotAdmitted` and makes no
-    attempt. Threads may share a limit and ask at once: all that they do acts as one sequence. What a call holds is
-    given back once, when it ends or is cancelled. A limit belongs to its process: a forked child begins with a fresh
-    one.
+    attempt. Threads may share a limit: its calls act as if made one after another. What a call holds is given back
+    once, when it ends or is cancelled. A limit belongs to its process: a forked child begins with a fresh one.
 
     `request()` is for calls that you retry by hand.
     """
 
-    __slots__ = ("clock", "random", "generation", "root", "_lock", "_idle", "__weakref__")
+    __slots__ = ("clock", "random", "generation", "root", "_lock", "_idle", "_split", "__weakref__")
 
     #: Whether it looks at its clock.
     reads_clock = False
@@ -69,6 +69,8 @@ class Limit(OfOneProcess):
         self.root = self.make()
         #: Those that nobody uses now. `pop` and `append` are each one step.
         self._idle: List[LimitHandle] = []
+        #: All of them. The collector would free one that a request of the same cycle gives back.
+        self._split: List[LimitHandle] = []
 
     def begin_anew(self) -> None:
         """Begins with nothing counted."""
@@ -97,7 +99,9 @@ class Limit(OfOneProcess):
             return self._idle.pop()
         except IndexError:
             with self._lock:
-                return self.root.split()
+                made = self.root.split()
+                self._split.append(made)
+                return made
 
     def give_back(self, lent: LimitHandle) -> None:
         """Takes back a handle that has no request."""
@@ -137,36 +141,47 @@ class Limit(OfOneProcess):
         return f"<{self.expression()}>"
 
 
-class Request:
+class Request(OfOneProcess):
     """One call under a `Limit`, from its first attempt to its end. Use it as a context manager, or call `ended()`.
 
     The order is: `admit()`, then after each attempt `succeeded()`, or `failed()` and, if you retry, `draw()`.
     """
 
-    __slots__ = ("_limit", "_handle", "_generation")
+    __slots__ = ("_limit", "_handle", "_generation", "_is_admitted", "_refusal")
 
     def __init__(self, limit: Limit) -> None:
         self._limit = limit
         self._handle: Optional[LimitHandle] = None
         self._generation = limit.generation
+        self._is_admitted = False
+        #: Why the limit of a forked child did not admit it.
+        self._refusal: Optional[Refusal] = None
 
     def _held(self) -> LimitHandle:
-        """Its handle, which a forked child takes anew."""
+        """Its handle."""
         handle, limit = self._handle, self._limit
         if handle is None or self._generation != limit.generation:
             self._generation = limit.generation
             handle = self._handle = limit.lend()
+            if self._is_admitted:  # by the limit of the process that was forked
+                self._refusal = self._ask(handle)
         return handle
 
-    def admit(self) -> Optional[Refusal]:
-        """Asks before the first attempt. Returns None if the call is admitted, or the `Refusal`."""
+    def _ask(self, handle: LimitHandle) -> Optional[Refusal]:
+        """Asks the limit to admit it."""
         limit = self._limit
-        answer = self._held().admit(moment(limit.clock()), word_of(limit.random()))
+        answer = handle.admit(moment(limit.clock()), word_of(limit.random()))
         if answer is None:
             return None
         if answer[0] == OUT_OF_TURN:
             raise RuntimeError("expected a request that has ended, got one under way")
         return limit.refused(*answer)
+
+    def admit(self) -> Optional[Refusal]:
+        """Asks before the first attempt. Returns None if the call is admitted, or the `Refusal`."""
+        refusal = self._ask(self._held())
+        self._is_admitted = refusal is None
+        return refusal
 
     def draw(self, error: Optional[BaseException] = None) -> Optional[Refusal]:
         """Asks for a retry, before the wait. Returns None if it is granted, or the `Refusal`. A bucket may charge more
@@ -176,6 +191,8 @@ class Request:
         if answer is None:
             return None
         if answer[0] == OUT_OF_TURN:
+            if self._refusal is not None:
+                return self._refusal
             raise RuntimeError("expected a request that was admitted, got none under way")
         return limit.refused(*answer)
 
@@ -195,12 +212,13 @@ class Request:
             self.failed()
 
     def cancelled(self) -> None:
-        """Tells that the retry that was drawn last is cancelled while it waits. What it cost comes back, once."""
+        """Tells that the latest retry is cancelled while it waits. What it cost and its slot come back, once."""
         self._held().cancelled()
 
     def ended(self) -> None:
         """Tells that the call is over. What it holds comes back, once."""
         handle, self._handle = self._handle, None
+        self._is_admitted, self._refusal = False, None
         if handle is not None and self._generation == self._limit.generation:
             handle.ended()
             self._limit.give_back(handle)
@@ -216,3 +234,20 @@ class Request:
 
     def __exit__(self, kind: Any, error: Any, trace: Any) -> None:
         self.ended()
+
+    def __del__(self) -> None:
+        if self._handle is None:
+            return
+        try:
+            self.ended()  # (a limit has only so many handles, so this one serves another request)
+        except EngineError:
+            pass  # its limit was freed with it
+
+
+def look_at_no_limit(called: str, budget: object, client: str) -> None:
+    """Refuses a limit where a client does not say when a call begins."""
+    if isinstance(budget, Limit):
+        kind = type(budget).__name__
+        raise TypeError(
+            f"{called} takes no {kind}: it is asked before the first attempt, and {client} doesn't say when that begins"
+        )

@@ -2,11 +2,11 @@
 
 from __future__ import annotations
 
-from typing import List, Optional
+from typing import Iterable, List, Optional
 
 from .._engine.limits import LimitHandle
 from ..errors import TermsError
-from .kinds import Throttle
+from .kinds import Bucket, Throttle
 from .limit import Limit
 
 __all__ = ["both"]
@@ -24,7 +24,10 @@ class Both(Limit):
         self._limits = limits
         timed = [limit for limit in limits if limit.reads_clock] or limits[:1]
         if any(limit.clock != timed[0].clock for limit in timed):
-            raise TypeError(f"both: expected limits with one clock, got {', '.join(map(repr, timed))}")
+            raise TypeError(f"both: expected limits with one clock, got {_told(timed)}")
+        buckets = [limit for limit in limits if isinstance(limit, Bucket)]
+        if len({bucket.costs for bucket in buckets}) > 1:  # (the engine has one cost for all of them)
+            raise TermsError(f"both: expected buckets with the same cost and timeout_cost, got {_told(buckets)}")
         throttles = [limit for limit in limits if isinstance(limit, Throttle)] or limits
         super().__init__(timed[0].clock, throttles[0].random)
 
@@ -44,13 +47,19 @@ class Both(Limit):
         return f"both({', '.join(limit.expression() for limit in self._limits)})"
 
 
-def both(first: Limit, second: Limit, *others: Limit) -> Limit:
-    """Returns a limit that asks all of these, at most four: either all admit a call or grant a retry, or none is
-    charged. They are asked in their order. Put a breaker last: a probe that it admitted is not given back.
+def _told(limits: Iterable[Limit]) -> str:
+    return ", ".join(map(repr, limits))
 
-    >>> from hikebox import Breaker, Bucket, InFlight, spaced
-    >>> both(InFlight.envoy(), Bucket.aws(), Breaker(5, spaced(30)))
-    <both(InFlight(3, 0.2), Bucket(500, floor=0, debit=0, credit=1, refund=True), Breaker(5, spaced(30)))>
+
+def both(first: Limit, second: Limit, *others: Limit) -> Limit:
+    """Returns a limit that asks all of these, at most four: either all admit a call or grant a retry, or what those
+    before gave comes back at once. They are asked in their order. Put breakers and throttles last: a probe that a
+    breaker admitted does not come back, nor does what a throttle counted. Buckets need the same `cost` and
+    `timeout_cost`.
+
+    >>> from hikebox import Breaker, InFlight, Throttle, spaced
+    >>> both(InFlight.envoy(), Breaker(5, spaced(30)), Throttle.google())
+    <both(InFlight(3, 0.2), Breaker(5, spaced(30)), Throttle(2, 60))>
     """
     limits: List[Limit] = []
     for limit in (first, second, *others):

@@ -5,7 +5,7 @@ from __future__ import annotations
 from typing import Any
 
 from .._time import MAX_NUMBER, Duration, seconds
-from ..errors import Fault, PolicyError
+from ..errors import Fault, PolicyError, shown
 
 __all__ = ["factor_of", "interval", "ratio", "thousandths", "whole"]
 
@@ -17,7 +17,7 @@ def whole(number: Any, what: str, least: int = 0, most: int = MAX_NUMBER) -> int
     if isinstance(number, bool) or not isinstance(number, int):
         raise TypeError(f"{what}: expected a whole number, got {number!r}")
     if not least <= number <= most:
-        raise PolicyError(Fault.OUT_OF_RANGE, hint=f"{what}: expected {least} to {most}, got {number}")
+        raise PolicyError(Fault.OUT_OF_RANGE, hint=f"{what}: expected {least} to {most}, got {shown(number)}")
     return int(number)
 
 
@@ -36,7 +36,7 @@ def thousandths(number: Any, what: str, least: float, most: float) -> int:
     if isinstance(number, bool) or not isinstance(number, (int, float)):
         raise TypeError(f"{what}: expected a number, got {number!r}")
     if not least <= number <= most:
-        raise PolicyError(Fault.OUT_OF_RANGE, hint=f"{what}: expected {least:g} to {most:g}, got {number}")
+        raise PolicyError(Fault.OUT_OF_RANGE, hint=f"{what}: expected {least:g} to {most:g}, got {shown(number)}")
     return round(number * 1000)
 
 

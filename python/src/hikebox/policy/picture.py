@@ -4,7 +4,7 @@ from __future__ import annotations
 
 from typing import Any, Callable, Iterable, List, NamedTuple, Optional, Tuple, Union
 
-from .._svg import LINE, Picture, headed, ticks, width_of
+from .._svg import LINE, Picture, headed, plain_width_of, ticks, width_of
 from .._time import Duration
 from .policy import Policy
 from .preview import Step
@@ -13,7 +13,9 @@ __all__ = ["plan_picture"]
 
 #: So many calls are drawn at most.
 _MAX_STEPS = 60
-_LEFT, _RIGHT, _ROW, _FOOT = 64, 136, 22, 44
+_LEFT, _ROW, _FOOT = 64, 22, 44
+#: The least room at the right for what is done after each call, and its distance from the axis and the edge.
+_RIGHT, _APART, _MARGIN = 136, 16, 4
 #: Above the rows of a policy, beside the lines of its text.
 _ABOVE = 24
 #: What the band is, in the legend.
@@ -46,6 +48,17 @@ class _Call(NamedTuple):
         return max(self.step.at_ms, self.begins, self.most or 0)
 
 
+class _Axis(NamedTuple):
+    """The axis of time."""
+
+    #: The marks, and their unit in milliseconds.
+    marks: List[float]
+    unit: int
+    #: How wide it is, and how wide a millisecond is.
+    wide: float
+    scale: float
+
+
 def plan_picture(
     *policies: Policy,
     steps: int = 10,
@@ -60,7 +73,7 @@ def plan_picture(
     wide. `random` makes the random numbers of one policy."""
     how: Any = {"start": start, "took": took, "input": input if isinstance(input, int) else list(input)}
     drawn = [_played(policy, min(steps, _MAX_STEPS), random and random(), how) for policy in policies]
-    last = max([call.last for calls in drawn for call in calls], default=0)
+    axis = _axis(drawn, width)
     heads = [headed(repr(policy), width - 24) for policy in policies]
     legend = _legend_lines(drawn, width)
     above = LINE * len(legend)
@@ -70,12 +83,12 @@ def plan_picture(
     for index, line in enumerate(legend):
         _draw_legend(picture, 18 + LINE * index, line)
     top = float(above)
-    for head, calls in zip(heads, drawn):
-        picture.texts(12, top + 22, head, "head")
+    for policy, head, calls in zip(policies, heads, drawn):
+        picture.texts(12, top + 22, head, "head", repr(policy))
         top += _ABOVE + LINE * len(head)
-        _draw(picture, calls, last, top)
+        _draw(picture, calls, axis, top)
         top += _ROW * len(calls)
-    _draw_times(picture, last, top)
+    _draw_times(picture, axis, top)
     return picture.svg(styled)
 
 
@@ -118,25 +131,34 @@ def _after(call: _Call) -> str:
 def _time(milliseconds: int) -> str:
     """A time as a person reads it.
 
-    >>> _time(80), _time(1500), _time(90000)
-    ('80 ms', '1.5 s', '90 s')
+    >>> _time(80), _time(1500), _time(86_400_000)
+    ('80 ms', '1.5 s', '86,400 s')
     """
-    return f"{milliseconds} ms" if milliseconds < 1000 else f"{milliseconds / 1000:.12g} s"
+    return f"{milliseconds} ms" if milliseconds < 1000 else f"{milliseconds / 1000:,.12g} s"
 
 
-def _scale(width: int, last: int) -> Tuple[List[float], int, float]:
-    """The marks on the axis of time, their unit in milliseconds, and how wide a millisecond is."""
-    wide = width - _LEFT - _RIGHT
+def _axis(drawn: List[List[_Call]], width: int) -> _Axis:
+    """The axis that has room beside what is done after each call."""
+    calls = [call for each in drawn for call in each]
+    said = max([plain_width_of(_done(call)) for call in calls], default=0.0)
+    wide = width - _LEFT - max(_RIGHT, _APART + said + _MARGIN)
+    last = max(1, *(call.last for call in calls)) if calls else 1
     unit = 1000 if last >= 2000 else 1
-    marks = ticks(max(1, last) / unit, max(2, wide // 90))
-    return marks, unit, wide / (marks[-1] * unit)
+    room = max(90, 14 + plain_width_of(f"{last / unit:,.12g}"))
+    marks = ticks(last / unit, max(1 if room > 90 else 2, int(wide // room)))
+    return _Axis(marks, unit, wide, wide / (marks[-1] * unit))
 
 
-def _draw(picture: Picture, calls: List[_Call], last: int, top: float) -> None:
+def _done(call: _Call) -> str:
+    """What is done after a call, in words."""
+    return _after(call)[5:].capitalize()
+
+
+def _draw(picture: Picture, calls: List[_Call], axis: _Axis, top: float) -> None:
     """The rows of a policy: its calls, and what it does after each."""
-    marks, unit, scale = _scale(picture.width, last)
+    marks, unit, wide, scale = axis
     bottom = top + _ROW * len(calls)
-    right = picture.width - _RIGHT + 16
+    right = _LEFT + wide + _APART
     picture.text(right, top - 6, "after it fails", "soft")
     for mark in marks:
         picture.path(f"M{_LEFT + mark * unit * scale:.1f} {top:.1f}V{bottom:.1f}", "line")
@@ -149,15 +171,21 @@ def _draw(picture: Picture, calls: List[_Call], last: int, top: float) -> None:
         if call.took:
             picture.box(_LEFT + call.begins * scale, y - 4, call.took * scale, 8, "requests")
         picture.dot(_LEFT + call.begins * scale, y)
-        picture.text(right, y + 4, _after(call)[5:].capitalize())
+        picture.text(right, y + 4, _done(call))
 
 
-def _draw_times(picture: Picture, last: int, bottom: float) -> None:
-    marks, unit, scale = _scale(picture.width, last)
+def _draw_times(picture: Picture, axis: _Axis, bottom: float) -> None:
+    marks, unit, wide, scale = axis
+    least = 0.0
     for mark in marks:
-        picture.text(_LEFT + mark * unit * scale, bottom + 16, f"{mark:g}", "soft", "middle")
+        said = f"{mark:,.12g}"
+        half = plain_width_of(said) / 2
+        # (a great number in a narrow picture stands right of the one before)
+        x = max(least + half, _LEFT + mark * unit * scale)
+        picture.text(x, bottom + 16, said, "soft", "middle")
+        least = x + half + _MARGIN
     named = "time in seconds" if unit > 1 else "time in milliseconds"
-    picture.text(_LEFT + (picture.width - _LEFT - _RIGHT) / 2, bottom + 34, named, "soft", "middle")
+    picture.text(_LEFT + wide / 2, bottom + 34, named, "soft", "middle")
 
 
 def _legend_lines(drawn: List[List[_Call]], width: int) -> List[List[Tuple[str, str]]]:

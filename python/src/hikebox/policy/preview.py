@@ -39,7 +39,7 @@ class Step:
 
     @property
     def delay(self) -> Optional[float]:
-        """How long is waited for the next call in seconds, or None where the policy is done."""
+        """The wait before the next call in seconds, or None if the policy is done."""
         return None if self.next_ms is None else (self.next_ms - self.at_ms) / 1000
 
     def __str__(self) -> str:

@@ -5,6 +5,7 @@ from __future__ import annotations
 from contextvars import Token
 from types import TracebackType
 from typing import TYPE_CHECKING, Any, Optional, Tuple, Type, Union
+from weakref import ref
 
 from .deadline import Deadline, enter, leave
 from .drivers import advance, answer_of, next_begins, settle, settle_async
@@ -18,17 +19,21 @@ __all__ = ["AsyncAttempts", "Attempt", "Attempts"]
 
 
 class Attempt:
-    """One attempt of a loop, to be used in a `with` block. Its last one lets the exception out."""
+    """One attempt of a loop, to be used in one `with` block, before the loop is left. The block of the last attempt
+    raises its exception."""
 
-    __slots__ = ("_attempts",)
+    __slots__ = ("_loop", "_entered", "_state")
 
     def __init__(self, attempts: _BaseAttempts) -> None:
-        self._attempts = attempts
+        # (outside its block, so that the retry ends where the loop is left early, though the loop's variable stays)
+        self._loop = ref(attempts)
+        self._entered: Optional[_BaseAttempts] = None
+        self._state = attempts.progress.state
 
     @property
     def retry_state(self) -> RetryState:
-        """What the retry is at."""
-        return self._attempts.progress.state
+        """The state of the retry."""
+        return self._state
 
     @property
     def number(self) -> int:
@@ -37,11 +42,18 @@ class Attempt:
 
     @property
     def seconds_left(self) -> Optional[float]:
-        """How many seconds it is until the deadline of the retry, or None where it has none."""
+        """The seconds until the deadline of the retry, or None if it has none."""
         return self.retry_state.seconds_left
 
     def __enter__(self) -> Attempt:
-        attempts = self._attempts
+        attempts = self._loop()
+        if attempts is None:
+            raise RuntimeError("an attempt is over once its loop was left: keep what iter() returned")
+        if not attempts.under_way:
+            raise RuntimeError("an attempt is over once its `with` block was left: take the next one of the loop")
+        if self._entered is not None:
+            raise RuntimeError("an attempt can't be entered again within its `with` block")
+        self._entered = attempts
         if attempts.deadline is not None:
             attempts.token = enter(attempts.deadline)
         return self
@@ -52,9 +64,10 @@ class Attempt:
         error: Optional[BaseException],
         trace: Optional[TracebackType],
     ) -> bool:
-        attempts = self._attempts
-        if attempts.token is not None:
-            leave(attempts.token)
+        attempts, self._entered = self._entered, None
+        assert attempts is not None, "its block was entered"
+        if attempts.deadline is not None and attempts.token is not None:
+            leave(attempts.deadline, attempts.token)
             attempts.token = None
         return attempts.ended(error)
 
@@ -83,7 +96,7 @@ class _BaseAttempts:
         """Refuses a turn whose attempt was not used."""
         if self.under_way:
             self.progress.close()
-            raise RuntimeError("each attempt of the loop wants its `with attempt:` block")
+            raise RuntimeError("each attempt of the loop needs a `with attempt:` block")
 
     def ended(self, error: Optional[BaseException]) -> bool:
         """The attempt's block was left: whether its exception stops there."""

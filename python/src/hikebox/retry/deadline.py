@@ -11,7 +11,7 @@ __all__ = ["Deadline", "enter", "leave", "seconds_left"]
 class Deadline:
     """A moment by a retry's clock, past which no attempt but the first begins."""
 
-    __slots__ = ("clock", "at", "ahead", "outer")
+    __slots__ = ("clock", "at", "ahead", "outer", "is_over")
 
     def __init__(self, clock: Callable[[], float], at: float) -> None:
         self.clock = clock
@@ -20,6 +20,8 @@ class Deadline:
         self.ahead = 0.0
         #: That of the retry in which this one is made.
         self.outer: Optional[Deadline] = None
+        #: Whether calls go by it no more. A generator that was left may leave it in a context that is not its own.
+        self.is_over = False
 
     def left(self) -> float:
         """The seconds until then, and 0 afterwards."""
@@ -31,12 +33,16 @@ _deadline: ContextVar[Optional[Deadline]] = ContextVar("hikebox_deadline", defau
 
 def enter(deadline: Deadline) -> Token[Optional[Deadline]]:
     """Has calls from here on go by this deadline, and by those that they went by."""
-    deadline.outer = _deadline.get()
+    outer = _deadline.get()
+    while outer is not None and (outer.is_over or outer is deadline):
+        outer = outer.outer
+    deadline.outer, deadline.is_over = outer, False
     return _deadline.set(deadline)
 
 
-def leave(token: Token[Optional[Deadline]]) -> None:
+def leave(deadline: Deadline, token: Token[Optional[Deadline]]) -> None:
     """Goes back to what was before."""
+    deadline.is_over = True
     try:
         _deadline.reset(token)
     except ValueError:
@@ -59,7 +65,8 @@ def seconds_left() -> Optional[float]:
     deadline = _deadline.get()
     least: Optional[float] = None
     while deadline is not None:
-        left = deadline.left()
-        least = left if least is None or left < least else least
+        if not deadline.is_over:
+            left = deadline.left()
+            least = left if least is None or left < least else least
         deadline = deadline.outer
     return least

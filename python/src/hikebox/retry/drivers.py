@@ -99,8 +99,8 @@ def run(owner: BaseRetrying, fn: Callable[..., Any], args: Any, kwargs: Any) -> 
             goes_on = next_begins(progress, wait)
         return None if progress is None else answer_of(progress)
     finally:
-        if token is not None:
-            leave(token)
+        if deadline is not None and token is not None:
+            leave(deadline, token)
         if progress is not None:
             progress.close()
 
@@ -153,8 +153,8 @@ async def run_async(owner: BaseRetrying, fn: Callable[..., Any], args: Any, kwar
             goes_on = await _next_begins(progress, wait)
         return None if progress is None else answer_of(progress)
     finally:
-        if token is not None:
-            leave(token)
+        if deadline is not None and token is not None:
+            leave(deadline, token)
         if progress is not None:
             progress.close()
 

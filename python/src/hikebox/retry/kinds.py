@@ -32,7 +32,7 @@ def look_at_function(name: str, fn: Any, awaits: bool) -> None:
     if not callable(fn):
         raise TypeError(f"{name}: expected a function, got {fn!r}")
     if not awaits and is_async(fn):
-        raise TypeError(f"{name}: {fn!r} is a coroutine function, which is not awaited here")
+        raise TypeError(f"{name}: expected a plain function, got {fn!r}, which is a coroutine function")
 
 
 def hooks_of(name: str, given: Any, awaits: bool) -> Tuple[Any, ...]:

@@ -43,7 +43,7 @@ def mark(error: BaseException, state: RetryState, note: str) -> None:
     try:
         setattr(error, "retry_state", state)
         setattr(error, "__notes__", _with_note(getattr(error, "__notes__", []), note))
-    except (AttributeError, TypeError):
+    except Exception:
         pass  # an exception that takes no attributes is raised as it is
 
 

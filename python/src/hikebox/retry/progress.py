@@ -12,7 +12,7 @@ from math import ceil
 from typing import TYPE_CHECKING, Any, Callable, Generator, Mapping, Optional, Tuple, TypeVar, Union
 
 from .._engine.calls import LOST, NO_DEADLINE, NO_REPORT, OVER, RUN, WAIT
-from .._engine.machine import Machine, is_crowded, lend_machine, park, resumed, take_machine_back
+from .._engine.machine import Machine, give_machine_up, is_crowded, lend_machine, park, resumed, take_machine_back
 from .._time import MAX_NUMBER, FLOAT_ERROR
 from ..budgets.drawing import Drawing, ask
 from ..limits import Request
@@ -22,29 +22,17 @@ from .admission import is_admitted
 from .deadline import Deadline
 from .marks import log_end, log_wait, logger, mark
 from .state import ENDINGS, Ending, Outcome, RetryState
+from .waits import switch
 
 if TYPE_CHECKING:
     from ..retrying import BaseRetrying
 
-__all__ = ["Progress", "Steps", "switch"]
+__all__ = ["Progress", "Steps"]
 
 Answer = TypeVar("Answer")
 #: What is to be called, with what; the answer is sent back.
 Ask = Tuple[Callable[[Any], Any], Any]
 Steps = Generator[Ask, Any, Answer]
-
-
-class _Switch:
-    """Whether waits are left out: `hikebox.testing.no_waits` turns it."""
-
-    __slots__ = ("no_waits",)
-
-    def __init__(self) -> None:
-        #: How many `with` blocks ask for that.
-        self.no_waits = 0
-
-
-switch = _Switch()
 
 
 class Progress:
@@ -136,9 +124,8 @@ class Progress:
             if not (yield from self._waits()):
                 yield from self._ends_later()
                 return False
-        elif settings.asks_limit and settings.drawing is not None:
-            self._drawing = settings.drawing()
-            if not (yield from is_admitted(self, self._drawing)):
+        elif settings.asks_limit:
+            if not (yield from self.is_admitted()):
                 return False
         elif settings.deposit is not None:
             settings.deposit()
@@ -153,7 +140,15 @@ class Progress:
         yield from self._ends_later()
         return False
 
-    def _tells(self, succeeded: bool) -> None:
+    def is_admitted(self) -> Steps[bool]:
+        """Whether the limit that calls ask before their first attempt, where there is one, admits it."""
+        settings = self.settings
+        if not settings.asks_limit or settings.drawing is None:
+            return True
+        self._drawing = settings.drawing()
+        return (yield from is_admitted(self, self._drawing))
+
+    def tells(self, succeeded: bool) -> None:
         """Tells a limit how the attempt ended."""
         if isinstance(self._drawing, Request):
             self._drawing.tell(succeeded)
@@ -168,8 +163,12 @@ class Progress:
             yield settings.sleeps, delay
         elif settings.pause is not None:
             yield settings.pause, 0
-        if settings.is_stopped is not None and settings.is_stopped(state):
-            state.ending = Ending.STOPPED
+        return self.wakes()
+
+    def wakes(self) -> bool:
+        """The wait is over, or a stop ended it: whether the next attempt begins now."""
+        if self.settings.is_stopped is not None and self.settings.is_stopped(self.state):
+            self.state.ending = Ending.STOPPED
             return False
         return self.waited()
 
@@ -179,11 +178,11 @@ class Progress:
         outcome = Outcome(value, attempt_number=state.attempt_number)
         refuses = settings.on_result
         if refuses is not None and (yield refuses, value):
-            self._tells(False)
+            self.tells(False)
             if not (yield from self.judges(outcome)):
                 yield from self._ends()
             return
-        self._tells(True)
+        self.tells(True)
         if settings.repeats and (yield from self.judges(outcome)):
             return
         if not settings.repeats or state.ending is None:
@@ -196,7 +195,7 @@ class Progress:
         `goes_on` begins; less than 0 where this exception is to be raised now. None where something is to be called, as
         `raised` does. So many may wait at once, and what waits is small."""
         settings, state = self.settings, self.state
-        if not settings.is_plain or not isinstance(error, settings.types):
+        if not settings.is_plain or not isinstance(error, settings.types) or type(error) is GeneratorExit:
             return None
         seconds = state.seconds_since_start = self._clock() - state.start_time + self._ahead
         if not self._asks_engine(seconds, settings.code_for(error) if settings.reads_codes else 0):
@@ -221,9 +220,11 @@ class Progress:
         """The attempt raised this exception: False where that is to be raised now."""
         settings, state = self.settings, self.state
         outcome = Outcome(None, error, state.attempt_number)
-        if isinstance(error, Exception):
-            self._tells(False)
         retried = isinstance(error, settings.types)
+        if type(error) is GeneratorExit:  # (by which Python closes a coroutine or a generator, which then has to end)
+            retried = GeneratorExit in settings.types
+        if retried or isinstance(error, Exception):
+            self.tells(False)
         if not retried and isinstance(error, Exception):
             for test in settings.tests:
                 if (yield test, error):
@@ -234,9 +235,7 @@ class Progress:
             state.ending = Ending.NOT_RETRIED
             self.over = True
             return False
-        if (yield from self.judges(outcome)):
-            return True
-        return (yield from self._ends())
+        return (yield from self.judges(outcome)) or (yield from self._ends())
 
     def judges(self, outcome: Outcome) -> Steps[bool]:
         """The attempt failed so: whether the policy goes on, and there is a ticket."""
@@ -394,7 +393,7 @@ class Progress:
         for hook in self.settings.hooks_on_success:
             yield hook, self.state
 
-    def close(self) -> None:
+    def close(self, gives_back: Callable[[Machine], None] = take_machine_back) -> None:
         """Gives the engine's retry back, and counts the call."""
         if self._closed:
             return
@@ -411,7 +410,7 @@ class Progress:
                 grants.end_retry(machine, hands_back)
         finally:
             if machine is not None:
-                take_machine_back(machine)
+                gives_back(machine)
         if state.ending is None:
             state.ending = Ending.CANCELLED
         assert state.retry_object is not None
@@ -420,7 +419,7 @@ class Progress:
     def __del__(self) -> None:
         try:
             if not self._closed:
-                self.close()
+                self.close(give_machine_up)  # (the collector may free it after this, so it serves no other retry)
         except Exception:
             pass  # it was never begun, or its budget is being freed with it
 

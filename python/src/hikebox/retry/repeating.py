@@ -34,7 +34,7 @@ class Repeating(Retrying):
 
 
 class AsyncRepeating(AsyncRetrying):
-    """The same for coroutine functions."""
+    """Calls a coroutine function again as long as its policy goes on, as `Repeating` does with a function."""
 
     __slots__ = ()
 

@@ -2,8 +2,8 @@
 
 from __future__ import annotations
 
-from functools import cached_property, lru_cache
-from typing import TYPE_CHECKING, Any, Callable, Dict, Iterable, List, Optional, Tuple, Type
+from functools import lru_cache
+from typing import TYPE_CHECKING, Any, Callable, Dict, Generic, Iterable, List, Optional, Tuple, Type, TypeVar
 
 from .._time import MAX_NUMBER
 from ..budgets.drawing import Drawing
@@ -19,6 +19,21 @@ if TYPE_CHECKING:
     HasOptions = Options  # whose attributes are those of a Retrying; here they are plain ones
 else:
     HasOptions = object
+
+
+T = TypeVar("T")
+
+
+class _Once(Generic[T]):
+    """An attribute that is computed when it is first read, without a lock. Before Python 3.12 functools has one, for
+    which a forked child would wait for ever where another thread held it at the fork."""
+
+    def __init__(self, work: Callable[[Any], T]) -> None:
+        self._work = work
+
+    def __get__(self, settings: Any, _: Any) -> T:
+        found = settings.__dict__[self._work.__name__] = self._work(settings)
+        return found
 
 
 class Settings(HasOptions):
@@ -99,12 +114,12 @@ class Settings(HasOptions):
         gives_up_by_itself = self.fallback is None and self.drawing is None
         self.is_plain = gives_up_by_itself and not (has_hooks or calls_at_failures)
 
-    @cached_property
+    @_Once
     def lanes(self) -> Tuple[int, ...]:
         """The lanes of the policy's jitters."""
         return self.policy.reads[0]
 
-    @cached_property
+    @_Once
     def reads_codes(self) -> bool:
         """Whether the policy reads codes."""
         return self.policy.reads[1]

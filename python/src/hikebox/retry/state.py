@@ -28,8 +28,8 @@ class Ending(enum.Enum):
     SCHEDULE_DONE = "the policy was done"
     #: The last call failed, or of a repetition succeeded, and the next one would have begun past the deadline.
     DEADLINE = "the deadline left no time for another attempt"
-    #: The last call failed, the policy went on, and the budget had no ticket.
-    BUDGET_REFUSED = "the budget had no ticket"
+    #: The last call failed, the policy went on, and the budget, quota or limit refused a retry.
+    BUDGET_REFUSED = "the budget refused a retry"
     #: The limit did not admit the call, so no attempt was made.
     NOT_ADMITTED = "the limit did not admit the call"
     #: The last call failed in a way that `on` does not name.
@@ -198,7 +198,7 @@ class RetryState:
         self.outcome = Outcome(value, attempt_number=self.attempt_number)
 
     def __reduce__(self) -> Any:
-        kept = (self.attempt_number, self.seconds_since_start, self.idle_for, self.granted, self.ending)
+        kept = (self.attempt_number, self.seconds_since_start, self.idle_for, self.granted, self.ending, self.refusal)
         return (_unpickled, kept)
 
     def __repr__(self) -> str:
@@ -210,7 +210,12 @@ class RetryState:
 
 
 def _unpickled(
-    attempt_number: int, seconds: Optional[float], idle_for: float, granted: int, ending: Optional[Ending]
+    attempt_number: int,
+    seconds: Optional[float],
+    idle_for: float,
+    granted: int,
+    ending: Optional[Ending],
+    refusal: Optional[Refusal],
 ) -> RetryState:
     state = RetryState(None, None, (), {})
     state.attempt_number = attempt_number
@@ -218,6 +223,7 @@ def _unpickled(
     state.idle_for = idle_for
     state.granted = granted
     state.ending = ending
+    state.refusal = refusal
     return state
 
 

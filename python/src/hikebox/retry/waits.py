@@ -11,7 +11,7 @@ from typing import Any, Callable, Dict, Optional
 from .._forks import begins_anew_in_a_child
 from .kinds import is_async, look_at_function
 
-__all__ = ["pause_of", "sleep_of"]
+__all__ = ["pause_of", "sleep_of", "switch"]
 
 Sleep = Callable[[float], Any]
 
@@ -26,6 +26,19 @@ _LOOKS = 5.0
 
 #: The clocks by which time passes while a thread sleeps.
 _REAL_CLOCKS = (time.monotonic, time.time, time.perf_counter)
+
+
+class _Switch:
+    """Whether waits are left out: `hikebox.testing.no_waits` turns it."""
+
+    __slots__ = ("no_waits",)
+
+    def __init__(self) -> None:
+        #: How many `with` blocks ask for that.
+        self.no_waits = 0
+
+
+switch = _Switch()
 
 
 def sleep_of(sleep: Any, stop: Any, clock: Any, awaits: bool) -> Sleep:

@@ -9,6 +9,8 @@ from typing import TYPE_CHECKING, Any, Callable, Dict, List, NamedTuple, Optiona
 from ..budgets.terms import Terms
 from ..errors import StormError
 from .parameters import RANGES, Parameters, Span
+from .populations import MAX_SHARE
+from .texts import is_judged
 
 if TYPE_CHECKING:
     from ..storm import Storm
@@ -52,6 +54,12 @@ def _budget(parameters: Parameters, value: int) -> Parameters:
     return parameters._replace(tickets=value) if isinstance(parameters.tickets, int) else parameters
 
 
+def _beside(parameters: Parameters, value: int) -> Parameters:
+    """(where several stand beside, the first of them)"""
+    first, rest = parameters.beside[:1], parameters.beside[1:]
+    return parameters._replace(beside=(*(each._replace(share=value) for each in first), *rest))
+
+
 class Axis(NamedTuple):
     """A parameter. Its values are whole numbers of the engine's units, of which `unit` are one as it is told."""
 
@@ -84,6 +92,7 @@ AXES: Dict[str, Axis] = {
     "share": Axis("share of the quota, in % of the requests", 1_000_000, _share, "0..20/5", 10),
     "reserve": Axis("reserve of the quota", 2**32, _reserve, "0,10,100"),
     "budget": Axis("budget", 2**32, _budget, "0,1000,5000"),
+    "beside": Axis("share of the first population beside, in %", MAX_SHARE, _beside, "5..40/8"),
 }
 #: Other names of these.
 _TITLES = {axis.title: name for name, axis in AXES.items()}
@@ -99,6 +108,18 @@ class Measure(NamedTuple):
     of: Callable[["Storm"], Optional[float]]
     #: The greatest that it can be, if any.
     most: Optional[float] = None
+    #: How many decimals a table has.
+    decimals: int = 2
+
+    def shown(self, number: float) -> str:
+        """The number in a table. It is 0 or the greatest only where it is that, and not by rounding.
+
+        >>> [MEASURES["succeeded"].shown(number) for number in (0, 0.002, 99.998, 100)]
+        ['0.00', '0.01', '99.99', '100.00']
+        """
+        if self.most is not None and 0 < number < self.most:
+            number = max(0.01, min(self.most - 0.01, number))
+        return f"{number:.{self.decimals}f}"
 
 
 def _succeeded(storm: Storm) -> Optional[float]:
@@ -106,7 +127,7 @@ def _succeeded(storm: Storm) -> Optional[float]:
 
 
 def _recovery(storm: Storm) -> Optional[float]:
-    if not storm.parameters.weather():
+    if not (storm.parameters.weather() and is_judged(storm)):
         return None
     recovered = storm.totals.recovered_ms
     # (where a surge does no harm, no window is bad from the first on)
@@ -123,7 +144,7 @@ MEASURES: Dict[str, Measure] = {
     "succeeded": Measure("requests that succeeded, in %", _succeeded, 100.0),
     "calls": Measure("calls for each request", lambda storm: storm.totals.calls_per_request),
     "recovery": Measure("seconds to recovery", _recovery),
-    "slowest": Measure("slowest success, in seconds", _slowest),
+    "slowest": Measure("slowest success, in seconds", _slowest, decimals=3),
 }
 
 

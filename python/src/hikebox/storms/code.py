@@ -15,6 +15,7 @@ from ..policy import builders
 from ..policy.spelling import duration, spelt_in_rust
 from .limits import LimitTerms
 from .parameters import Parameters, Span
+from .populations import Clients
 
 if TYPE_CHECKING:
     from ..storm import Storm
@@ -36,6 +37,8 @@ def in_command(policy: Policy, parameters: Parameters) -> str:
             words += ["--limit", value.text]
         elif name == "tickets":
             words += ["--budget", str(value)]
+        elif name == "beside":
+            words += [word for each in value for word in ("--beside", _beside_word(each))]
         elif name == "rates":
             words += ["--rates", ",".join(f"{begins}..{ends}@{rate}" for begins, ends, rate in value)]
         elif isinstance(value, tuple):
@@ -45,13 +48,48 @@ def in_command(policy: Policy, parameters: Parameters) -> str:
     return f"{shlex.join([*words, repr(policy)])}\n"
 
 
+def _beside_word(clients: Clients) -> str:
+    """A population as the command line spells it."""
+    patience = "" if clients.patience is None else f"@{clients.patience}"
+    return f"{clients.share}{patience}{'+limited' if clients.is_limited else ''}={clients.policy!r}"
+
+
 def in_scenario(storms: Sequence[Storm]) -> str:
-    """Storms of the same parameters as the file of a scenario."""
-    parameters = storms[0].parameters._replace(tickets=None)
-    told = {name: _listed(value) for name, value in _changed(parameters).items()}
+    """Storms of the same parameters as the file of a scenario. Where the populations beside differ, each line has its
+    own."""
+    besides = {storm.parameters.beside for storm in storms}
+    parameters = storms[0].parameters._replace(tickets=None, beside=besides.pop() if len(besides) == 1 else ())
+    told = {name: _listed(value) for name, value in _changed(parameters).items() if name != "beside"}
     told.setdefault("outage", list(parameters.outage))
-    lines = [{"policy": storm.policy.to_dict(), "limit": _limit(storm.parameters.tickets)} for storm in storms]
+    if parameters.beside:
+        told["beside"] = beside_objects(parameters.beside)
+    lines = [
+        {
+            "policy": storm.policy.to_dict(),
+            "limit": _limit(storm.parameters.tickets),
+            **_only("beside", storm.parameters.beside != parameters.beside, beside_objects(storm.parameters.beside)),
+        }
+        for storm in storms
+    ]
     return json.dumps({"storm": told, "lines": lines}, indent=2) + "\n"
+
+
+def beside_objects(beside: Sequence[Clients]) -> List[Dict[str, Any]]:
+    """Populations as a scenario has them."""
+    return [
+        {
+            "share": each.share,
+            "policy": each.policy.to_dict(),
+            **_only("patience", each.patience is not None, each.patience),
+            "limited": each.is_limited,
+        }
+        for each in beside
+    ]
+
+
+def _only(name: str, is_told: bool, value: Any) -> Dict[str, Any]:
+    """A member that is there only where it says something."""
+    return {name: value} if is_told else {}
 
 
 def _listed(value: Any) -> Any:
@@ -74,15 +112,18 @@ def in_python(policy: Policy, parameters: Parameters) -> str:
     """A program that plays the storm and prints it."""
     spelt = repr(policy)
     known = {*builders.__all__, "milliseconds"}
-    names = {name for name in re.findall(r"(?<![\w.])([a-z_]+)\(", spelt) if name in known} | {"storm"}
-    arguments = ["policy", *(f"{name}={value}" for name, value in _python_arguments(parameters))]
+    all_spelt = " ".join([spelt, *(repr(each.policy) for each in parameters.beside)])
+    names = {name for name in re.findall(r"(?<![\w.])([a-z_]+)\(", all_spelt) if name in known} | {"storm"}
+    arguments = ["policy", *(f"{name}={value}" for name, value in _python_arguments(policy, parameters))]
     if isinstance(parameters.tickets, Terms):
         names.add("Quota")
+    if parameters.beside:
+        names.add("Population")
     imported = ", ".join(sorted(names, key=lambda name: (name[0].islower(), name)))
     return f"from hikebox import {imported}\n\npolicy = {spelt}\nprint(storm({', '.join(arguments)}))\n"
 
 
-def _python_arguments(parameters: Parameters) -> List[Tuple[str, str]]:
+def _python_arguments(policy: Policy, parameters: Parameters) -> List[Tuple[str, str]]:
     changed = _changed(parameters)
     found = [(name, str(changed[name])) for name in _COUNTS if name in changed]
     found += [(name, seconds_text(changed[name])) for name in _TIMES if changed.get(name) is not None]
@@ -101,26 +142,55 @@ def _python_arguments(parameters: Parameters) -> List[Tuple[str, str]]:
         tickets = parameters.tickets
         spelt = f"Quota({tickets})" if isinstance(tickets, Terms) else str(tickets)
         found.append(("budget", f'"{tickets.text}"' if isinstance(tickets, LimitTerms) else spelt))
+    if parameters.beside:
+        populations = [_python_population(policy, each) for each in parameters.beside]
+        found.append(("beside", f"[{', '.join(populations)}]"))
     return found
+
+
+def _python_population(policy: Policy, clients: Clients) -> str:
+    """A population, whose policy is the variable of the program where it is the same."""
+    words = [repr(clients.share / 100), "policy" if clients.policy == policy else repr(clients.policy)]
+    words += [] if clients.patience is None else [f"patience={seconds_text(clients.patience)}"]
+    words += ["limited=True"] if clients.is_limited else []
+    return f"Population({', '.join(words)})"
 
 
 def in_rust(policy: Policy, parameters: Parameters) -> str:
     """The same in Rust."""
     schedule = spelt_in_rust(policy.to_dict())
-    calls = [f".{call}" for call in _rust_calls(parameters)]
+    others, beside = _rust_beside(policy, parameters)
+    calls = [f".{call}" for call in [*_rust_calls(parameters), *beside]]
     played = "".join(f"\n        {call}" for call in [*calls, ".play()?;"])
-    used = [name for name in ("Fold", "Test") if f"{name}::" in schedule]
+    used = [name for name in ("Fold", "Test") if f"{name}::" in schedule + others]
     used += [name for name in ("Breaker", "Bucket", "InFlight", "Throttle") if f"limit({name} " in played]
+    used += ["Population"] * bool(beside)
     names = ", ".join(sorted(["Policy", "Schedule", "Storm", *used]))
-    timed = "use std::time::Duration;\n" if "Duration::" in schedule + played else ""
+    timed = "use std::time::Duration;\n" if "Duration::" in schedule + others + played else ""
     return (
         f"use hikebox::{{{names}}};\n{timed}\n"
         "fn main() -> Result<(), Box<dyn std::error::Error>> {\n"
         f"    let schedule = {schedule};\n"
         "    let policy = Policy::new(&schedule)?;\n"
+        f"{others}"
         f"    let report = Storm::new(&policy){played}\n"
         '    println!("{report}");\n    Ok(())\n}\n'
     )
+
+
+def _rust_beside(policy: Policy, parameters: Parameters) -> Tuple[str, List[str]]:
+    """The lines that make the policies of the populations beside, where these are others, and the calls that give a
+    storm the populations."""
+    names = {policy: "policy"}
+    lines, calls = "", []
+    for name, each in zip(("second", "third", "fourth"), parameters.beside):
+        if each.policy not in names:
+            names[each.policy] = name
+            lines += f"    let {name} = Policy::new(&{spelt_in_rust(each.policy.to_dict())})?;\n"
+        population = f"Population::new({each.share}, &{names[each.policy]})"
+        population += "" if each.patience is None else f".patience({duration(each.patience)})"
+        calls.append(f"beside({population}{'.limited(true)' if each.is_limited else ''})")
+    return lines, calls
 
 
 def _rust_calls(parameters: Parameters) -> List[str]:

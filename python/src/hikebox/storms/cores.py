@@ -22,12 +22,16 @@ def silent(done: int, all: int) -> None:
     """Tells nothing."""
 
 
-def play_all(wanted: Sequence[Tuple[Policy, Parameters]], told: Told = silent) -> List[Storm]:
-    """The storms, of which as many are played at once as there are processors. Equal ones are played once."""
+def play_all(
+    wanted: Sequence[Tuple[Policy, Parameters]], told: Told = silent, has_populations: bool = False
+) -> List[Storm]:
+    """The storms, of which as many are played at once as there are processors. Equal ones are played once. With
+    `has_populations` each has the reports on its populations already."""
     distinct = {(repr(policy), how): (policy, how) for policy, how in wanted}
     pool = ThreadPoolExecutor(max_workers=len(os.sched_getaffinity(0)))
     try:
-        futures = {key: pool.submit(play, *each) for key, each in distinct.items()}
+        play_one = _play_whole if has_populations else play
+        futures = {key: pool.submit(play_one, *each) for key, each in distinct.items()}
         waiting = set(futures.values())
         while waiting:
             done, waiting = wait(waiting, timeout=_TICK)
@@ -37,3 +41,9 @@ def play_all(wanted: Sequence[Tuple[Policy, Parameters]], told: Told = silent) -
     finally:
         pool.shutdown(wait=False, cancel_futures=True)
     return [futures[repr(policy), how].result() for policy, how in wanted]
+
+
+def _play_whole(policy: Policy, parameters: Parameters) -> Storm:
+    played = play(policy, parameters)
+    played.populations  # (which are played once they are asked for)
+    return played

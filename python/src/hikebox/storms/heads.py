@@ -6,13 +6,13 @@ from typing import TYPE_CHECKING, List, NamedTuple, Optional, Sequence, Tuple
 
 from .._svg import LINE, headed, width_of, wrapped
 from .parameters import Parameters, limit_text
-from .texts import brief_setting, share_text
+from .texts import beside_text, brief_setting, share_text
 
 if TYPE_CHECKING:
     from ..policy import Policy
     from ..storm import Storm
 
-__all__ = ["Heads", "heads_of", "names_of"]
+__all__ = ["Heads", "heads_of", "names_of", "shared_text"]
 
 #: The parameters that a title names where they differ, with their names there.
 _NAMED = (
@@ -26,11 +26,14 @@ class Heads(NamedTuple):
 
     #: The title of the picture, in words.
     title: str
-    #: The lines that all storms share: the policy, or a title; and the setting.
+    #: What all storms share: the policy, or a title; its lines, and those of the setting.
+    whole: str
     shared: List[str]
     setting: List[str]
     #: The lines above each storm, and the share that succeeded.
     panels: List[Tuple[List[str], str]]
+    #: What each storm is called, of which these are the lines.
+    names: Sequence[str]
     #: The lines that each panel has room for.
     lines: int
 
@@ -43,38 +46,58 @@ class Heads(NamedTuple):
 def heads_of(storms: Sequence[Storm], title: Optional[str], names: Sequence[str], wide: float, panel: float) -> Heads:
     """The texts above these storms, of which each panel is `panel` wide and all together `wide`."""
     first = storms[0].parameters
-    policies = {repr(storm.policy) for storm in storms}
-    shared = title if title is not None else _in_one(storms[0].policy) if len(policies) == 1 else None
-    is_equal = all(storm.parameters._replace(tickets=first.tickets) == first for storm in storms)
+    # (populations are named above their strips)
+    shared = title if title is not None else "" if first.beside else shared_text(storms)
+    is_equal = all(storm.parameters._replace(tickets=first.tickets, beside=first.beside) == first for storm in storms)
     under = "" if len({storm.parameters.tickets for storm in storms}) > 1 else f"; {limit_text(first.tickets)}"
     said = f"{brief_setting(first)}{under if len(storms) > 1 else ''}" if is_equal else ""
-    panels = [_panel(name, storm, panel) for name, storm in zip(names or names_of(storms), storms)]
+    called = names or names_of(storms)
+    panels = [_panel(name, storm, panel) for name, storm in zip(called, storms)]
     return Heads(
         title="Storm: " + (title or "; ".join(repr(storm.policy) for storm in storms)),
+        whole=shared,
         shared=headed(shared, wide) if shared else [],
         setting=wrapped(said, wide) if said else [],
         panels=panels,
+        names=called,
         lines=max(len(lines) for lines, _ in panels),
     )
 
 
+def shared_text(storms: Sequence[Storm], parameter: str = "") -> str:
+    """The policy that all storms share, if they do, and the populations beside it that all of them share. The
+    parameter is what is swept."""
+    said = [] if len({storm.policy for storm in storms}) > 1 else [_in_one(storms[0].policy)]
+    if storms[0].parameters.beside and len({storm.parameters.beside for storm in storms}) == 1:
+        # (what has no limit does not say which populations draw on one)
+        has_limit = [storm for storm in storms if storm.parameters.tickets is not None]
+        said.append(beside_text((has_limit or storms)[0].parameters, is_swept=parameter == "beside"))
+    return ", ".join(said)
+
+
 def _panel(name: str, storm: Storm, wide: float) -> Tuple[List[str], str]:
-    share = f"{share_text(storm.totals)} succeeded"
+    share = f"{share_text(storm.totals)} succeeded{' until cut' if storm.totals.cut else ''}"
     lines = headed(name, wide)
-    if width_of(lines[-1]) + 8.4 * len(share) + 12 > wide:
+    if width_of(lines[-1]) + 9.2 * len(share) + 12 > wide:
         lines.append("")
     return lines, share
 
 
-def names_of(storms: Sequence[Storm]) -> List[str]:
-    """What tells each of the storms from the others: its policy, its limit or its parameters, as these differ."""
+def names_of(storms: Sequence[Storm], parameter: str = "") -> List[str]:
+    """What tells each of the storms from the others: its policy, its limit or its parameters, as these differ. The
+    parameter is what is swept."""
     policies = [_in_one(storm.policy) for storm in storms]
-    limits = [limit_text(storm.parameters.tickets) for storm in storms]
+    limits = [limit_text(storm.parameters.tickets, parameter) for storm in storms]
     parts = [
         [policy] * (len(set(policies)) > 1) + [limit] * (len(set(limits)) > 1) + _differing(storm.parameters, storms)
         for policy, limit, storm in zip(policies, limits, storms)
     ]
-    return [", ".join(part) or limit for part, limit in zip(parts, limits)]
+    names = [", ".join(part) for part in parts]
+    plans = {tuple((each.policy, each.patience) for each in storm.parameters.beside) for storm in storms} - {()}
+    besides = [beside_text(storm.parameters, len(plans) == 1, parameter == "beside") for storm in storms]
+    if len(set(names)) < len({(name, storm.parameters.beside) for name, storm in zip(names, storms)}):
+        names = [f"{name}, {text}" if name else text for name, text in zip(names, besides)]
+    return [name or limit for name, limit in zip(names, limits)]
 
 
 def _in_one(policy: Policy) -> str:

@@ -7,7 +7,17 @@ from typing import Any, Dict, List, NamedTuple, Optional, Tuple
 from .._engine.calls import ON_BREAKER, ON_BUCKET, ON_IN_FLIGHT, ON_THROTTLE
 from ..errors import TermsError
 
-__all__ = ["KINDS", "LIMIT_WANTED", "LimitTerms", "breaker", "bucket", "in_flight", "limit_of", "throttle"]
+__all__ = [
+    "KINDS",
+    "LIMIT_FORMS",
+    "LIMIT_WANTED",
+    "LimitTerms",
+    "breaker",
+    "bucket",
+    "in_flight",
+    "limit_of",
+    "throttle",
+]
 
 #: The greatest capacity of a bucket, in thousandths, and the greatest number of 32 bits and of the engine.
 _MAX_CAPACITY, _MAX_COUNT, _MAX_NUMBER = 2**40, 2**32 - 1, 2**62 - 1
@@ -16,6 +26,16 @@ _OPEN = (30_000,)
 
 #: How many numbers each kind of limit is spelt with.
 KINDS: Dict[str, int] = {"aws": 0, "bucket": 6, "grpc": 2, "inflight": 2, "breaker": 3, "throttle": 2}
+
+#: How each of them is spelt.
+LIMIT_FORMS = (
+    "aws",
+    "grpc:TOKENS/RATIO",
+    "bucket:CAPACITY/FLOOR/COST/LATE/DEBIT/CREDIT[+refund]",
+    "inflight:LEAST/SHARE",
+    "breaker:FAILURES/PROBES/DEADLINE",
+    "throttle:RATIO/PERIOD",
+)
 
 LIMIT_WANTED = (
     "expected bucket:CAPACITY/FLOOR/COST/LATE/DEBIT/CREDIT (in thousandths of a token, with +refund or without), "

@@ -5,10 +5,12 @@ from __future__ import annotations
 from typing import Any, Dict, List, NamedTuple, Optional, Tuple, Union
 
 from .._engine.calls import ON_BUDGET, ON_QUOTA
-from .._engine.structs import Phase, Storm
+from .._engine.structs import Phase, Population, Storm
 from ..budgets.terms import Terms
-from ..errors import StormError
+from ..errors import StormError, shown
+from ..policy import Policy
 from .limits import LimitTerms
+from .populations import MAX_PATIENCE, Clients, look_at_shares
 
 __all__ = [
     "MAX_SEED",
@@ -20,6 +22,8 @@ __all__ = [
     "Slow",
     "Span",
     "limit_text",
+    "look_at_picture",
+    "plural",
     "tickets_text",
 ]
 
@@ -99,6 +103,8 @@ class Parameters(NamedTuple):
     tickets: Limited = None
     #: The spans with a rate of their own, in their order.
     rates: Tuple[RateSpan, ...] = ()
+    #: The populations of clients beside the first one.
+    beside: Tuple[Clients, ...] = ()
 
     @property
     def last(self) -> int:
@@ -135,11 +141,22 @@ class Parameters(NamedTuple):
         """Whether requests may be denied their first call."""
         return isinstance(self.tickets, LimitTerms) and self.tickets.denies_first_calls
 
+    def populations(self, policy: Policy) -> List[Clients]:
+        """All populations, the first one with this policy; none where there is only that one."""
+        if not self.beside:
+            return []
+        first = Clients(100 - sum(each.share for each in self.beside), policy, None, True)
+        return [each._replace(patience=self.patience_of(each)) for each in (first, *self.beside)]
+
+    def patience_of(self, clients: Clients) -> int:
+        """How long these clients wait."""
+        return self.patience if clients.patience is None else clients.patience
+
     def weather(self) -> List[Tuple[int, int, str, str]]:
         """The brown-out, the outage and the surges, where there are such: from when to when, in words, and their
         paint."""
-        away = "peer away" if self.away == self.replicas else f"{self.away} of {self.replicas} replicas away"
-        spans = [(self.outage.begins, self.outage.ends, away, "away")]
+        down = "peer down" if self.away == self.replicas else f"{self.away} of {self.replicas} replicas down"
+        spans = [(self.outage.begins, self.outage.ends, down, "away")]
         spans += [(begins, ends, f"{rate:,} requests/s", "shade") for begins, ends, rate in self.surges]
         if self.slow is not None:
             spans.insert(0, (self.slow.begins, self.slow.ends, f"peer at {self.slow.percent} %", "shade"))
@@ -153,6 +170,9 @@ class Parameters(NamedTuple):
                 _look_at(name, number, *RANGES[name])
         _look_at("down", self.away, 1, self.replicas)
         self._look_at_rates()
+        look_at_shares([each.share for each in self.beside])
+        for index, each in enumerate(self.beside):
+            _look_at(f"beside[{index}].patience", self.patience_of(each), 1, MAX_PATIENCE)
         for name, span in (("outage", self.outage), ("slow", self.slow or Span(0, 0))):
             for end in span[:2]:
                 _look_at(name, end, 0, _HOUR)
@@ -178,7 +198,7 @@ class Parameters(NamedTuple):
             if begins < last:
                 raise StormError("rates", f"expected spans in their order, got {begins}..{ends} after one until {last}")
             if not 0 <= rate <= RANGES["rate"][1]:
-                raise StormError("rates", f"expected 0 to {RANGES['rate'][1]} requests a second, got {rate}")
+                raise StormError("rates", f"expected 0 to {RANGES['rate'][1]} requests a second, got {shown(rate)}")
             last = ends
         if self.requests > MAX_REQUESTS:
             spans = " and the spans" if self.rates else ""
@@ -206,8 +226,8 @@ class Parameters(NamedTuple):
             last = ends
         return found
 
-    def for_engine(self) -> Storm:
-        """The same as the engine takes them."""
+    def for_engine(self, of: int = 0) -> Storm:
+        """The same as the engine takes them. `of` is the population that the report is on, from 1; 0 is all."""
         numbers: Dict[str, Any] = {name: getattr(self, name) for name in RANGES if name not in ("until", "down")}
         made = Storm(until=self.last, down=self.away, period=1, **numbers)
         made.outage_from, made.outage_to = self.outage
@@ -216,6 +236,9 @@ class Parameters(NamedTuple):
         phases = self.phases()
         made.phase_count = len(phases)
         made.phases[: len(phases)] = [Phase(*phase) for phase in phases]
+        for place, each in zip(("second", "third", "fourth"), self.beside):
+            setattr(made, place, Population(each.share, self.patience_of(each), each.is_limited))
+        made.of = of
         if isinstance(self.tickets, LimitTerms):
             self.tickets.put_in(made)
         elif isinstance(self.tickets, Terms):
@@ -234,6 +257,15 @@ SCENARIOS: Dict[str, Parameters] = {
 }
 
 
+def plural(count: int, noun: str) -> str:
+    """What so many are called.
+
+    >>> plural(1, "request"), plural(2, "request")
+    ('request', 'requests')
+    """
+    return noun if count == 1 else f"{noun}s"
+
+
 def tickets_text(tickets: Limited) -> str:
     """What the retries of a storm draw on, in words.
 
@@ -250,22 +282,34 @@ def tickets_text(tickets: Limited) -> str:
     return f"a budget of {tickets:,}"
 
 
-def limit_text(tickets: Limited) -> str:
-    """The same as a title has it.
+def limit_text(tickets: Limited, swept: str = "") -> str:
+    """The same as a title has it. The number that is swept is not said.
 
     >>> limit_text(None), limit_text(5000), limit_text(Terms(10, 100, 1000))
     ('no limit', 'budget of 5,000', 'quota 10/10%/1s')
+    >>> limit_text(5000, "budget"), limit_text(Terms(10, 100, 1000), "share")
+    ('a budget', 'quota 10/a share/1s')
     """
     if tickets is None:
         return "no limit"
     if isinstance(tickets, LimitTerms):
         return tickets.text
     if isinstance(tickets, Terms):
-        return f"quota {tickets.reserve}/{tickets.share / 10:.12g}%/{tickets.period / 1000:.12g}s"
-    return f"budget of {tickets:,}"
+        reserve = "a reserve" if swept == "reserve" else tickets.reserve
+        share = "a share" if swept == "share" else f"{tickets.share / 10:.12g}%"
+        return f"quota {reserve}/{share}/{tickets.period / 1000:.12g}s"
+    return "a budget" if swept == "budget" else f"budget of {tickets:,}"
+
+
+def look_at_picture(width: object, title: object) -> None:
+    """Raises a `TypeError` where a picture can't have this width or title."""
+    if isinstance(width, bool) or not isinstance(width, int):
+        raise TypeError(f"width: expected a whole number, got {width!r}")
+    if title is not None and not isinstance(title, str):
+        raise TypeError(f"title: expected a text, got {shown(title)}")
 
 
 def _look_at(name: str, number: int, least: int, most: int) -> None:
     if not least <= number <= most:
-        unit = " ms" if name in _TIMES else ""
-        raise StormError(name, f"expected {least} to {most}{unit}, got {number}")
+        unit = " ms" if name in _TIMES or name.endswith(".patience") else ""
+        raise StormError(name, f"expected {least} to {most}{unit}, got {shown(number)}")

@@ -17,7 +17,7 @@ _BEGUN = (("requests", "#0072b2", ""), ("retries", "#e69f00", "//"))
 
 
 def plot(storm: Storm, ax: Any = None) -> Any:
-    """The calls begun as areas, those that succeed as a line, and when the peer was away or slow. A figure of its own
+    """The calls begun as areas, those that succeed as a line, and when the peer was down or slow. A figure of its own
     has a legend below it."""
     if ax is None:
         import matplotlib.pyplot as pyplot
@@ -60,7 +60,7 @@ def _steps(rates: List[float]) -> List[float]:
 
 def _draw_peer(storm: Storm, ax: Any, edges: List[float]) -> None:
     parameters = storm.parameters
-    spans = [(parameters.outage, "0.8", "the peer is away")]
+    spans = [(parameters.outage, "0.8", "the peer is down")]
     turns = [0.0, edges[-1]]
     if parameters.slow is not None:
         spans.append((Span(*parameters.slow[:2]), "0.92", f"it works at {parameters.slow.percent} %"))

@@ -5,12 +5,13 @@ from __future__ import annotations
 import math
 from typing import TYPE_CHECKING, Dict, List, NamedTuple, Optional, Sequence, Tuple
 
-from .._svg import MIN_WIDTH, LINE, LINES, MAX_WIDTH, Picture, headed, plain_width_of, ticks, width_of
-from ..errors import StormError
+from .._svg import MIN_WIDTH, LINE, LINES, MAX_WIDTH, Picture, headed, number_text, plain_width_of, ticks, width_of
+from ..errors import StormError, shown
 from .axes import AXES, MEASURES, NEVER
-from .heads import heads_of
+from .heads import shared_text
 
 if TYPE_CHECKING:
+    from ..storm import Storm
     from ..sweeps import Sweep
 
 __all__ = ["sweep_picture"]
@@ -57,20 +58,21 @@ def sweep_picture(
 ) -> str:
     """The measures of a sweep side by side where they have room, as SVG so many units wide."""
     if not MIN_WIDTH <= width <= MAX_WIDTH:
-        raise StormError("width", f"expected {MIN_WIDTH} to {MAX_WIDTH}, got {width}")
+        raise StormError("width", f"expected {MIN_WIDTH} to {MAX_WIDTH}, got {shown(width)}")
     if len(swept.lines) > LINES:
         raise StormError("sweep", f"expected at most {LINES} lines in a picture, got {len(swept.lines)}")
     columns = min(len(measures), max(1, (width - 2 * _MARGIN + _GAP) // (_MIN_PANEL + _GAP)))
     wide = (width - 2 * _MARGIN + _GAP) / columns - _GAP
-    shared = _shared(swept, title, width - 2 * _MARGIN)
-    legend, rows = _legend(swept.names, width)
+    whole = shared_text([line[0] for line in swept.lines], swept.parameter) if title is None else title
+    shared = headed(whole, width - 2 * _MARGIN) if whole else []
+    legend, rows = _legend(swept, width)
     top = 10 + LINE * (len(shared) + rows)
     numbers = {measure: swept.numbers(measure) for measure in measures}
     never = any(NEVER in line for lines in numbers.values() for line in lines)
     tall = _SAID + _NEVER * never + _TALL + _BELOW
     height = top + tall * -(-len(measures) // columns) + _FOOT
     picture = Picture(width, height, f"Storms along {AXES[swept.parameter].title}", _told(swept, numbers))
-    picture.texts(_MARGIN, 20, shared, "head")
+    picture.texts(_MARGIN, 20, shared, "head", whole)
     _draw_legend(picture, 20 + LINE * len(shared), legend)
     for index, measure in enumerate(measures):
         left = _MARGIN + (wide + _GAP) * (index % columns)
@@ -80,26 +82,20 @@ def sweep_picture(
     return picture.svg(styled)
 
 
-def _shared(swept: Sweep, title: Optional[str], wide: float) -> List[str]:
-    """The title, or the policy that all lines share."""
-    heads = heads_of([line[0] for line in swept.lines], title, swept.names, wide, wide)
-    return heads.shared
-
-
 def _told(swept: Sweep, numbers: Dict[str, Numbers]) -> str:
     """The picture in words."""
     shown = ", ".join(AXES[swept.parameter].shown(value) for value in swept.values)
     said = [f"Along {AXES[swept.parameter].title} of {shown}."]
     for measure, lines in numbers.items():
         said.append(f"{MEASURES[measure].title.capitalize()}:")
-        said += [f"{name}: {', '.join(map(_spelt, line))}." for name, line in zip(swept.names, lines)]
+        for name, line, storms in zip(swept.names, lines, swept.lines):
+            said.append(f"{name}: {', '.join(map(_spelt, line, storms))}.")
     return " ".join(said)
 
 
-def _spelt(number: Optional[float]) -> str:
-    if number is None:
-        return "none"
-    return "never" if number == NEVER else f"{number:.4g}"
+def _spelt(number: Optional[float], storm: Storm) -> str:
+    spelt = "none" if number is None else "never" if number == NEVER else f"{number:.4g}"
+    return f"{spelt} (cut)" if storm.totals.cut else spelt
 
 
 class _Panel:
@@ -122,7 +118,7 @@ class _Panel:
         for mark in scales.numbers:
             kind = "line" if mark else "axis"
             picture.path(f"M{scales.left:.1f} {scales.y(mark):.1f}H{scales.left + scales.wide:.1f}", kind)
-            picture.text(scales.left - 6, scales.y(mark) + 4, f"{mark:,.4g}", "soft", "end")
+            picture.text(scales.left - 6, scales.y(mark) + 4, number_text(mark), "soft", "end")
         if any(NEVER in line for line in self.numbers):
             picture.text(scales.left - 6, scales.y(NEVER) + 4, "never", "soft", "end")
         # (the first line is drawn last, above the others)
@@ -135,24 +131,32 @@ class _Panel:
         is_log = first > 0 and last / first >= _RATIO
         known = [number for line in self.numbers for number in line if number is not None and number != NEVER]
         numbers = ticks(self.measure.most or max([*known, 1.0]), 4)
-        margin = max(44.0, 12 + width_of(f"{numbers[-1]:,.4g}"))
+        margin = max(44.0, 12 + width_of(number_text(numbers[-1])))
         plot = wide - margin - 16
-        room = max(2, int(plot // (14 + width_of(f"{last:,.4g}"))))
+        room = max(2, int(plot // (14 + width_of(number_text(last)))))
         marks = _by_ratios(first, last, room) if is_log else [m for m in ticks(last, room) if first <= m <= last]
-        named = [(mark, f"{mark:,.6g}") for mark in marks]
+        # (whole numbers have none between)
+        named = [(mark, f"{mark:,.12g}") for mark in marks if axis.unit > 1 or mark == int(mark)]
         return _Scales(left + margin, plot, bottom - _TALL, bottom, named, numbers, first, last, is_log)
 
     def _draw_line(self, scales: _Scales, index: int) -> None:
         unit = AXES[self.swept.parameter].unit
         points = [
-            (scales.x(value / unit), scales.y(number), number == NEVER)
-            for value, number in zip(self.swept.values, self.numbers[index])
+            (scales.x(value / unit), scales.y(number), storm.totals.cut)
+            for value, number, storm in zip(self.swept.values, self.numbers[index], self.swept.lines[index])
             if number is not None
         ]
         drawn = "".join(f"{'L' if at else 'M'}{x:.1f} {y:.1f}" for at, (x, y, _) in enumerate(points))
         self.picture.path(drawn, f"line{index}")
-        for x, y, _ in points:
-            self.picture.dot(x, y, f"dot{index}", 3)
+        for x, y, is_cut in points:
+            _draw_dot(self.picture, x, y, f"dot{index}", is_cut)
+
+
+def _draw_dot(picture: Picture, x: float, y: float, kind: str, is_cut: bool) -> None:
+    """The mark of a storm: a hollow one if it was cut."""
+    picture.dot(x, y, kind, 5 if is_cut else 3)
+    if is_cut:
+        picture.dot(x, y, "ground", 3)
 
 
 def _by_ratios(first: float, last: float, room: int) -> List[float]:
@@ -170,32 +174,37 @@ def _by_ratios(first: float, last: float, room: int) -> List[float]:
 
 
 class _Entry(NamedTuple):
-    """The name of a line of the chart, in lines of text."""
+    """The name of a line of the chart, in lines of text; or what a hollow mark is."""
 
     x: float
     row: int
-    line: int
-    name: List[str]
+    line: Optional[int]
+    name: str
+    said: List[str]
 
 
-def _legend(names: Sequence[str], width: int) -> Tuple[List[_Entry], int]:
+def _legend(swept: Sweep, width: int) -> Tuple[List[_Entry], int]:
     """Where the name of each line stands, and how many lines of text there are."""
     entries: List[_Entry] = []
     x, row, rows = float(_MARGIN), 0, 0
-    for index, name in enumerate(names):
+    named: List[Tuple[Optional[int], str]] = list(enumerate(swept.names))
+    if any(storm.totals.cut for line in swept.lines for storm in line):
+        named.append((None, "the storm was cut"))
+    for index, name in named:
         said = headed(name, width - 2 * _MARGIN - 44)
         wide = 44 + max(map(plain_width_of, said)) + 16
         if x > _MARGIN and x + wide - 16 > width - _MARGIN:
             x, row = float(_MARGIN), rows
-        entries.append(_Entry(x, row, index, said))
+        entries.append(_Entry(x, row, index, name, said))
         x += wide
         rows = max(rows, row + len(said))
     return entries, rows
 
 
 def _draw_legend(picture: Picture, y: float, entries: List[_Entry]) -> None:
-    for x, row, index, name in entries:
+    for x, row, index, name, said in entries:
         at = y + LINE * row
-        picture.path(f"M{x:.1f} {at - 4:.1f}h36", f"line{index}")
-        picture.dot(x + 18, at - 4, f"dot{index}", 3)
-        picture.texts(x + 42, at, name, "soft")
+        if index is not None:
+            picture.path(f"M{x:.1f} {at - 4:.1f}h36", f"line{index}")
+        _draw_dot(picture, x + 18, at - 4, "dot" if index is None else f"dot{index}", index is None)
+        picture.texts(x + 42, at, said, "soft", name)

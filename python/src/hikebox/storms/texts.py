@@ -4,12 +4,28 @@ from __future__ import annotations
 
 from typing import TYPE_CHECKING, List, Optional, Sequence, Tuple
 
-from .parameters import Parameters, RateSpan
+from .limits import LimitTerms
+from .parameters import Parameters, RateSpan, plural
+from .populations import Clients
 
 if TYPE_CHECKING:
-    from ..storm import Storm, StormTotals
+    from ..storm import PopulationReport, Storm, StormTotals
 
-__all__ = ["beside", "brief_setting", "columns", "recovery_mark", "sentences", "setting", "share_text", "table"]
+__all__ = [
+    "beside_text",
+    "brief_setting",
+    "columns",
+    "is_judged",
+    "population_names",
+    "population_sentences",
+    "populations_table",
+    "recovery_mark",
+    "sentences",
+    "setting",
+    "share_text",
+    "side_by_side",
+    "table",
+]
 
 #: What the totals are called that stand side by side, where that is not their name.
 _LABELS = {
@@ -41,34 +57,104 @@ def share_text(totals: StormTotals) -> str:
     return f"{max(0.1, totals.won * 1000 // totals.requests / 10):.1f} %"
 
 
-def recovery_mark(storm: Storm) -> Tuple[Optional[int], str]:
-    """When the storm recovered, if it did, and that in words: none where there was nothing to recover from."""
+def is_judged(storm: Storm) -> bool:
+    """Whether it is known if the storm recovered: a window begins when the peer is well again, or there was no harm."""
+    return storm.totals.recovered_ms is not None or storm.rows[-1].from_ms >= storm.parameters.over
+
+
+def recovery_mark(storm: Storm, totals: Optional[StormTotals] = None) -> Tuple[Optional[int], str]:
+    """When the storm recovered, if it did, and that in words: none where there was nothing to recover from. The totals
+    may be those of a population of it."""
     if not storm.parameters.weather():
         return None, ""
-    recovered = storm.totals.recovered_ms
+    recovered = (totals or storm.totals).recovered_ms
     if recovered is None:
-        return None, "not back by the end"
+        return None, "not back by the end" if is_judged(storm) else "no window afterwards"
     if recovered == 0:  # (a surge that does no harm)
         return None, "never down"
     return recovered, f"back at {_time(recovered)}"
 
 
+def _recovery(storm: Storm) -> str:
+    """When the storm recovered, if that can be known, in a sentence."""
+    if storm.parameters.weather() and not is_judged(storm):
+        return f"no window begins at {_time(storm.parameters.over)} or later, so a recovery would not show"
+    return recovery_mark(storm)[1]
+
+
 def sentences(storm: Storm) -> List[str]:
     """What a storm comes to, line by line."""
-    totals = storm.totals
-    ended = f"{totals.won:,} won, {totals.lost:,} lost, {totals.denied:,} denied a retry, {totals.open:,} left open"
+    totals, parameters = storm.totals, storm.parameters
+    # (a limit of another system may deny first calls, too)
+    denied = "denied" if isinstance(parameters.tickets, LimitTerms) else "denied a retry"
+    most = "the most requests and retries" if parameters.denies_first_calls else "the most"
+    ended = f"{totals.won:,} won, {totals.lost:,} lost, {totals.denied:,} {denied}, {totals.open:,} left open"
     lines = [
-        f"{totals.requests:,} requests: {ended}",
-        f"{totals.calls:,} calls, {totals.calls_per_request:.2f} for each request; the most in a window "
-        f"{totals.most_calls:,}, from {_time(totals.most_from_ms)} on",
+        f"{totals.requests:,} {plural(totals.requests, 'request')}: {ended}",
+        f"{totals.calls:,} {plural(totals.calls, 'call')}, {totals.calls_per_request:.2f} for each request; "
+        f"{most} in a window {totals.most_calls:,}, from {_time(totals.most_from_ms)} on",
         _took(totals),
     ]
-    lines += [f"{said[0].upper()}{said[1:]}" for said in [recovery_mark(storm)[1]] if said]
+    lines += [f"{said[0].upper()}{said[1:]}" for said in [_recovery(storm)] if said]
     if storm.parameters.tickets is not None:
-        lines.insert(2, f"{totals.tickets:,} tickets given for retries")
+        lines.insert(2, f"{totals.tickets:,} {plural(totals.tickets, 'ticket')} given for retries")
     if totals.cut:
         lines.append(f"Cut before the call after {storm.parameters.calls:,}")
     return lines
+
+
+def population_heads(storm: Storm) -> List[str]:
+    """Whose each population of a storm is: the storm's own, or one beside, with its number if there are several."""
+    count = len(storm.parameters.beside)
+    beside = ["beside"] if count == 1 else [f"beside {number}" for number in range(1, count + 1)]
+    return ["own", *beside] if count else []
+
+
+def population_names(storm: Storm) -> List[str]:
+    """What each population of a storm is called: whose it is, its share, what limits it, and its policy."""
+    heads = population_heads(storm)
+    return [f"{head}, {_population_text(storm, each)}" for head, each in zip(heads, storm.populations)]
+
+
+def _population_text(storm: Storm, report: PopulationReport) -> str:
+    said = [f"{round(100 * report.share)} %"]
+    if report.patience_ms != storm.parameters.patience:
+        said.append(f"patience {_time(report.patience_ms)}")
+    if storm.parameters.tickets is not None:
+        said.append("limited" if report.limited else "not limited")
+    return f"{', '.join(said)}: {report.policy!r}"
+
+
+def population_sentences(storm: Storm) -> List[str]:
+    """What became of each population of a storm, in a line each."""
+    return [
+        f"{name}: {each.totals.won:,} of {each.totals.requests:,} won "
+        f"({share_text(each.totals)}), {each.totals.calls_per_request:.2f} calls for each"
+        + "".join(f", {said}" for said in [recovery_mark(storm, each.totals)[1]] if said)
+        for name, each in zip(population_names(storm), storm.populations)
+    ]
+
+
+def beside_text(parameters: Parameters, is_brief: bool = False, is_swept: bool = False) -> str:
+    """The populations beside the first one, in brief without their policies. If the share of the first of them is
+    swept, it is not said.
+
+    >>> beside_text(Parameters())
+    'none beside'
+    """
+    shares = [f"{each.share} %" for each in parameters.beside]
+    shares[:1] = ["a share"] if is_swept and shares else shares[:1]
+    told = [_clients_text(parameters, each, share, is_brief) for each, share in zip(parameters.beside, shares)]
+    return f"beside {' and '.join(told)}" if told else "none beside"
+
+
+def _clients_text(parameters: Parameters, clients: Clients, share: str, is_brief: bool) -> str:
+    limited = "" if parameters.tickets is None else ", limited" if clients.is_limited else ", not limited"
+    if is_brief:
+        return f"{share}{limited}"
+    under = f"{limited}, under" if limited else " under"
+    said = f"{share} of the requests{under} {clients.policy!r}"
+    return said if clients.patience is None else f"{said} with patience {_time(clients.patience)}"
 
 
 def _took(totals: StormTotals) -> str:
@@ -80,20 +166,22 @@ def _took(totals: StormTotals) -> str:
 
 def setting(parameters: Parameters) -> str:
     """What a storm is played with, in a sentence."""
-    come = f"{parameters.rate:,} requests a second for {parameters.seconds:,} s"
+    come = f"{parameters.rate:,} {plural(parameters.rate, 'request')} a second for {parameters.seconds:,} s"
     come += "".join(f", {_rate_span(span)}" for span in parameters.rates)
     if parameters.together > 1:
         come += f", {parameters.together:,} at a time"
-    peer = f"a peer that does {parameters.capacity:,} calls a second"
+    does = f"{parameters.capacity:,} {plural(parameters.capacity, 'call')} a second"
+    peer = f"a peer that does {does}"
     if parameters.replicas > 1:
-        peer = f"a peer of {parameters.replicas} replicas that each do {parameters.capacity:,} calls a second"
+        peer = f"a peer of {parameters.replicas} replicas that each do {does}"
     outage, slow = parameters.outage, parameters.slow
     if outage.begins < outage.ends:
-        which = f", {parameters.away} of them away" if parameters.away < parameters.replicas else ", is away"
+        which = f", {parameters.away} of them down" if parameters.away < parameters.replicas else ", is down"
         peer += f"{which} from {_time(outage.begins)} to {_time(outage.ends)}"
     if slow is not None and slow.begins < slow.ends:
         peer += f", works at {slow.percent} % from {_time(slow.begins)} to {_time(slow.ends)}"
-    return f"{come} on {peer}; each call is given up after {_time(parameters.patience)}"
+    said = f"{come} on {peer}; each call is given up after {_time(parameters.patience)}"
+    return f"{said}; {beside_text(parameters)}" if parameters.beside else said
 
 
 def _rate_span(span: RateSpan) -> str:
@@ -105,9 +193,10 @@ def brief_setting(parameters: Parameters) -> str:
     surges = parameters.surges
     times = "".join(f"{_rate_span(span)}, " for span in parameters.rates if span not in surges)
     times += f"{parameters.together:,} at a time, " if parameters.together > 1 else ""
-    come = f"{parameters.rate:,} requests/s for {parameters.seconds:,} s, {times}"
+    come = f"{parameters.rate:,} {plural(parameters.rate, 'request')}/s for {parameters.seconds:,} s, {times}"
     each = f"{parameters.replicas} replicas, each of " if parameters.replicas > 1 else ""
-    peer = f"{each}capacity {parameters.capacity:,} calls/s, queue {parameters.queue:,}"
+    does = f"{parameters.capacity:,} {plural(parameters.capacity, 'call')}/s"
+    peer = f"{each}capacity {does}, queue {parameters.queue:,}"
     return f"{come}{peer}, patience {_time(parameters.patience)}"
 
 
@@ -118,21 +207,44 @@ def table(storm: Storm) -> str:
     if len(lines) > _MAX_ROWS + 1:
         half = _MAX_ROWS // 2
         lines = [*lines[: half + 1], ("..",) * len(names), *lines[-half:]]
-    return "".join(f"{line}\n" for line in [*columns(lines), "", *sentences(storm)]).rstrip("\n")
+    told = [*columns(lines), "", *sentences(storm)]
+    if storm.populations:
+        told += ["", populations_table(storm)]
+    return "".join(f"{line}\n" for line in told).rstrip("\n")
 
 
-def beside(storms: List[Storm], names: List[str]) -> str:
-    """The totals of several storms side by side, each under its name's number."""
-    heads = [f"{number}: {name}" for number, name in enumerate(names, start=1)]
-    lines = [("", *(str(number) for number in range(1, len(storms) + 1)))]
-    for field in storms[0].totals.__dataclass_fields__:
-        lines.append((_LABELS.get(field, field), *(_value(field, storm) for storm in storms)))
-    return "\n".join([*heads, "", *columns(lines)])
+def side_by_side(storms: Sequence[Storm], names: Sequence[str]) -> str:
+    """The totals of several storms side by side, each under its name's number. Those of the populations of each
+    follow."""
+    numbers = [str(number) for number in range(1, len(storms) + 1)]
+    told = _totals_table(numbers, names, [(storm, storm.totals) for storm in storms])
+    tables = [
+        f"{number}: {name}\n{populations_table(storm)}"
+        for number, name, storm in zip(numbers, names, storms)
+        if storm.populations
+    ]
+    return "\n\n".join([told, *tables])
 
 
-def _value(field: str, storm: Storm) -> str:
-    value = getattr(storm.totals, field)
-    if field == "recovered_ms" and not storm.parameters.weather():
+def populations_table(storm: Storm) -> str:
+    """The totals of all requests of a storm and those of each of its populations, side by side."""
+    populations = storm.populations
+    heads = ["all", *population_heads(storm)]
+    names = ["all requests", *(_population_text(storm, each) for each in populations)]
+    return _totals_table(heads, names, [(storm, storm.totals), *((storm, each.totals) for each in populations)])
+
+
+def _totals_table(heads: Sequence[str], names: Sequence[str], told: Sequence[Tuple[Storm, StormTotals]]) -> str:
+    """Totals side by side, each under the head that its name has."""
+    lines = [("", *heads)]
+    for field in told[0][1].__dataclass_fields__:
+        lines.append((_LABELS.get(field, field), *(_value(field, storm, totals) for storm, totals in told)))
+    return "\n".join([*(f"{head}: {name}" for head, name in zip(heads, names)), "", *columns(lines)])
+
+
+def _value(field: str, storm: Storm, totals: StormTotals) -> str:
+    value = getattr(totals, field)
+    if field == "recovered_ms" and not (storm.parameters.weather() and is_judged(storm)):
         return "-"
     if field == "hundredths":
         return f"{value / 100:.2f}"
