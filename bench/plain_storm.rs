@@ -1,5 +1,5 @@
 // A storm as a Rust programmer would write it, for the benchmark: requests under eight retries with an exponential back-off
-// and full jitter, on a peer that is away for a while, with the numbers of `zsched storm`'s defaults but those of the words:
+// and full jitter, on a peer that is down for a while, with the numbers of `zsched storm`'s defaults but those of the words:
 //     plain_storm RATE SECONDS CAPACITY
 // prints the requests, how many were won, and the calls.
 use std::cmp::Reverse;

@@ -63,9 +63,11 @@ def header_page(text, version):
 STATUSES = """\
 0  what was asked for is done
 2  a bad command line; a second line on standard error says why
-3  a text that is no plan or no jobs, or too long; a second line says where, and what is wanted there
-4  what can't be read or written; a second line says which stream, and why. Nothing is said where nobody reads the
-output 5  no memory
+3  a text that is no plan or no jobs; a second line (of check: one on standard output) says where, and what is
+   wanted there. Or a text of more than 1048576 bytes
+4  what can't be read or written; a second line says which stream, and why. Nothing is said where nobody reads
+   the output
+5  no memory
 6  of pool: a job was not over, cancelled or broken; of storm: it was cut
 7  of pool: a worker was not started
 8  of pool: jobs were mixed up

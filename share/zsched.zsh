@@ -6,15 +6,19 @@ if [[ $word == --*=* ]]; then
   before=${word%%=*}
   compset -P '*='
 fi
-if ((CURRENT > 2)) && [[ $before == -* ]]; then
+if ((CURRENT > 2)) && [[ ${before//[a-z]/} == -- ]]; then
   takes=$($words[1] $words[2] --help 2>/dev/null | sed -n "s/^ *$before <\([^>]*\)>.*/\1/p")
 fi
-if ((CURRENT == 2)); then
-  words_of_help=(${(f)"$($words[1] --help 2>/dev/null | sed -n '/^Commands:/,/^$/{s/^  \([a-z]*\) .*/\1/p}')"} --help --version)
+if ((CURRENT == 2)) || [[ "$CURRENT $words[2]" == '3 help' ]]; then
+  words_of_help=(${(f)"$($words[1] --help 2>/dev/null | sed -n '/^Commands:/,/^$/{s/^  \([a-z]*\) .*/\1/p}')"})
+  ((CURRENT == 3)) || words_of_help+=(--help --version)
   compadd -a words_of_help
 elif [[ $takes == NAME ]]; then
   words_of_help=(outage herd brown-out)
   compadd -a words_of_help
+elif [[ $takes == *=FILE && ${word#--*=} == *=* ]]; then
+  compset -P '*='
+  _files
 elif [[ -n $takes && $takes != FILE ]]; then
   _message $takes
 elif [[ -z $takes && $word == -* ]]; then

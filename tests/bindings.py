@@ -30,6 +30,7 @@ STRUCTS = {
     "breaker": "BreakerTerms",
     "usage": "Used",
     "phase": "Phase",
+    "population": "Population",
     "storm": "Storm",
     "window": "Window",
     "totals": "Totals",

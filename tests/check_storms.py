@@ -1,6 +1,6 @@
 #!/usr/bin/env python3
 """Looks at `zsched storm`: storms that were worked out by hand, the numbers of docs/STORMS.md, and 500 random storms,
-each byte for byte as tests/storms.py plays it by the rules alone.
+each byte for byte as tests/storms.py plays it by the rules alone. A half of them have several populations.
 
     tests/check_storms.py [COUNT [SEED]]
 
@@ -13,277 +13,20 @@ from __future__ import annotations
 import json
 import os
 import random
+import re
 import subprocess
 import sys
 import tempfile
 from multiprocessing import Pool
 from pathlib import Path
-from typing import Any, Dict, List, NamedTuple, Optional, Tuple
+from typing import Any, Dict, List, Optional, Tuple
 
 import storms
+from worked_storms import BESIDE, NONE, WORKED
 
 TOP = Path(__file__).resolve().parent.parent
 ZSCHED = os.environ.get("HIKEBOX_ZSCHED", str(TOP / "dist" / "zsched"))
 SLOWLY = [sys.executable, str(TOP / "tests" / "storms.py")]
-NONE = "0..0"
-
-
-class Case(NamedTuple):
-    name: str
-    plan: Any
-    options: Dict[str, Any]
-    #: What the program prints with --json: its windows, and of its totals those that are named.
-    windows: List[List[int]]
-    totals: Dict[str, Any]
-
-
-# The peer does a call a millisecond where nothing else is said.
-WORKED = [
-    Case(
-        "one request",
-        {"recurs": 3},
-        {"rate": 1, "seconds": 1, "outage": NONE},
-        [[0, 1, 1, 0, 1, 0, 0, 0, 0]],
-        {"requests": 1, "won": 1, "lost": 0, "denied": 0, "open": 0, "calls": 1, "hundredths": 100, "most_calls": 1}
-        | {"most_from": 0, "tickets": 0, "p50": 1, "p99": 1, "slowest": 1, "recovered": 0, "cut": False},
-    ),
-    Case(
-        "two at one moment: the second waits for the first",
-        {"recurs": 3},
-        {"rate": 2, "together": 2, "seconds": 1, "outage": NONE},
-        [[0, 2, 2, 0, 2, 0, 0, 0, 0]],
-        {"calls": 2, "p50": 1, "p99": 2, "slowest": 2, "recovered": 0},
-    ),
-    Case(
-        "a queue of one: the call in service counts, and a retry at once finds it there still",
-        {"recurs": 1},
-        {"rate": 3, "together": 3, "seconds": 1, "queue": 1, "outage": NONE},
-        [[0, 3, 1, 2, 1, 0, 4, 0, 0]],
-        {"won": 1, "lost": 2, "calls": 5, "hundredths": 167, "p50": 1, "p99": 1, "recovered": None},
-    ),
-    Case(
-        "a queue of none: taken where nothing is ahead",
-        {"recurs": 0},
-        {"rate": 2, "together": 2, "seconds": 1, "queue": 0, "outage": NONE},
-        [[0, 2, 1, 0, 1, 0, 1, 0, 0]],
-        {"won": 1, "lost": 1},
-    ),
-    Case(
-        "a call that ends the very millisecond its client gives up succeeds, a millisecond later it is late",
-        {"recurs": 0},
-        {"rate": 3, "together": 3, "seconds": 1, "patience": 2, "outage": NONE},
-        [[0, 3, 2, 0, 2, 0, 0, 1, 0]],
-        {"won": 2, "lost": 1, "p50": 1, "p99": 2, "slowest": 2, "recovered": None},
-    ),
-    Case(
-        "what its client gave up is done all the same: the retry waits behind it, and is late too",
-        {"recurs": 1},
-        {"rate": 1, "seconds": 1, "capacity": 10, "patience": 60, "window": 60, "outage": NONE},
-        # Taken at 0 and at 60, each is 100 ms of work, done by 100 and by 200; at the windows' ends less than a call
-        # is left.
-        [[0, 1, 0, 0, 0, 0, 0, 0, 0], [60, 0, 0, 1, 0, 0, 0, 1, 0], [120, 0, 0, 0, 0, 0, 0, 1, 0]],
-        {"lost": 1, "calls": 2, "hundredths": 200, "most_calls": 1, "most_from": 0, "p50": None, "recovered": None},
-    ),
-    Case(
-        "calls go to two replicas in turn: of five the first does three",
-        {"recurs": 0},
-        {"rate": 5, "together": 5, "seconds": 1, "replicas": 2, "outage": NONE},
-        [[0, 5, 5, 0, 5, 0, 0, 0, 0]],
-        {"p50": 2, "p99": 3, "slowest": 3},
-    ),
-    Case(
-        "each replica has its queue",
-        {"recurs": 0},
-        {"rate": 5, "together": 5, "seconds": 1, "queue": 1, "replicas": 2, "outage": NONE},
-        [[0, 5, 2, 0, 2, 0, 3, 0, 0]],
-        {"slowest": 1},
-    ),
-    Case(
-        "what stands at each of two replicas is rounded down: one and a half call and half a one are one",
-        {"recurs": 0},
-        {"rate": 3, "together": 3, "seconds": 1, "capacity": 10, "window": 50, "replicas": 2, "outage": NONE},
-        [
-            [0, 3, 3, 0, 0, 0, 0, 0, 1],
-            [50, 0, 0, 0, 0, 0, 0, 0, 1],
-            [100, 0, 0, 0, 2, 0, 0, 0, 0],
-            [150, 0, 0, 0, 0, 0, 0, 0, 0],
-            [200, 0, 0, 0, 1, 0, 0, 0, 0],
-        ],
-        {"p50": 100, "p99": 200},
-    ),
-    Case(
-        "one of two replicas is down: every second call is refused",
-        {"recurs": 0},
-        {"rate": 4, "seconds": 1, "replicas": 2, "outage": "0..1000", "down": 1},
-        [[0, 4, 2, 0, 2, 2, 0, 0, 0]],
-        {"won": 2, "lost": 2},
-    ),
-    Case(
-        "two of three are down: the second retry comes to the third",
-        {"recurs": 2},
-        {"rate": 3, "together": 3, "seconds": 1, "replicas": 3, "outage": "0..1000", "down": 2},
-        [[0, 3, 3, 6, 3, 6, 0, 0, 0]],
-        {"won": 3, "calls": 9, "p50": 2, "p99": 3},
-    ),
-    Case(
-        "where nothing is said all replicas are down",
-        {"recurs": 0},
-        {"rate": 4, "seconds": 1, "replicas": 2, "outage": "0..1000"},
-        [[0, 4, 0, 0, 0, 4, 0, 0, 0]],
-        {"lost": 4},
-    ),
-    Case(
-        "an outage of no length refuses nothing, and has its end",
-        {"recurs": 0},
-        {"rate": 2, "seconds": 1, "window": 500, "outage": "500..500"},
-        [[0, 1, 1, 0, 1, 0, 0, 0, 0], [500, 1, 1, 0, 1, 0, 0, 0, 0]],
-        {"recovered": 500},
-    ),
-    Case(
-        "an outage of a millisecond refuses what comes in it",
-        {"meet": [{"recurs": 1}, {"spaced": 1}]},
-        {"rate": 2, "seconds": 1, "window": 500, "outage": "500..501"},
-        [[0, 1, 1, 0, 1, 0, 0, 0, 0], [500, 1, 1, 1, 1, 1, 0, 0, 0]],
-        {
-            "won": 2,
-            "calls": 3,
-            "hundredths": 150,
-            "most_calls": 2,
-            "most_from": 500,
-            "p50": 1,
-            "p99": 2,
-            "recovered": None,
-        },
-    ),
-    Case(
-        "a brown-out that begins in the midst of a call",
-        {"recurs": 0},
-        {"rate": 2, "together": 2, "seconds": 1, "capacity": 10, "window": 100, "outage": NONE, "slow": "50..200@50"},
-        # 1,000 units a millisecond until 50, then 500: 75,000 by 100, 100,000 by 150, 125,000 by 200; then 1,000 again.
-        [[0, 2, 2, 0, 0, 0, 0, 0, 1], [100, 0, 0, 0, 1, 0, 0, 0, 0], [200, 0, 0, 0, 1, 0, 0, 0, 0]],
-        {"p50": 150, "p99": 275, "slowest": 275, "recovered": None},
-    ),
-    Case(
-        "a quota's window border: a ticket at 0, none more until 100, one at 100",
-        {"meet": [{"recurs": 2}, {"spaced": 100}]},
-        {"rate": 2, "together": 2, "seconds": 1, "outage": "0..101", "quota": "1/0/100"},
-        [[0, 2, 1, 2, 1, 3, 0, 0, 0]],
-        {"won": 1, "denied": 1, "calls": 4, "hundredths": 200, "tickets": 2, "p50": 201},
-    ),
-    Case(
-        "a quota's share: the first request fails before the second is counted",
-        {"meet": [{"recurs": 1}, {"spaced": 10}]},
-        {"rate": 2, "together": 2, "seconds": 1, "outage": "0..10", "quota": "0/500/100"},
-        [[0, 2, 1, 1, 1, 2, 0, 0, 0]],
-        {"won": 1, "denied": 1, "tickets": 1, "p50": 11},
-    ),
-    Case(
-        "a budget of one",
-        {"recurs": 2},
-        {"rate": 2, "together": 2, "seconds": 1, "outage": "0..1", "budget": 1},
-        [[0, 2, 0, 1, 0, 3, 0, 0, 0]],
-        {"lost": 0, "denied": 2, "tickets": 1, "calls": 3, "p50": None, "p99": None, "slowest": None},
-    ),
-    Case(
-        "a plan that is done at once",
-        {"recurs": 0},
-        {"rate": 1, "seconds": 1, "outage": "0..1"},
-        [[0, 1, 0, 0, 0, 1, 0, 0, 0]],
-        {"lost": 1, "p50": None, "recovered": None},
-    ),
-    Case(
-        "until in the midst: the third request is none of the storm's, and late retries' tickets stay given",
-        {"spaced": 1000},
-        {"rate": 1, "seconds": 3, "until": 1500, "outage": "0..2000", "budget": 10},
-        [[0, 1, 0, 0, 0, 1, 0, 0, 0], [1000, 1, 0, 1, 0, 2, 0, 0, 0]],
-        {"requests": 2, "open": 2, "calls": 3, "hundredths": 150, "most_calls": 2, "most_from": 1000, "tickets": 3},
-    ),
-    Case(
-        "a cut: the first request makes five calls at one moment, and the second had not begun",
-        "forever",
-        {"rate": 2, "together": 2, "seconds": 1, "calls": 5, "outage": "0..10"},
-        [[0, 1, 0, 4, 0, 5, 0, 0, 0]],
-        {"requests": 1, "open": 1, "calls": 5, "hundredths": 500, "cut": True},
-    ),
-    Case(
-        "no cut: the call that would be too many lies after until",
-        {"spaced": 10},
-        {"rate": 1, "seconds": 1, "calls": 2, "until": 15, "outage": "0..100"},
-        [[0, 1, 0, 1, 0, 2, 0, 0, 0]],
-        {"open": 1, "calls": 2, "cut": False},
-    ),
-    Case(
-        "each failure has its input: shed is 2",
-        {"gate": ["input", True, "equal", 2, {"meet": [{"recurs": 1}, {"spaced": 5}]}]},
-        {"rate": 2, "together": 2, "seconds": 1, "queue": 0, "outage": NONE},
-        [[0, 2, 2, 1, 2, 0, 1, 0, 0]],
-        {"p50": 1, "p99": 6},
-    ),
-    Case(
-        "words: the first failure takes the first four of the seed 7, the second the next four",
-        # 408,380,677 and 257,245,457 of 2^32: 1,000 x (800 + 400 x 0.09508) / 1,000 = 838, and 823.
-        {"jitter": [0, 800, 1200, {"meet": [{"recurs": 1}, {"spaced": 1000}]}]},
-        {"rate": 2, "together": 2, "seconds": 1, "outage": "0..1", "words": 7},
-        [[0, 2, 2, 2, 2, 2, 0, 0, 0]],
-        {"p50": 824, "p99": 839},
-    ),
-]
-
-WORKED += [
-    Case(
-        "rates: two a second until 1 s, ten until 1.5 s, none until 2 s, then four",
-        {"recurs": 0},
-        # 0 and 500; 1000, 1100, .. 1400; 2000, 2250, 2500 and 2750.
-        {"rate": 4, "rates": "0..1000@2,1000..1500@10,1500..2000@0", "seconds": 3, "window": 500, "outage": NONE},
-        [
-            [0, 1, 1, 0, 1, 0, 0, 0, 0],
-            [500, 1, 1, 0, 1, 0, 0, 0, 0],
-            [1000, 5, 5, 0, 5, 0, 0, 0, 0],
-            [1500, 0, 0, 0, 0, 0, 0, 0, 0],
-            [2000, 2, 2, 0, 2, 0, 0, 0, 0],
-            [2500, 2, 2, 0, 2, 0, 0, 0, 0],
-        ],
-        {"requests": 11, "won": 11, "most_calls": 5, "most_from": 1000, "recovered": 0},
-    ),
-    Case(
-        "rates: a span between two at the storm's rate, which changes within a request",
-        {"recurs": 0},
-        # 0 and 500. By 625 1,250 thousandths came: the third is 750 more, which take 187 ms at four a second. By 875
-        # 2,250 came: the fourth is 750 more, which take 375 ms at two a second, and the fifth comes at 1750.
-        {"rate": 2, "rates": "625..875@4", "seconds": 2, "window": 250, "outage": "812..813"},
-        [
-            [0, 1, 1, 0, 1, 0, 0, 0, 0],
-            [250, 0, 0, 0, 0, 0, 0, 0, 0],
-            [500, 1, 1, 0, 1, 0, 0, 0, 0],
-            [750, 1, 0, 0, 0, 1, 0, 0, 0],
-            [1000, 0, 0, 0, 0, 0, 0, 0, 0],
-            [1250, 1, 1, 0, 1, 0, 0, 0, 0],
-            [1500, 0, 0, 0, 0, 0, 0, 0, 0],
-            [1750, 1, 1, 0, 1, 0, 0, 0, 0],
-        ],
-        {"requests": 5, "won": 4, "lost": 1},
-    ),
-    Case(
-        "rates: herds of three, the second where the fourth request would come alone",
-        {"recurs": 0},
-        # 2,000 thousandths by 1 s; 1,000 more take 166 ms at six a second, and 4,000 more 666.
-        {"rate": 6, "rates": "0..1000@2", "together": 3, "seconds": 2, "window": 500, "outage": "1666..1667"},
-        [
-            [0, 3, 3, 0, 3, 0, 0, 0, 0],
-            [500, 0, 0, 0, 0, 0, 0, 0, 0],
-            [1000, 3, 3, 0, 3, 0, 0, 0, 0],
-            [1500, 2, 0, 0, 0, 2, 0, 0, 0],
-        ],
-        {"requests": 8, "won": 6, "lost": 2},
-    ),
-    Case(
-        "rates: silence until the end is one window with nothing in it",
-        {"recurs": 0},
-        {"rate": 4, "rates": "0..5000@0", "seconds": 5},
-        [[0, 0, 0, 0, 0, 0, 0, 0, 0]],
-        {"requests": 0, "calls": 0, "hundredths": 0, "most_calls": 0, "most_from": 0, "p50": None, "recovered": None},
-    ),
-]
 
 BACK_OFF = {"cap": [10_000, {"exponential": [100, 2]}]}
 NO_RETRY, ONE, THREE = {"recurs": 0}, {"recurs": 1}, {"recurs": 3}
@@ -343,16 +86,21 @@ COMES_BACK = [(NO_RETRY, BROWN_OUT), (THREE, {**BROWN_OUT, **TENTH})]
 
 def played(program: List[str], plan: Any, options: Dict[str, Any], form: str = "--json") -> Tuple[int, str, str]:
     """The status, the output and the errors of a program that plays this storm."""
-    with tempfile.NamedTemporaryFile("w", suffix=".json") as file, tempfile.NamedTemporaryFile("w") as times:
+    with tempfile.TemporaryDirectory() as folder:
+
+        def file_of(name: str, plan: Any) -> str:
+            file = Path(folder) / name
+            file.write_text(json.dumps(plan))
+            return str(file)
+
         given = dict(options)
+        others = [f"{words}={file_of(f'{at}.json', own)}" for at, (words, own) in enumerate(given.pop("beside", []))]
         if "open" in given:
-            json.dump(given["open"], times)
-            times.flush()
-            given["open"] = times.name
+            given["open"] = file_of("open.json", given["open"])
         words = [word for name, value in given.items() for word in (f"--{name}", str(value))]
-        json.dump(plan, file)
-        file.flush()
-        done = subprocess.run([*program, *words, form, file.name], capture_output=True, text=True)
+        words += [word for other in others for word in ("--beside", other)]
+        command = [*program, *words, form, file_of("plan.json", plan)]
+        done = subprocess.run(command, capture_output=True, text=True)
     return done.returncode, done.stdout, done.stderr
 
 
@@ -378,6 +126,24 @@ def looks_at(program: List[str]) -> List[str]:
     return wrong
 
 
+def looks_at_populations(program: List[str]) -> List[str]:
+    """What is wrong with the storms of several populations that are known."""
+    wrong = []
+    for name, plan, options, windows, parts in BESIDE:
+        got = told(program, plan, options)
+        wanted = {"windows": windows, "populations": [part._asdict() for part in parts]}
+        found = {
+            "windows": got["windows"],
+            "populations": [
+                {**own, "totals": {key: own["totals"][key] for key in part.totals}}
+                for own, part in zip(got["populations"], parts)
+            ],
+        }
+        if found != wanted or len(got["populations"]) != len(parts):
+            wrong.append(f"{name}: {found}, wanted {wanted}")
+    return wrong
+
+
 def looks_at_numbers(program: List[str]) -> List[str]:
     wrong = []
     with Pool() as pool:
@@ -396,6 +162,36 @@ def looks_at_numbers(program: List[str]) -> List[str]:
     if within > 12_000:
         wrong.append(f"the herd with half to whole of the delay: the last is won after {within} ms")
     return wrong
+
+
+#: A row of the table of limits in docs/LIMITS.md: a limit, and in each of three stories how many requests succeed and,
+#: but for the last, when the peer is back.
+ROW = re.compile(r"\| (none|`.*`) \| ([\d,]+).* \| (.*) \| ([\d,]+).* \| (.*) \| ([\d,]+).* \|")
+
+
+def looks_at_page(program: List[str]) -> List[str]:
+    """What is wrong with the table of limits in docs/LIMITS.md."""
+    rows = [row for row in map(ROW.fullmatch, (TOP / "docs/LIMITS.md").read_text().splitlines()) if row]
+    storms = []
+    for row in rows:
+        limit = row[1].strip("`")
+        name, _, terms = limit.rpartition(" ") if limit.startswith("--") else ("--limit", "", limit)
+        drawn = {} if limit == "none" else {name[2:]: terms}
+        storms += [(program, FULL, {"scenario": story, **drawn}) for story in ("outage", "brown-out", "herd")]
+    with Pool() as pool:
+        played = [got["totals"] for got in pool.starmap(told, storms)]
+    wrong = [] if len(rows) == 7 else [f"docs/LIMITS.md: expected seven rows of limits, got {len(rows)}"]
+    for number, row in enumerate(rows):
+        three = played[3 * number : 3 * number + 3]
+        cells = [cell for totals in three for cell in (f"{totals['won']:,}", back_at(totals["recovered"]))]
+        if list(row.groups()[1:]) != cells[:-1]:
+            wrong.append(f"docs/LIMITS.md: expected {cells[:-1]}, got {row[0]}")
+    return wrong
+
+
+def back_at(recovered: Optional[int]) -> str:
+    """When a peer is back that was away, or slow, until 20 s."""
+    return "never" if recovered is None else "at once" if recovered == 20_000 else f"at {recovered // 1000} s"
 
 
 #: Command lines that are bad, each before its plan is read.
@@ -485,11 +281,30 @@ BAD = [
     "--sweep share=0.25 --quota 1/1/100",
     "--sweep reserve=1,2 --budget 3",
     "--sweep budget=1,2 --quota 1/1/100",
+    "--sweep beside=1,2",
+    "--sweep beside=0,1 --beside 30=other.json",
+    "--sweep beside=1,100 --beside 30=other.json",
+    "--sweep beside=1,70 --beside 30=other.json --beside 30=other.json",
     "--sweep outage=1,3590001",
     f"--sweep rate={','.join(map(str, range(1, 66)))}",
     "--sweep rate=1,2 --plain",
     "--sweep rate=1,2 --compare other.json",
     "--rate 1 --rate 2",
+    "--beside 30",
+    "--beside 30=",
+    "--beside =other.json",
+    "--beside 0=other.json",
+    "--beside 100=other.json",
+    "--beside 30%=other.json",
+    "--beside 30@=other.json",
+    "--beside 30@0=other.json",
+    "--beside 30@3600001=other.json",
+    "--beside 30+=other.json",
+    "--beside 30+limit=other.json",
+    "--beside 30+limited@5=other.json",
+    "--beside 50=other.json --beside 50=other.json",
+    f"{'--beside 10=other.json ' * 4}",
+    "--beside 30=other.json --compare other.json",
 ]
 
 
@@ -520,9 +335,10 @@ NARROW = """\
 """
 #: What the same storm comes to.
 COMES_TO = """\
-1 requests: 1 won, 0 lost, 0 denied a retry, 0 left open
-2 calls, 2.00 for each request; the most in a window are 2, from 0 ms
-1 tickets of 9 given
+1 request: 1 won, 0 lost, 0 denied a retry, 0 left open
+2 calls, 2.00 for each request
+the most in a window are 2, from 0 ms
+1 ticket of 9 given
 won after 11 ms (50 in 100), 11 ms (99 in 100), 11 ms (all)
 never recovered
 """
@@ -634,6 +450,13 @@ SWEEPS: List[Tuple[str, Dict[str, Any], List[Tuple[str, Dict[str, Any]]]]] = [
         [("0", {"quota": "0/100/1000"}), ("100", {"quota": "100/100/1000"})],
     ),
     ("budget=0,20", {"budget": 5}, [("0", {"budget": 0}), ("20", {"budget": 20})]),
+    ("rate=50,100", {"budget": 5, "beside": [("30@8", ONE)]}, [("50", {"rate": 50}), ("100", {"rate": 100})]),
+    ("patience=8,500", {"beside": [("30", ONE)]}, [("8", {"patience": 8}), ("500", {"patience": 500})]),
+    (
+        "beside=1,40,79",
+        {"budget": 5, "beside": [("30@8+limited", ONE), ("20", ONE)]},
+        [(share, {"beside": [(f"{share}@8+limited", ONE), ("20", ONE)]}) for share in ("1", "40", "79")],
+    ),
 ]
 #: Along the length of the outage: 0, 50 and 100 of 500 requests are lost, after 0, 200 and 400 calls that are refused.
 ALONG = """\
@@ -725,6 +548,25 @@ def some_storm(rng: random.Random) -> Tuple[Any, Dict[str, Any]]:
     return plan, options
 
 
+def some_populations(rng: random.Random, is_brief: bool) -> List[Tuple[str, Any]]:
+    """Random populations beside the first one. Where the storm is brief their plans may look back far."""
+    populations = []
+    left = 99
+    for _ in range(rng.choice([1, 1, 2, 3])):
+        if left == 0:
+            break
+        share = rng.choice([1, min(30, left), left, rng.randint(1, left)])
+        left -= share
+        patience = rng.choice(["", "", "@1", "@5", "@60", "@500", "@3000"])
+        if is_brief and rng.random() < 0.5:
+            plan: Any = storms.reference.some_plan(rng, rng.randrange(1, 7))
+        else:
+            delay = rng.choice([{"spaced": rng.randrange(400)}, BACK_OFF, {"jitter": [0, 0, 1000, BACK_OFF]}])
+            plan = {"meet": [{"recurs": rng.randrange(9)}, delay]}
+        populations.append((f"{share}{patience}{rng.choice(['', '+limited'])}", plan))
+    return populations
+
+
 def some_rates(rng: random.Random, rate: int, seconds: int) -> str:
     """Random spans with rates of their own."""
     words: List[str] = []
@@ -762,7 +604,10 @@ def _span(rng: random.Random, seconds: int) -> str:
 
 def differs(seed: str) -> Optional[str]:
     """How the two programs differ on the storm of this seed."""
-    plan, options = some_storm(random.Random(seed))
+    rng = random.Random(seed)
+    plan, options = some_storm(rng)
+    if rng.random() < 0.5:
+        options["beside"] = some_populations(rng, options["calls"] <= 40)
     for form in ("--json", "--csv"):
         wanted, got = (played(program, plan, options, form) for program in (SLOWLY, [ZSCHED, "storm"]))
         if wanted != got:
@@ -775,11 +620,11 @@ def main() -> int:
     seed = sys.argv[2] if len(sys.argv) > 2 else "7"
     knows = subprocess.run([ZSCHED, "storm", "--help"], capture_output=True).returncode == 0
     programs = [SLOWLY, [ZSCHED, "storm"]] if knows else [SLOWLY]
-    wrong = [line for program in programs for line in looks_at(program)]
+    wrong = [line for program in programs for line in looks_at(program) + looks_at_populations(program)]
     wrong += looks_at_numbers(programs[-1])
     if knows:
         wrong += looks_at_words(programs[-1]) + looks_at_lines(programs[-1]) + looks_at_limits(programs[-1])
-        wrong += looks_at_sweeps(programs[-1])
+        wrong += looks_at_sweeps(programs[-1]) + looks_at_page(programs[-1])
         with Pool() as pool:
             wrong += filter(None, pool.imap_unordered(differs, [f"{seed}.{number}" for number in range(count)]))
     for line in wrong[:20]:
@@ -789,7 +634,7 @@ def main() -> int:
             f"{count} random storms are played alike" if knows else "zsched knows no storms, and was not looked at"
         )
         print(
-            f"tests/check_storms.py: {len(WORKED)} storms by hand and "
+            f"tests/check_storms.py: {len(WORKED) + len(BESIDE)} storms by hand and "
             f"{len(KNOWN) + len(COMES_BACK)} that are known are right, {len(SWEEPS)} sweeps are of single storms, "
             f"{compared}"
         )

@@ -165,6 +165,39 @@ END
   cp -p "$work/build" bin/build
 }
 
+# says PATTERN: that the last command wrote such a line to standard error
+says() {
+  grep -q "$1" "$work/err" || {
+    echo "tests/commands.sh: expected $1 on standard error, got $(cat "$work/err")" >&2
+    failed=1
+  }
+}
+
+# A program whose run fails is built all the same. The kit is a script here, which proves everything, and builds no program if
+# HIKEBOX_BROKEN is set.
+builds_what_fails() {
+  cat >"$work/kit" <<'END'
+#!/bin/sh
+name=${PWD##*/}
+[ "$1" != lib ] || { mkdir -p out/rlib; exit 0; }
+[ -z "$HIKEBOX_BROKEN" ] || { echo "crate $name: not proved"; exit 1; }
+mkdir -p out
+printf '#!/bin/sh\necho "was given: $*"\nexit 3\n' >"out/$name"
+chmod +x "out/$name"
+echo "rt: running out/$name; to give it other input, run that file yourself"
+"out/$name"
+END
+  chmod +x "$work/kit"
+  rm -rf crates/*/out
+  wants 1 '' .. env HIKEBOX_RT="$work/kit" HIKEBOX_BROKEN=1 bin/build zsched plan
+  says '^bin/build: zsched is not built; '
+  wants 0 '' .. env HIKEBOX_RT="$work/kit" bin/build zsched plan --steps 3
+  says '^bin/build: zsched is built, and failed '
+  wants 3 'was given: plan' '' crates/zsched/out/zsched plan
+  wants 0 '' '' bin/build --is-built zsched
+  rm -rf crates/*/out out
+}
+
 # spent COMMAND..: the milliseconds of the processor that it takes, with all that it starts
 spent() {
   local TIMEFORMAT='%3U %3S'
@@ -194,6 +227,7 @@ without_kit() {
   wants 2 '' "bin/check: $missing" bin/check sched_time
   wants 2 '' "bin/build: $missing" bin/build zsched
   wants 2 '' "bin/dist: $missing" bin/dist
+  wants 2 '' 'bin/dist: bin/dist [--proved] [FOLDER], or bin/dist --tarball FOLDER' bin/dist one two
   find . | cmp -s - "$work/before" || { echo "tests/commands.sh: files came or went where the kit is missing" >&2; failed=1; }
   wants 2 '' 'bin/crates: crates.txt has no crate none' bin/check none
   wants 2 '' 'bin/crates: crates.txt has no crate none' bin/build none
@@ -299,6 +333,7 @@ changes
 bindings
 runs_zsched
 builds_zsched
+builds_what_fails
 costs_little
 without_kit
 with_kit

@@ -122,4 +122,16 @@ for target in aarch64-apple-darwin i686-unknown-linux-gnu; do
   [ "$status" != 0 ] && grep -q '^  hikebox: expected 64-bit Linux on x86_64 or aarch64, got .*; for another target set ' \
     "$work/said" || fails "$target: status $status, $(cat "$work/said")"
 done
+# (a relative HIKEBOX_LIB_DIR is a folder in the crate's)
+status=0
+(cd "$work/other" && HIKEBOX_LIB_DIR=none cargo build --quiet) >"$work/said" 2>&1 || status=$?
+[ "$status" != 0 ] && grep -q "^  hikebox: the engine is missing: no $work/crate/none/libhikebox.a$" "$work/said" ||
+  fails "HIKEBOX_LIB_DIR=none: status $status, $(cat "$work/said")"
+
+# The programs of the package are tested where the pages of the repository are not.
+tar -xzf "$work/${found[-1]}/crate/target/package/hikebox-$version.crate" -C "$work"
+registry /usr/share/cargo/registry "$work/hikebox-$version"
+(cd "$work/hikebox-$version" && cargo test --quiet --doc -- README.md) >"$work/said" 2>&1 ||
+  fails "cargo test in the package: $(cat "$work/said")"
+
 echo "tests/crate.sh: packaged, vendored and built by Rust ${found[*]}"

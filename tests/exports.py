@@ -1,7 +1,7 @@
 """Compares the calls that include/hikebox.h declares with those that crates/hikebox_c exports: their names, and of each
 the types of its parameters in order. A handle's type is a struct of one pointer, whichever kind it is of. The export of
 crates/sched_storm_call makes the call of its name there and nothing else, and has its parameters and clauses, word for
-word."""
+word. The header's comment and the pages name each struct that begins with its size."""
 
 import pathlib
 import re
@@ -52,6 +52,7 @@ STRUCTS = {
     "Run": "hikebox_run",
     "SizedUsage": "hikebox_usage",
     "Phase": "hikebox_phase",
+    "PopulationGiven": "hikebox_population",
     "SizedStorm": "hikebox_storm",
     "WindowTold": "hikebox_window",
     "SizedTotals": "hikebox_totals",
@@ -77,6 +78,7 @@ FIELDS = {
     "[u32; 4]": "uint32_t[4]",
     "[u64; 64]": "uint64_t[64]",
     "[Phase; 16]": "hikebox_phase[16]",
+    "PopulationGiven": "hikebox_population",
 }
 #: The structs after a size: their members follow it.
 AFTER_SIZE = ("CourseGiven", "Reply", "Usage", "StormGiven", "TotalsTold")
@@ -113,12 +115,17 @@ def exported():
     return calls
 
 
+def on_one_line(part):
+    """The part with the white space of one line, however its parentheses are broken."""
+    return " ".join(part.split()).rstrip(",").replace("( ", "(").replace(", )", ")")
+
+
 def functions(crate, begins):
     """The functions that begin so: parameters, clauses and body of each, with the white space of one line."""
     pattern = begins + r"(\w+)\(([^)]*)\) -> u32\n(.*?)^\{\n(.*?)^\}$"
     for file in sorted((TOP / "crates" / crate / "src").glob("*.rt")):
         for name, *parts in re.findall(pattern, without_comments(file.read_text()), re.M | re.S):
-            yield name, [" ".join(part.split()).rstrip(",") for part in parts]
+            yield name, [on_one_line(part) for part in parts]
 
 
 def passed_on():
@@ -155,6 +162,21 @@ def structs():
         yield c, is_c, list(members(rattle, replies))
 
 
+def sized():
+    """Each text on the structs that begin with their size, with those that it names and those that there are."""
+    header = (TOP / "include/hikebox.h").read_text()
+    there = set(re.findall(r"size_t size;[^}]*\} (hikebox_\w+);", without_comments(header)))
+    texts = {
+        "include/hikebox.h": re.search(r"\* STRUCTS\.(.*?)\n \*\n", header, re.S),
+        "docs/C.md": re.search(r"\*\*Structs that may grow\.\*\*(.*)", (TOP / "docs/C.md").read_text()),
+        "docs/VERSIONS.md": re.search(
+            r"structs of `hikebox\.h` begin with(.*)", (TOP / "docs/VERSIONS.md").read_text()
+        ),
+    }
+    for name, text in texts.items():
+        yield name, set(re.findall(r"\bhikebox_\w+", text[1])), there
+
+
 def main():
     is_c, is_rattle = declared(), exported()
     wrong = [
@@ -164,6 +186,11 @@ def main():
     ]
     wrong += [f"{name}: declared {here}, written {there}" for name, here, there in structs() if here != there]
     wrong += [f"{name}: exported {here}, called {there}" for name, here, there in passed_on()]
+    wrong += [
+        f"{name}: expected the structs {sorted(there)}, got {sorted(here)}"
+        for name, here, there in sized()
+        if here != there
+    ]
     for line in wrong:
         print(f"tests/exports.py: {line}", file=sys.stderr)
     print(f"tests/exports.py: {len(is_c)} calls compared")

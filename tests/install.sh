@@ -23,6 +23,14 @@ status=0
 "$top/bin/install" --perfix x 2>"$work/err" || status=$?
 [ "$status" = 2 ] && grep -q perfix "$work/err" || wrong "a word that there is not: $status"
 
+# Empty words, as of variables of a Makefile that are not set: no other root, and no prefix.
+"$top/bin/install" --destdir '' --prefix "$work/unstaged" >/dev/null && [ -e "$work/unstaged/include/hikebox.h" ] ||
+  wrong "an empty --destdir is another root than none"
+status=0
+"$top/bin/install" --prefix= 2>"$work/err" || status=$?
+[ "$status" = 2 ] && [ "$(cat "$work/err")" = 'bin/install: expected a folder after --prefix, got an empty word' ] ||
+  wrong "an empty prefix: $status, $(cat "$work/err")"
+
 # For another machine: its libraries, and nothing that runs here.
 "$top/bin/install" --target aarch64 --prefix "$work/other" >/dev/null
 for file in libhikebox.a libhikebox.so; do
@@ -33,6 +41,26 @@ status=0
 "$top/bin/install" --target riscv64 --prefix "$work/none" 2>"$work/err" || status=$?
 [ "$status" = 2 ] && [ "$(cat "$work/err")" = 'bin/install: expected the target x86_64 or aarch64, got riscv64' ] && [ ! -e "$work/none" ] ||
   wrong "a target that there is not: $status, $(cat "$work/err")"
+
+# Where zsched does not run, as with an older glibc, all else is installed, and a line says so. Without its files nothing
+# is.
+built=${HIKEBOX_LIB_DIR:-$top/dist}
+mkdir "$work/old"
+cp "$built/hikebox.h" "$built/libhikebox.a" "$built/libhikebox.so" "$work/old"
+status=0
+HIKEBOX_LIB_DIR=$work/old "$top/bin/install" --target x86_64 --prefix "$work/none" 2>"$work/err" || status=$?
+[ "$status" = 2 ] && [ "$(cat "$work/err")" = "bin/install: there is no $work/old/zsched" ] && [ ! -e "$work/none" ] ||
+  wrong "a file that there is not: $status, $(cat "$work/err")"
+printf '#!/bin/sh\nexit 1\n' >"$work/old/zsched"
+chmod +x "$work/old/zsched"
+HIKEBOX_LIB_DIR=$work/old "$top/bin/install" --target x86_64 --prefix "$work/older" >/dev/null 2>"$work/err" ||
+  wrong "where zsched does not run: $(cat "$work/err")"
+grep -q '^bin/install: zsched is left out: expected x86-64 with glibc 2.34 or later, which it needs, got ' "$work/err" &&
+  [ ! -e "$work/older/bin" ] && [ -e "$work/older/share/man/man3/hikebox.3" ] && [ ! -e "$work/older/share/man/man1" ] ||
+  wrong "where zsched does not run: $(cat "$work/err"; ls -R "$work/older")"
+status=0
+HIKEBOX_LIB_DIR=$work/old "$top/bin/dist" --tarball "$work/tarballs" >/dev/null 2>"$work/err" || status=$?
+[ "$status" = 1 ] && [ -z "$(ls "$work/tarballs")" ] || wrong "a tarball without zsched: $status, $(cat "$work/err")"
 
 # The library by its names.
 soname=$(readelf -d "$prefix/lib/libhikebox.so" | sed -n 's/.*SONAME.*\[\(.*\)\]/\1/p')
@@ -58,7 +86,7 @@ if(hikebox_FOUND)
   message(FATAL_ERROR "a later version is found")
 endif()
 foreach(kind hikebox static)
-  add_executable(retry_\${kind} $top/examples/c/retry.c)
+  add_executable(retry_\${kind} "$top/examples/c/retry.c")
   target_link_libraries(retry_\${kind} hikebox::\${kind})
 endforeach()
 EOF
@@ -81,6 +109,8 @@ for command in plan pool storm check; do
     grep -qF -- "$word" "$work/zsched.1" || wrong "zsched(1) has no $word"
   done
 done
+statuses=$(sed -n '/^EXIT STATUS/,$s/^ *\([0-9]\)  .*/\1/p' "$work/zsched.1" | xargs)
+[ "$statuses" = '0 2 3 4 5 6 7 8' ] || wrong "zsched(1) begins lines with the statuses $statuses"
 
 # The completions.
 cat >"$work/bash" <<'EOF'
@@ -96,10 +126,16 @@ offers zsched storm --scenario ''
 offers zsched storm --scenario = her
 offers zsched storm --rate ''
 offers zsched storm --compare hike
+offers zsched storm --beside ''
+offers zsched storm --beside 30 = hike
+offers zsched storm --beside = 30 @ 500+limited = hike
+offers zsched help p
+offers zsched plan -x/y hike
+offers zsched plan "-/x/;1e touch $1/touched;#" hike
 EOF
 options=$("$prefix/bin/zsched" pool --help | sed -n 's/^ *\(-h, \)\{0,1\}\(--[a-z]*\).*/\2/p' | tr '\n' ' ')
-printf 'plan pool\n--version\n--steps\n%s\nhikebox.pc\noutage herd brown-out\nherd\n\nhikebox.pc\n' "${options% }" >"$work/want"
-PATH=$prefix/bin:$PATH bash --norc "$work/bash" "$prefix" >"$work/out" && cmp -s "$work/out" "$work/want" || wrong "bash: $(cat "$work/out")"
+printf 'plan pool\n--version\n--steps\n%s\nhikebox.pc\noutage herd brown-out\nherd\n\nhikebox.pc\n\nhikebox.pc\nhikebox.pc\nplan pool\nhikebox.pc\nhikebox.pc\n' "${options% }" >"$work/want"
+PATH=$prefix/bin:$PATH bash --norc "$work/bash" "$prefix" >"$work/out" 2>&1 && cmp -s "$work/out" "$work/want" || wrong "bash: $(cat "$work/out")"
 [ "$(wc -w <<<"$options")" -ge 5 ] || wrong "zsched pool has the options $options"
 
 cat >"$work/zsh" <<'EOF'
@@ -119,9 +155,18 @@ offers zsched storm --scenario ''
 offers zsched storm --scenario=h
 offers zsched storm --rate ''
 offers zsched storm --compare ''
+offers zsched storm --beside 30
+offers zsched storm --beside=30
+offers zsched storm --beside 30@500+limited=h
+offers zsched storm --beside=30=h
+offers zsched help p
+offers zsched plan -x/y ''
+offers zsched plan "-/x/;1e touch $1/touched;#" ''
 EOF
-printf 'plan pool storm check help --help --version\n%s\nfiles\noutage herd brown-out\noutage herd brown-out\nmessage N\nfiles\n' \
-  "${options% }" >"$work/want"
-PATH=$prefix/bin:$PATH zsh -f "$work/zsh" "$prefix" >"$work/out" && cmp -s "$work/out" "$work/want" || wrong "zsh: $(cat "$work/out")"
+takes='message PERCENT[@PATIENCE][+limited]=FILE'
+printf 'plan pool storm check help --help --version\n%s\nfiles\noutage herd brown-out\noutage herd brown-out\nmessage N\nfiles\n%s\n%s\nfiles\nfiles\nplan pool storm check help\nfiles\nfiles\n' \
+  "${options% }" "$takes" "$takes" >"$work/want"
+PATH=$prefix/bin:$PATH zsh -f "$work/zsh" "$prefix" >"$work/out" 2>&1 && cmp -s "$work/out" "$work/want" || wrong "zsh: $(cat "$work/out")"
+[ ! -e "$prefix/touched" ] || wrong 'a completion runs what a word says'
 [ "$failed" = 0 ] || exit 1
 echo "tests/install.sh: what is installed is compiled against in two ways, read by man and completed by bash and zsh"

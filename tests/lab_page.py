@@ -18,7 +18,7 @@ import pytest
 
 sys.path.insert(0, str(Path(__file__).parent))
 
-from webdriver import COLOURS, CONTRAST, CONTROL, CROSSING, DELETE, DOWN, RIGHT, TAB, UP, Browser  # noqa: E402
+from webdriver import COLOURS, CONTRAST, CONTROL, CROSSING, DELETE, DOWN, RIGHT, SHIFT, TAB, UP, Browser  # noqa: E402
 
 TOP = Path(__file__).resolve().parent.parent
 FULL = "recurs(8) & exponential(0.1, 2).cap(10).jittered(0, 1)"
@@ -113,12 +113,39 @@ def text_of(browser: Browser, identity: str) -> str:
     return str(browser.run("return document.getElementById(arguments[0]).textContent", identity))
 
 
+#: Holds back the first answer that the page is given to a call of this name.
+HOLD = """
+const [name] = arguments, real = ask;
+window.release = null;
+ask = async (...given) => {
+  const answer = await real(...given);
+  if (given[0] === name && !window.release) await new Promise((done) => { window.release = done; });
+  return answer;
+};
+"""
+#: Types a text in a box, and gives the page at once the answer that was held back.
+TYPES_AND_RELEASES = """
+const box = document.getElementById(arguments[0]);
+box.value = arguments[1];
+box.dispatchEvent(new Event("input"));
+window.release();
+return (async () => {
+  for (let turn = 0; turn < 100; turn += 1) await null;
+  return document.getElementById(arguments[2]).textContent;
+})();
+"""
+
+
 def types(browser: Browser, identity: str, text: str) -> None:
     """Types a text in the place of the one that stands in a box."""
     browser.run("document.getElementById(arguments[0]).focus()", identity)
     browser.keys("a", held=CONTROL)
     browser.keys(text or DELETE)
 
+
+#: A storm that is not over before it is broken off.
+LONG = {"rate": 17_000, "seconds": 60, "capacity": 1, "queue": 0, "calls": 2**32}
+LONG_POLICY = "recurs(10000) & spaced(0.01)"
 
 NEVER = "A: 18.4 % of 48,000 requests succeeded, not back by the end; 7.62 calls for each"
 ENDS = "B: 83.3 % of 48,000 requests succeeded, back at 20 s; 1.02 calls for each"
@@ -143,7 +170,7 @@ def test_the_verdict_is_in_view_beside_all_controls(browser: Browser, width: int
     browser.resize(width, height)
     browser.wait(f"return {width} === innerWidth")
     browser.wait(DRAWN)
-    controls = "textarea, .limit, #numbers input, #copies button, #stories input"
+    controls = "textarea, .limit, #numbers input, #copies button, #stories input, .beside input, .beside select"
     script = """
       const isWithin = (least, most, end) => least >= -1 && most <= end + 1;
       const seen = (box) => isWithin(box.top, box.bottom, innerHeight) && isWithin(box.left, box.right, innerWidth);
@@ -169,6 +196,29 @@ def test_the_verdict_is_in_view_beside_all_controls(browser: Browser, width: int
             "return document.querySelector('.picture').getBoundingClientRect().height <= innerHeight / 2"
         )
     shot(browser, f"scrolled-{width}")
+
+
+@pytest.mark.parametrize("width, height", [(390, 844), (320, 640), (640, 320), (320, 256)])
+def test_what_has_the_focus_is_not_behind_the_picture(browser: Browser, lab: Lab, width: int, height: int) -> None:
+    browser.open("about:blank")
+    browser.resize(width, height)
+    browser.open(f"{lab.address}#story=beside")
+    browser.wait(PLAYED)
+    script = """
+      const part = document.querySelector(".picture"), picture = part.getBoundingClientRect();
+      const element = document.activeElement, box = element.getBoundingClientRect();
+      const isBehind = element.closest(".controls") && box.top < picture.bottom - 1 && box.bottom > picture.top + 1;
+      return [element.closest(".controls") !== null, isBehind ? element.id || element.textContent : ""];
+    """
+    # to the end of the controls, and back to their beginning
+    browser.run("document.getElementById('along').focus()")
+    went = []
+    for held in (SHIFT, ""):
+        for _ in range(60):
+            browser.keys(TAB, held=held)
+            went.append(browser.run(script))
+    assert [is_control for is_control, _ in went].count(True) > 80
+    assert [name for _, name in went if name] == []
 
 
 def test_all_of_it_by_the_keyboard(browser: Browser, lab: Lab) -> None:
@@ -279,6 +329,11 @@ STORIES = [
         "18.4 % of 48,000 requests succeeded, not back by the end; 7.62",
         "84.4 % of 48,000 requests succeeded, back at 20 s; 1.66",
     ),
+    (
+        "beside",
+        "83.3 % of 48,000 requests succeeded, back at 20 s; 1.02",
+        "20.7 % of 48,000 requests succeeded, not back by the end; 3.01",
+    ),
 ]
 
 
@@ -289,14 +344,14 @@ def test_all_stories_and_a_slider_by_touch(browser: Browser, width: int, height:
     for element, (name, first, second) in zip(browser.elements("[name=story]"), STORIES):
         browser.run("document.querySelector(`[value=${arguments[0]}]`).scrollIntoView({ block: 'end' })", name)
         browser.tap(element)
-        assert browser.run("return document.querySelector('[name=story]:checked').value") == name
+        browser.wait(f"return document.querySelector('[name=story]:checked').value === '{name}'")
         comes_to(browser, first)
         comes_to(browser, second, "b")
     shot(browser, f"story-{width}")
     browser.run("document.getElementById('rate-slider').scrollIntoView({ block: 'end' })")
     browser.drag("rate-slider", 0.5)
-    rate = int(browser.run("return document.getElementById('rate').value"))
     # (half of the way from 1 to 20,000 by ratios is their root, 141)
+    rate = browser.wait("const rate = Number(document.getElementById('rate').value); return rate <= 200 && rate")
     assert 100 <= rate <= 200
     comes_to(browser, f"of {rate * 60:,} requests")
     assert browser.run("return scrollX") == 0
@@ -340,11 +395,36 @@ def test_numbers_that_are_wrong_together_are_told(browser: Browser) -> None:
     browser.wait("return document.getElementById('stale').textContent === ''")
 
 
+def test_an_answer_to_what_was_typed_before_marks_nothing(browser: Browser) -> None:
+    browser.run(HOLD, "plan")
+    types(browser, "a-text", "recurs(3) & sp")
+    browser.wait("return window.release !== null")
+    assert browser.run(TYPES_AND_RELEASES, "a-text", "recurs(3) & spced(1)", "a-fault") == ""
+    browser.wait("return document.querySelector('#side-a mark')")
+    assert browser.run("return document.querySelector('#side-a mark').textContent") == "spced(1)"
+
+
+def test_an_answer_to_a_number_of_before_leaves_the_fault_of_the_box(browser: Browser) -> None:
+    browser.run(HOLD, "storm")
+    types(browser, "outage1", "5")
+    browser.wait("return window.release !== null")
+    wanted = "expected a whole number from 0 to 3,600,000, got '5x'"
+    assert browser.run(TYPES_AND_RELEASES, "outage1", "5x", "outage1-fault") == wanted
+    assert text_of(browser, "outage0-fault") == "it ends at 5 ms, before it begins at 10000 ms"
+
+
 def test_what_is_wrong_in_a_link_is_told(browser: Browser, lab: Lab) -> None:
     for carried, identity, fault, said in [
         ("story=quota&rate=abc", "rate", "expected a whole number from 1 to 1,000,000, got 'abc'", ""),
         ("rate=900&outage=5000", "outage1", "expected a whole number from 0 to 3,600,000, got nothing", ""),
+        ("outage=5-6-7", "outage1", "expected a whole number from 0 to 3,600,000, got '6-7'", ""),
         ("story=flood&rats=5", "", "", "The link has what this page does not know: story=flood, rats."),
+        (
+            "story=constructor&along=toString&a-limited=yes",
+            "",
+            "",
+            "The link has what this page does not know: story=constructor, along=toString, a-limited=yes.",
+        ),
     ]:
         browser.open("about:blank")
         browser.open(f"{lab.address}#{carried}")
@@ -362,6 +442,52 @@ def test_what_is_wrong_in_a_link_is_told(browser: Browser, lab: Lab) -> None:
         "",
         "recurs(0)",
     ]
+    # What a link leaves out is not that of the link before.
+    browser.run("location.hash = 'story=jitter&along=capacity'")
+    browser.wait("return document.getElementById('along').value === 'capacity'")
+    browser.run("location.hash = 'story=quota'")
+    browser.wait("return document.getElementById('rate').value === '800'")
+    assert browser.run("return document.getElementById('along').value") == "rate"
+    # A link without policies has those of its story.
+    browser.open("about:blank")
+    browser.open(f"{lab.address}#a-limit=100")
+    browser.wait(PLAYED)
+    assert browser.run("return ['a-text', 'a-limit', 'b-limit'].map((id) => document.getElementById(id).value)") == [
+        FULL,
+        "100",
+        "10/10%/1s",
+    ]
+
+
+def test_a_page_without_a_picture_does_not_speak_of_one(browser: Browser, lab: Lab) -> None:
+    browser.open("about:blank")
+    browser.open(f"{lab.address}#down=2")
+    browser.wait("return document.getElementById('down-fault').textContent === 'expected 1 to 1, got 2'")
+    assert text_of(browser, "stale") == "What is wrong is marked."
+    assert not browser.run("return document.querySelector('#played svg')")
+
+
+def test_what_is_not_played_is_not_copied(browser: Browser) -> None:
+    types(browser, "a-text", "")
+    browser.wait("return programs[0] === null")
+    browser.run("document.querySelector(\"[aria-label='The command line of A']\").click()")
+    assert text_of(browser, "said") == "There is nothing to copy: no such storm is played."
+    assert browser.run("return document.getElementById('copied').hidden")
+
+
+def test_a_page_whose_lab_ended_says_so_at_the_picture(window: Browser) -> None:
+    other = Lab()
+    window.open("about:blank")
+    window.resize(1280, 720)
+    window.open(other.address)
+    window.wait(PLAYED)
+    other.close()
+    types(window, "rate", "900")
+    said = "This picture shows the last valid input. hikebox lab does not answer. Is it still running?"
+    window.wait(f"return document.getElementById('stale').textContent === '{said}'")
+    assert window.run("return document.getElementById('played').classList.contains('stale')")
+    window.open("about:blank")
+    window.complaints()
 
 
 def test_a_surge_goes_by_the_link_and_into_the_copies(browser: Browser, lab: Lab) -> None:
@@ -376,6 +502,62 @@ def test_a_surge_goes_by_the_link_and_into_the_copies(browser: Browser, lab: Lab
     browser.run("take(CONTROLS.find((control) => idOf(control) === 'rates1'), '1000')")
     comes_to(browser, "of 16,000 requests", "b")
     assert "rates=1000-1000-1200" in browser.run("return location.hash")
+
+
+@pytest.mark.parametrize("width, height", SIZES)
+def test_a_quota_beside_clients_without_one_is_in_view(browser: Browser, lab: Lab, width: int, height: int) -> None:
+    browser.open("about:blank")
+    browser.resize(width, height)
+    browser.open(f"{lab.address}#story=beside")
+    browser.wait(PLAYED)
+    comes_to(browser, "20.7 % of 48,000 requests succeeded, not back by the end; 3.01", "b")
+    texts = browser.run("return [...document.querySelectorAll('#played text')].map((text) => text.textContent)")
+    assert {"A: beside 30 %, limited", "B: beside 30 %, not limited", "17.7 %", "27.7 %"} <= set(texts)
+    theirs = [text.partition(":")[0] for text in texts if text.startswith("beside, ")]
+    assert theirs == ["beside, 30 %, limited", "beside, 30 %, not limited"]
+    picture = browser.run("return document.querySelector('.picture').getBoundingClientRect().height")
+    if width == 1280:
+        assert browser.run("return document.documentElement.scrollHeight <= innerHeight")
+        assert browser.run("return document.getElementById('swept').getBoundingClientRect().bottom <= innerHeight")
+    else:
+        assert picture <= height / 2
+    assert browser.run(CROSSING) == []
+    assert browser.run("return document.documentElement.scrollWidth <= innerWidth")
+    shot(browser, f"beside-{width}")
+
+
+def test_clients_beside_by_the_keyboard_the_link_and_the_copies(browser: Browser, lab: Lab) -> None:
+    browser.open("about:blank")
+    browser.open(f"{lab.address}#rate=80&capacity=100&queue=500")
+    browser.wait(PLAYED)
+    browser.tab_to("beside0-slider")
+    browser.keys(RIGHT * 20)
+    comes_to(browser, "B: 21.6 % of 4,800 requests succeeded, not back by the end; 2.43 calls for each", "b")
+    browser.tab_to("b-limited")
+    browser.keys(" ")
+    comes_to(browser, "B: 83.3 % of 4,800 requests succeeded, back at 20 s; 1.04 calls for each", "b")
+    browser.run("document.getElementById('beside-policy').focus()")
+    browser.keys(DOWN)
+    browser.wait("return programs[1] && programs[1].command.includes(\"--beside '20+limited=recurs(0)'\")")
+    assert "beside=[Population(0.2, recurs(0), limited=True)]" in browser.run("return programs[1].python")
+    assert ".beside(Population::new(20, &second).limited(true))" in browser.run("return programs[1].rust")
+    lines = json.loads(browser.run("return scenario"))["lines"]
+    assert [line["beside"][0]["limited"] for line in lines] == [False, True]
+    link = browser.address
+    assert "beside=20-recurs%280%29" in link and "b-limited=1" in link and "a-limited" not in link
+    browser.open("about:blank")
+    browser.open(link.replace("recurs%280%29", "recurs%2820%29", 1))
+    browser.wait(PLAYED)
+    kept = "return ['beside0', 'beside-policy'].map((id) => document.getElementById(id).value)"
+    assert browser.run(kept) == ["20", "recurs(20)"]
+    assert browser.run("return SIDES.map((name) => document.getElementById(name + '-limited').checked)") == [
+        False,
+        True,
+    ]
+    assert text_of(browser, "said") == ""
+    types(browser, "beside0", "100")
+    assert text_of(browser, "beside0-fault") == "expected a whole number from 0 to 99, got '100'"
+    assert browser.complaints() == []
 
 
 def test_a_link_of_another_run_opens_with_what_it_carries(window: Browser) -> None:
@@ -396,9 +578,9 @@ def test_a_link_of_another_run_opens_with_what_it_carries(window: Browser) -> No
 def test_a_long_storm_shows_that_it_is_played_and_typing_breaks_it_off(browser: Browser, lab: Lab) -> None:
     browser.tab_to("a-text")
     browser.keys("a", held=CONTROL)
-    # a million requests, of which each is retried two hundred times
-    browser.run("state.storm = {rate: 17000, seconds: 60, capacity: 1, queue: 0}; showControls()")
-    browser.keys("recurs(200) & spaced(0.05)")
+    # (a million requests, of which each is retried ten thousand times: it is played for an hour)
+    browser.run("state.storm = arguments[0]; showControls()", LONG)
+    browser.keys(LONG_POLICY)
     browser.wait("return !document.getElementById('busy').hidden")
     assert "breaks it off" in text_of(browser, "busy-said")
     shot(browser, "busy")
@@ -417,20 +599,22 @@ def test_a_long_storm_shows_that_it_is_played_and_typing_breaks_it_off(browser: 
 def test_ten_storms_of_a_million_requests_at_once_leave_it_answering(browser: Browser) -> None:
     meanwhile, picture, ends = browser.run(
         """
-        const sides = [{ text: "recurs(1) & spaced(1)", limit: "" }];
-        const asked = { page, sides, storm: { rate: 17000, capacity: 1 }, width: 500 };
-        const played = () => ask("storm", asked).then(() => "played", (error) => error.message);
-        const many = Array.from({ length: 10 }, played);
+        const [storm, text] = arguments;
+        const asked = { page, sides: [{ text, limit: "" }], storm, width: 500 };
+        const played = (asked) => ask("storm", asked).then(() => "played", (error) => error.message);
+        const many = Array.from({ length: 10 }, () => played(asked));
         let over = false;
         const all = Promise.all(many).then((ends) => { over = true; return ends; });
         return ask("plan", { text: "recurs(1)", limit: "", width: 500 }).then((plan) => {
-          const meanwhile = !over;
-          return all.then((ends) => [meanwhile, plan.picture, ends]);
+          const meanwhile = !over, last = played({ ...asked, storm: { seconds: 1 } });
+          return Promise.all([all, last]).then(([ends, end]) => [meanwhile, plan.picture, [...ends, end]]);
         });
-        """
+        """,
+        LONG,
+        LONG_POLICY,
     )
     assert meanwhile and picture.startswith("<svg ")
-    assert sorted(ends) == ["played"] + ["the storm was broken off\n"] * 9
+    assert ends == ["the storm was broken off\n"] * 10 + ["played"]
 
 
 @pytest.mark.parametrize("dark", [False, True], ids=["light", "dark"])
@@ -461,6 +645,7 @@ def test_each_control_has_a_name_of_its_own(browser: Browser) -> None:
         "The storm",
         "Policy A",
         "Policy B",
+        "Clients beside",
         "Parameters of the storm",
         "Copy as",
         "Totals",
@@ -486,6 +671,17 @@ def test_pictures_of_the_program_can_be_read(window: Browser, tmp_path: Path, da
             ["storm", "--quota", "10/10%/1s", "--without", "--detail", FULL, "recurs(3)"],
             ["storm", "--scenario", "herd", "--window", "500", FULL, "recurs(3)"],
             brown,
+            [
+                "storm",
+                "--quota",
+                "10/10%/1s",
+                "--without",
+                "--beside",
+                f"30={FULL}",
+                "--beside",
+                "10@50=recurs(3)",
+                FULL,
+            ],
             ["plan", "recurs(5) & exponential(0.1, 2).cap(1).jittered()"],
             ["plan", "--took", "1300", "fixed(1)", "windowed(1)"],
         ]

@@ -123,6 +123,7 @@ static int faults(void) {
         {"{\"fixed\":0}", "top: expected {\"fixed\":D}, D from 1 to 4611686018427387903, got {\"fixed\":0}"},
         {"{\"meet\":[\"forever\",{\"cap\":[5,{\"exponental\":[1,2]}]}]}",
          "meet[1].cap[1]: no node is called \"exponental\"; did you mean \"exponential\"?"},
+        {"\"\\u0000\\u001b[1m\"", "top: no node is called \"\\u0000\\u001b[1m\""},
         {"{\"first\":{\"join\":[{\"lone\":-1},7]}}",
          "first.join[0]: expected {\"lone\":D}, D from 0 to 4611686018427387903, got {\"lone\":-1}"},
     };
@@ -1249,8 +1250,30 @@ static hikebox_totals plays_at(int line, const char *json, const hikebox_storm *
 }
 #define plays(json, storm, wanted) plays_at(__LINE__, json, storm, wanted)
 
+// What a storm of two populations of these policies comes to: of all requests, or of those of one population. Its events
+// are of one window.
+static hikebox_totals plays_two_at(int line, const char *json, const char *beside, hikebox_storm storm, uint64_t of) {
+    hikebox_policy policy = HIKEBOX_INIT, second = HIKEBOX_INIT, third = HIKEBOX_INIT, fourth = HIKEBOX_INIT;
+    hikebox_totals totals = HIKEBOX_TOTALS;
+    size_t count = 99;
+    storm.of = of;
+    wants_at(__FILE__, line, read_policy(json, &policy), HIKEBOX_OK);
+    wants_at(__FILE__, line, read_policy(beside, &second), HIKEBOX_OK);
+    wants_at(
+        __FILE__, line,
+        hikebox_storm_play_populations(&policy, &second, &third, &fourth, &storm, windows_told, 128, &count, &totals),
+        HIKEBOX_OK);
+    holds_at(__FILE__, line, count == 1);
+    wants_at(__FILE__, line, hikebox_policy_free(&policy), HIKEBOX_OK);
+    wants_at(__FILE__, line, hikebox_policy_free(&second), HIKEBOX_OK);
+    wants_at(__FILE__, line, hikebox_policy_free(&third), HIKEBOX_EMPTY);
+    return totals;
+}
+#define plays_two(json, beside, storm, of) plays_two_at(__LINE__, json, beside, storm, of)
+
 // A storm with one parameter changed is refused, and nothing is written.
 static void refuses_at(int line, hikebox_policy *policy, hikebox_storm storm) {
+    hikebox_policy second = HIKEBOX_INIT, third = HIKEBOX_INIT, fourth = HIKEBOX_INIT;
     hikebox_totals totals = HIKEBOX_TOTALS;
     size_t count = 99;
     memset(&totals, 7, sizeof totals);
@@ -1258,6 +1281,10 @@ static void refuses_at(int line, hikebox_policy *policy, hikebox_storm storm) {
     hikebox_totals before = totals;
     wants_at(__FILE__, line, hikebox_storm_play(policy, &storm, windows_told, 128, &count, &totals),
              HIKEBOX_OUT_OF_RANGE);
+    wants_at(
+        __FILE__, line,
+        hikebox_storm_play_populations(policy, &second, &third, &fourth, &storm, windows_told, 128, &count, &totals),
+        HIKEBOX_OUT_OF_RANGE);
     holds_at(__FILE__, line, count == 99 && memcmp(&before, &totals, sizeof totals) == 0);
 }
 // The same of `storm` with this field changed, by `policy`.
@@ -1341,12 +1368,37 @@ static void phases_out_of_range(hikebox_policy *policy) {
     refuses(rate, 18079); // 5 in the first second, none in the second, and 58 times as many as 1,048,582
 }
 
+// Four populations, each of whose numbers is out of range in turn.
+static void populations_out_of_range(hikebox_policy *policy) {
+    hikebox_storm storm = HIKEBOX_STORM;
+    storm.second = (hikebox_population){40, 500, 0};
+    storm.third = (hikebox_population){30, 1, 1};
+    storm.fourth = (hikebox_population){29, 3600000, 1};
+    refuses(second.share, 41);
+    refuses(third.share, 31);
+    refuses(fourth.share, 30);
+    refuses(second.share, UINT64_MAX - 58); // the sum of the shares would be 0 as one of 64 bits
+    refuses(second.patience, 0);
+    refuses(third.patience, 3600001);
+    refuses(second.limited, 2);
+    refuses(third.limited, UINT64_MAX);
+    refuses(fourth.limited, 256);
+    refuses(of, 5);
+    refuses(of, UINT64_MAX);
+    storm.second.share = storm.third.share = storm.fourth.share = 0;
+    refuses(second.patience, 3600001);
+    refuses(of, 2);
+    refuses(of, 3);
+    refuses(of, 4);
+}
+
 static void storms_out_of_range(void) {
     hikebox_policy policy = HIKEBOX_INIT;
     wants(read_policy("{\"recurs\":1}", &policy), HIKEBOX_OK);
     parameters_out_of_range(&policy);
     limits_out_of_range(&policy);
     phases_out_of_range(&policy);
+    populations_out_of_range(&policy);
     wants(hikebox_policy_free(&policy), HIKEBOX_OK);
 }
 
@@ -1363,6 +1415,81 @@ static void storms_refused(void) {
     wants(hikebox_budget_fixed(1, &pass), HIKEBOX_OK);
     wants(hikebox_storm_play((hikebox_policy *)&pass, &storm, windows_told, 121, &count, &totals), HIKEBOX_WRONG_KIND);
     wants(hikebox_pass_free(&pass), HIKEBOX_OK);
+}
+
+// The same of populations: each handle that is wrong in turn. All keep what they hold.
+static void populations_refused(void) {
+    hikebox_policy four[4] = {HIKEBOX_INIT, HIKEBOX_INIT, HIKEBOX_INIT, HIKEBOX_INIT};
+    hikebox_pass pass = HIKEBOX_INIT;
+    hikebox_storm storm = HIKEBOX_STORM;
+    hikebox_totals totals = HIKEBOX_TOTALS;
+    size_t count = 99;
+#define plays_four(room)                                                                                               \
+    hikebox_storm_play_populations(four, four + 1, four + 2, four + 3, &storm, windows_told, room, &count, &totals)
+    wants(plays_four(120), HIKEBOX_NO_ROOM);
+    holds(count == 121);
+    wants(plays_four(121), HIKEBOX_EMPTY);
+    wants(read_policy("{\"recurs\":1}", four + 1), HIKEBOX_OK);
+    wants(plays_four(121), HIKEBOX_EMPTY);
+    wants(hikebox_policy_share(four + 1, four), HIKEBOX_OK);
+    wants(hikebox_policy_free(four + 1), HIKEBOX_OK);
+    wants(hikebox_budget_fixed(1, &pass), HIKEBOX_OK);
+    for (int at = 0; at < 4; at++) {
+        hikebox_policy kept = four[at];
+        four[at] = *(hikebox_policy *)&pass;
+        wants(plays_four(120), HIKEBOX_NO_ROOM);
+        wants(plays_four(121), HIKEBOX_WRONG_KIND);
+        holds(count == 121 && totals.requests == 0 && memcmp(four + at, &pass, sizeof pass) == 0);
+        four[at] = kept;
+    }
+    wants(plays_four(121), HIKEBOX_OK);
+    holds(totals.requests == 48000);
+    wants(hikebox_pass_free(&pass), HIKEBOX_OK);
+    wants(hikebox_policy_free(four), HIKEBOX_OK);
+}
+
+// A hundred requests at one moment, thirty of them of a second population.
+static void populations(void) {
+    hikebox_storm storm = HIKEBOX_STORM;
+    storm.rate = storm.together = 100;
+    storm.seconds = 1;
+    storm.capacity = 1000000;
+    storm.outage_from = 0;
+    storm.outage_to = 2;
+    storm.second = (hikebox_population){30, 500, 0};
+    // Refused at 0; the first population calls again at 1 and at 2, the second never.
+    hikebox_totals all = plays_two("{\"spaced\":1}", "{\"recurs\":0}", storm, 0);
+    holds(all.requests == 100 && all.won == 70 && all.lost == 30 && all.calls == 240);
+    hikebox_totals first = plays_two("{\"spaced\":1}", "{\"recurs\":0}", storm, 1);
+    holds(first.requests == 70 && first.won == 70 && first.lost == 0 && first.calls == 210 && first.tickets == 0);
+    hikebox_totals second = plays_two("{\"spaced\":1}", "{\"recurs\":0}", storm, 2);
+    holds(second.requests == 30 && second.won == 0 && second.lost == 30 && second.calls == 30);
+    holds(windows_told[0].requests == 30 && windows_told[0].refused == 30 && windows_told[0].retries == 0);
+    all = plays("{\"spaced\":1}", &storm, 1);
+    holds(all.won == 100 && all.calls == 300);
+    // A budget of 100: the first population takes 70 tickets at 0 and 30 at 1, and the second needs none.
+    storm.draws_on = HIKEBOX_ON_BUDGET;
+    storm.limit = 100;
+    all = plays_two("{\"spaced\":1}", "{\"spaced\":1}", storm, 0);
+    holds(all.won == 60 && all.denied == 40 && all.tickets == 100);
+    first = plays_two("{\"spaced\":1}", "{\"spaced\":1}", storm, 1);
+    holds(first.won == 30 && first.denied == 40 && first.tickets == 100);
+    second = plays_two("{\"spaced\":1}", "{\"spaced\":1}", storm, 2);
+    holds(second.won == 30 && second.denied == 0 && second.tickets == 0);
+    // If it is limited all tickets are gone at 0.
+    storm.second.limited = 1;
+    first = plays_two("{\"spaced\":1}", "{\"spaced\":1}", storm, 1);
+    second = plays_two("{\"spaced\":1}", "{\"spaced\":1}", storm, 2);
+    holds(first.denied == 70 && first.tickets == 70 && second.denied == 30 && second.tickets == 30);
+    // One call of work a millisecond: of the second population only the requests 0, 2, 5 and 7 are done within 10 ms.
+    storm.capacity = 1000;
+    storm.outage_to = 0;
+    storm.second.patience = 10;
+    first = plays_two("{\"recurs\":0}", "{\"recurs\":0}", storm, 1);
+    holds(first.won == 70 && first.slowest == 100);
+    second = plays_two("{\"recurs\":0}", "{\"recurs\":0}", storm, 2);
+    holds(second.won == 4 && second.lost == 26 && second.slowest == 8);
+    holds(windows_told[0].late == 26 && windows_told[0].waiting == 0);
 }
 
 static int storms(void) {
@@ -1426,8 +1553,10 @@ static int storms(void) {
     cut.calls = 5;
     totals = plays("\"forever\"", &cut, 1);
     holds(totals.cut && totals.calls == 5 && totals.open == 1);
+    populations();
     storms_out_of_range();
     storms_refused();
+    populations_refused();
     return wrong;
 }
 
@@ -1539,6 +1668,9 @@ static int calls(void) {
     storm.outage_from = 0;
     storm.until = 100000;
     again(hikebox_storm_play(&policy, &storm, windows_told, 128, &length, &totals));
+    holds(totals.requests == 4 && totals.lost == 4 && totals.calls == 12);
+    storm.second = (hikebox_population){50, 500, 0};
+    again(hikebox_storm_play_populations(&policy, &second, &both, &none, &storm, windows_told, 128, &length, &totals));
     holds(totals.requests == 4 && totals.lost == 4 && totals.calls == 12);
     again(make_node("cap", &number, 1, &policy, &none, &both));
     again(hikebox_policy_free(&both));

@@ -28,6 +28,10 @@ cc "${flags[@]}" -o "$work/linked" "$top/tests/library.c" "$top/tests/policies.c
 "$top/bin/install" --prefix "$work/home/.local" >"$work/out"
 cc "${flags[@]}" -o "$work/loaded" "$top/tests/library.c" "$top/tests/policies.c" "$top/tests/leases.c" "$top/tests/structs.c" "$top/tests/limits.c" "-L$dist" "-Wl,-rpath,$work/home/.local/lib" -lhikebox
 cc "${flags[@]}" -o "$work/retry" "$top/examples/c/retry.c" "$dist/libhikebox.a"
+for standard in c++98 c++20; do
+  c++ "-std=$standard" -Wall -Wextra -pedantic -Werror -Wno-long-long "-I$dist" -o "$work/header" "$top/tests/header.cc" \
+    "$dist/libhikebox.a" && "$work/header" || wrong "the header in $standard"
+done
 exported=$(nm -D --defined-only "$dist/libhikebox.so" | awk '$2 == "T" { print $NF }' | LC_ALL=C sort)
 shown=$(nm --defined-only "$dist/libhikebox.a" 2>/dev/null | awk '$2 ~ /^[A-Z]$/ { print $3 }' | LC_ALL=C sort)
 declared=$(sed -nE 's/^(.* )?(hikebox_status |const char \*)(hikebox_[a-z_]*)\(.*/\3/p' "$top/include/hikebox.h" | LC_ALL=C sort)
@@ -69,7 +73,8 @@ for late in 1 840000 999999; do
     wrong "examples/c/retry.c, $late ns late, waits $(xargs <"$work/waits") and not $(xargs <"$work/whole")"
 done
 
-# The second to sixth block of docs/C.md, in functions that have what they name. The first stands in examples/c/poll.c.
+# The second to sixth block of docs/C.md and the eighth, in functions that have what they name. The first stands in
+# examples/c/poll.c, and the seventh in examples/c/storm.c.
 {
   printf '#include <hikebox.h>\n#include <stdio.h>\nuint64_t now(void);\n'
   printf 'void wait_until(uint64_t moment);\nbool fetch(void);\n'
@@ -88,6 +93,11 @@ done
   printf 'int lease(int file, hikebox_leased leased) {\n'
   block 6
   printf 'return 0;\n}\n'
+  printf 'int populations(hikebox_policy policy, hikebox_storm storm, hikebox_window *windows);\n'
+  printf 'int populations(hikebox_policy policy, hikebox_storm storm, hikebox_window *windows) {\n'
+  printf 'size_t count;\nhikebox_place place;\nhikebox_totals totals = HIKEBOX_TOTALS;\n'
+  block 8
+  printf 'return 0;\n}\n'
 } >"$work/page.c"
 cc "${flags[@]}" -c -o "$work/page.o" "$work/page.c" || wrong "docs/C.md: its blocks are not compiled"
 
@@ -101,9 +111,16 @@ import sys
 sys.exit(not sys.argv[2].strip() or sys.argv[2] not in open(sys.argv[1]).read())
 EOF
 
-# The storm that never ends, and the same under a quota: 7.62 and 1.02 calls for each request.
+# The storm that never ends, and the same under a quota: 7.62 and 1.02 calls for each request. Under a quota for seven
+# tenths of the requests it never ends either: 1.10 calls for each of these, and 7.46 for each of the others.
 cc "${flags[@]}" -o "$work/storm" "$top/examples/c/storm.c" "$dist/libhikebox.a"
-printf 'no limit: 365567 calls for 48000 requests in 81 windows, never recovered\na quota: 48900 calls for 48000 requests in 60 windows, recovered at 20000 ms\n' >"$work/want"
+cat >"$work/want" <<'EOF'
+no limit: 365567 calls for 48000 requests in 81 windows, never recovered
+a quota: 48900 calls for 48000 requests in 60 windows, recovered at 20000 ms
+a quota for 70 %: 144273 calls for 48000 requests in 80 windows, never recovered
+these 70 %: 36834 calls for 33600 requests in 61 windows, never recovered
+the other 30 %: 107439 calls for 14400 requests in 80 windows, never recovered
+EOF
 "$work/storm" >"$work/out" && cmp -s "$work/out" "$work/want" || wrong "examples/c/storm.c: $(cat "$work/out")"
 
 # A budget in a file: eight processes draw its 1,000 tickets, each once. A file that is cut off grants nothing.
@@ -115,6 +132,16 @@ sort -n "$work"/drawn.* | cmp -s - <(seq 0 999) || wrong "examples/c/lease.c: $(
 : >"$work/counts"
 ! "$work/lease" "$work/counts" 1 >"$work/out" 2>&1 && [ "$(cat "$work/out")" = 'expected 24 bytes of counts, got less' ] ||
   wrong "examples/c/lease.c draws of a file that is cut off: $(cat "$work/out")"
+"$work/lease" "$work/full" new
+status=0
+"$work/lease" "$work/full" 5 >/dev/full 2>"$work/err" || status=$?
+[ "$status" = 1 ] && [ "$(cat "$work/err")" = 'standard output: No space left on device' ] ||
+  wrong "examples/c/lease.c on a full disk: $status, $(cat "$work/err")"
+cp "$work/full" "$work/before"
+status=0
+"$work/lease" "$work/full" 5 2>"$work/err" >&- || status=$?
+[ "$status" = 1 ] && [ "$(cat "$work/err")" = 'standard output: Bad file descriptor' ] && cmp -s "$work/full" "$work/before" ||
+  wrong "examples/c/lease.c without a standard output: $status, $(cat "$work/err")"
 
 # Words that the examples don't take.
 # mistakes STATUS LINE WORD..: an example ends so and says this line on standard error, and nothing else
@@ -156,6 +183,11 @@ wait "$server" || true
 status=0
 "$work/poll" "$port" </dev/null >"$work/out" || status=$?
 [ "$status" = 1 ] && [ "$(cat "$work/out")" = 'Connection refused after retries' ] || wrong "examples/c/poll.c: $status, $(cat "$work/out")"
+cc "${flags[@]}" -shared -fPIC -o "$work/refused.so" "$top/tests/refused.c" -ldl
+status=0
+LD_PRELOAD=$work/refused.so "$work/poll" "$port" </dev/null >"$work/out" || status=$?
+[ "$status" = 1 ] && [ "$(cat "$work/out")" = 'Connection refused after retries' ] ||
+  wrong "examples/c/poll.c, refused by connect(): $status, $(cat "$work/out")"
 
 # Policies along their courses: each event as the others, and each with an input and words of its own.
 python3 "$top/tests/random_policies.py" 300 18 >"$work/policies"

@@ -175,11 +175,11 @@ static void four(void) {
     admits(&opens, 0, HIKEBOX_OK, 0);
     wants(hikebox_limit_failed(&opens, 0), HIKEBOX_OK);
     draws(&first, 0, 1000, HIKEBOX_BREAKER_OPEN, 100);
-    wants(hikebox_limit_ended(&first), HIKEBOX_OK);
     for (int at = 0; at < 3; at++) {
         admits(&alone[at], 0, HIKEBOX_OK, 0);
         draws(&alone[at], 0, 1000, HIKEBOX_OK, 0);
     }
+    wants(hikebox_limit_ended(&first), HIKEBOX_OK);
     // A fifth is refused, and both handles are as they were.
     wants(hikebox_limit_both(&first, &opens), HIKEBOX_OUT_OF_RANGE);
     wants(hikebox_limit_both(&opens, &first), HIKEBOX_OUT_OF_RANGE);
@@ -260,6 +260,23 @@ static void kept(void) {
     steps_breaker(&killed, HIKEBOX_TELL_FAILED, 1321, HIKEBOX_OK, 0);
     steps_breaker(&two, HIKEBOX_TELL_SUCCEEDED, 1322, HIKEBOX_OK, 0);
     steps_breaker(&one, HIKEBOX_TELL_DRAW, 1323, HIKEBOX_OK, 0);
+}
+
+// A breaker's clock goes to 2^37 - 1. Up to there it stays open; a later moment, as one since 1970, is refused.
+static void clock_ends(void) {
+    const uint64_t last = (UINT64_C(1) << 37) - 1, since_1970 = UINT64_C(1764342000000);
+    hikebox_request one = {0}, two = {0};
+    store = (hikebox_kept){0};
+    steps_breaker(&one, HIKEBOX_TELL_ADMIT, last - 60000, HIKEBOX_OK, 0);
+    steps_breaker(&one, HIKEBOX_TELL_FAILED, last - 60000, HIKEBOX_OK, 0);
+    steps_breaker(&one, HIKEBOX_TELL_FAILED, last - 50, HIKEBOX_OK, 0);
+    steps_breaker(&two, HIKEBOX_TELL_ADMIT, last - 1, HIKEBOX_BREAKER_OPEN, last);
+    steps_breaker(&two, HIKEBOX_TELL_ADMIT, last, HIKEBOX_OK, 0);
+    store = (hikebox_kept){0};
+    one = (hikebox_request){0};
+    steps_breaker(&one, HIKEBOX_TELL_ADMIT, last + 1, HIKEBOX_TOO_LARGE, 77);
+    steps_breaker(&one, HIKEBOX_TELL_ADMIT, since_1970, HIKEBOX_TOO_LARGE, 77);
+    holds(!store.known && !store.word && !one.counted);
 }
 
 // Terms, moments and calls that there are not.
@@ -425,6 +442,7 @@ int limits(void) {
     pairs();
     four();
     kept();
+    clock_ends();
     steps_refused();
     refusals();
     races();

@@ -43,7 +43,8 @@ if [ "$(id -u)" != 0 ]; then
 fi
 log=$(mktemp)
 trap 'rm -f "$log"' EXIT
-# (RUNLEVEL keeps a server that is installed from being started)
+# (RUNLEVEL keeps a server that is installed from being started; a new machine may be installing updates by itself)
+wait=(-o DPkg::Lock::Timeout=600)
 export RUNLEVEL=1 DEBIAN_FRONTEND=noninteractive
 
 # try COMMAND..: runs it; what it wrote is shown where it fails
@@ -55,6 +56,6 @@ try() {
   }
 }
 
-try apt-get update
+try apt-get update "${wait[@]}"
 tell_missing
-try "${install[@]}"
+try "${install[@]}" "${wait[@]}"

@@ -3,7 +3,7 @@
 # and its status with what is wanted. HIKEBOX_ZSCHED names the program, that of dist/ where it does not.
 set -euo pipefail
 top=$(cd "$(dirname "${BASH_SOURCE[0]}")/.." && pwd)
-zsched=${HIKEBOX_ZSCHED:-$top/dist/zsched}
+zsched=$(realpath "${HIKEBOX_ZSCHED:-$top/dist/zsched}")
 work=$(mktemp -d)
 trap 'rm -rf "$work"' EXIT
 failed=0
@@ -344,6 +344,8 @@ for words in and:meet or:join andThen:follow retry:recurs times:recurs constant:
   input "{\"${words%:*}\":1}"
   wants 3 "top: no node is called \"${words%:*}\"; did you mean \"${words#*:}\"?\n" 'zsched: not a plan\n' check
 done
+input '{"\\u001b[31mrecurs\\nplan: 1 node":3}'
+wants 3 'top: no node is called "\\u001b[31mrecurs\\u000aplan: 1 node"\n' 'zsched: not a plan\n' check
 input '{"exponential":[100,1.5]}'
 more=', got {"exponential":[100,1.5]}; a factor of 1.5 is 1500 in "exponential_milli"'
 wants 3 "top: expected {\"exponential\":[D,F]}, D from 0 to $((past_far - 1)), F from 1 to 1000$more\n" \
@@ -390,6 +392,133 @@ wants 0 "${names}1,1,1,0,0,0,2,200,2,0,0,11,11,11,,false\n2,2,2,0,0,0,3,150,3,0,
   storm $one --sweep rate=1,2 --csv
 input '"forever"'
 wants 6 "${names}1,1,0,0,0,1,5,500,5,0,0,,,,,true\n" 'zsched: not finished\n' storm $one --calls 5 --sweep rate=1 --csv
+# Populations. Four requests come at 0, and the peer refuses each. The second population has the first request and the
+# third, whose places among a hundred are 0 and 22; those of the others are 61 and 83. With one ticket the first
+# population makes one call more, at 10. The second one draws on nothing, and makes both of its calls at 20.
+input '{"meet":[{"recurs":1},{"spaced":10}]}'
+cp "$work/in" "$work/in.json"
+printf '{"meet":[{"recurs":1},{"spaced":20}]}' >"$work/b"
+four='--rate 4 --together 4 --seconds 1 --outage 0..5'
+columns='from,requests,won,retries,succeeded,refused,shed,late,waiting\n'
+some='4 requests: 3 won, 0 lost, 1 denied a retry, 0 left open
+7 calls, 1.75 for each request
+the most in a window are 7, from 0 ms
+1 ticket of 1 given
+won after 21 ms (50 in 100), 22 ms (99 in 100), 22 ms (all)
+never recovered
+                       all             -             b
+share %                100            70            30
+requests                 4             2             2
+won                      3             1             2
+lost                     0             0             0
+denied                   1             1             0
+open                     0             0             0
+calls                    7             3             4
+for each              1.75          1.50          2.00
+most calls               7             3             4
+tickets                  1             1             0
+50 in 100 ms            21            11            21
+99 in 100 ms            22            11            22
+slowest ms              22            11            22
+recovered ms         never         never         never
+'
+cd "$work"
+wants 0 "  won %  from ms  requests  retries  failed  waiting  # request, + retry
+     75        0         4        3       4        0  ###############+++++++++++
+                                                      0                  7 calls
+$some" '' storm $four --budget 1 --beside 30=b
+wants 0 "  from  requests  won  retries  succeeded  refused  shed  late  waiting
+     0         4    3        3          3        4     0     0        0
+$some" '' storm $four --budget 1 --beside 30=b --plain
+wants 0 "${columns}0,4,3,3,3,4,0,0,0\n" '' storm $four --budget 1 --beside 30=b --csv
+wants 0 "{\"windows\":[[0,4,3,3,3,4,0,0,0]],\
+\"totals\":{\"requests\":4,\"won\":3,\"lost\":0,\"denied\":1,\"open\":0,\"calls\":7,\"hundredths\":175,\"most_calls\":7,\
+\"most_from\":0,\"tickets\":1,\"p50\":21,\"p99\":22,\"slowest\":22,\"recovered\":null,\"cut\":false},\
+\"populations\":[{\"share\":70,\"windows\":[[0,2,1,1,1,2,0,0,0]],\
+\"totals\":{\"requests\":2,\"won\":1,\"lost\":0,\"denied\":1,\"open\":0,\"calls\":3,\"hundredths\":150,\"most_calls\":3,\
+\"most_from\":0,\"tickets\":1,\"p50\":11,\"p99\":11,\"slowest\":11,\"recovered\":null,\"cut\":false}},\
+{\"share\":30,\"windows\":[[0,2,2,2,2,2,0,0,0]],\
+\"totals\":{\"requests\":2,\"won\":2,\"lost\":0,\"denied\":0,\"open\":0,\"calls\":4,\"hundredths\":200,\"most_calls\":4,\
+\"most_from\":0,\"tickets\":0,\"p50\":21,\"p99\":22,\"slowest\":22,\"recovered\":null,\"cut\":false}}]}\n" '' \
+  storm $four --budget 1 --beside 30=b --json
+# A call takes 10 ms. A client of the second population waits for 5 of them, or for as long as any in the storm.
+late='--rate 1 --seconds 1 --outage 0..0 --capacity 100 --csv'
+printf '{"recurs":0}' >"$work/a=b@1+2"
+wants 0 "${columns}0,1,0,0,0,0,0,1,0\n" '' storm $late --beside 1@5=a=b@1+2
+wants 0 "${columns}0,1,1,0,1,0,0,0,0\n" '' storm $late --beside 1=a=b@1+2
+names='patience,requests,won,lost,denied,open,calls,hundredths,most_calls,most_from,tickets,p50,p99,slowest,recovered,cut\n'
+wants 0 "${names}5,1,0,1,0,0,1,100,1,0,0,,,,,false\n500,1,1,0,0,0,1,100,1,0,0,10,10,10,0,false\n" '' \
+  storm $late --beside 1=a=b@1+2 --sweep patience=5,500
+wants 0 "${names}5,1,1,0,0,0,1,100,1,0,0,10,10,10,0,false\n" '' storm $late --beside 1@500=a=b@1+2 --sweep patience=5
+
+# added SHARE..: in the JSON of a storm of populations with these shares, in a line of standard input, of each hundred
+# requests each population has its share, and what is counted of the populations, in all and in each window, adds up to
+# what is counted of all requests.
+added() {
+  sed 's/"windows":/\n/g' | awk -v wanted="$*" '
+    function number(text, name) {
+      return match(text, "\"" name "\":[0-9]+") ? substr(text, RSTART + length(name) + 3, RLENGTH - length(name) - 3) : "none"
+    }
+    NR == 1 { next }
+    {
+      sign = NR == 2 ? 1 : -1
+      for (at = split("requests won lost denied open calls tickets", names, " "); at > 0; at--) {
+        sum[names[at]] += sign * number($0, names[at])
+      }
+      windows = substr($0, 3, index($0, "]]") - 3)
+      for (at = split(windows, rows, /\],\[/); at > 0; at--) {
+        split(rows[at], cells, ",")
+        for (cell = 2; cell <= 8; cell++) sum[cells[1] " " cell] += sign * cells[cell]
+        if (NR > 2 && cells[9] != 0) wrong = 1
+      }
+      if (NR == 2) { all = number($0, "requests"); if (all == 0 || all % 100 != 0) wrong = 1 }
+      else if (number($0, "requests") * 100 != share * all) wrong = 1
+      share = number($0, "share")
+      if (share != "none") shares = shares (shares == "" ? "" : " ") share
+    }
+    END { for (key in sum) if (sum[key] != 0) wrong = 1; exit wrong || shares != wanted }'
+}
+
+cp "$top/plans/back-off.json" "$top/plans/three-times.json" "$work"
+several='--beside 30@2000+limited=three-times.json --beside 9@700=back-off.json --beside 20=three-times.json'
+for limit in '' '--budget 100' '--quota 10/10%/1s' '--limit grpc:100/100'; do
+  # shellcheck disable=SC2086
+  "$zsched" storm --json $limit $several back-off.json >"$work/out" && added 41 30 9 20 <"$work/out" ||
+    { echo "tests/program.sh: zsched storm $limit $several: the populations do not add up" >&2; failed=1; }
+done
+# Populations that are alike are one: what is told of all requests is what is told without them.
+for words in '' --csv --plain --json '--sweep rate=400,800' '--sweep rate=400,800 --json'; do
+  # shellcheck disable=SC2086
+  "$zsched" storm --quota 10/10%/1s $words back-off.json >"$work/alone"
+  # shellcheck disable=SC2086
+  "$zsched" storm --quota 10/10%/1s $words --beside 20+limited=back-off.json --beside 30@500+limited=back-off.json back-off.json |
+    sed 's/,"populations":.*/}/; /^                       all  /,$d' >"$work/out"
+  cmp -s "$work/alone" "$work/out" || { echo "tests/program.sh: zsched storm $words: populations that are alike" >&2; failed=1; }
+done
+# The first request waits, and the second makes its calls at once until the storm is cut, which is not finished then. A
+# further plan that is refused is told with its file.
+input '"forever"'
+wants 6 "${columns}0,2,0,3,0,5,0,0,0\n" 'zsched: not finished\n' storm $four --calls 5 --beside 30=b --csv
+wants 4 '' 'zsched: read failed\nnone.json: No such file or directory (os error 2)\n' storm --beside 5=b --beside 30=none.json
+wants 4 '' 'zsched: read failed\n-: No such file or directory (os error 2)\n' storm --beside 30=- --beside 30=-
+printf '{"fixed":0}' >"$work/bad.json"
+refuses 'number out of range' 'bad.json: top: expected {"fixed":D}, D from 1 to 4611686018427387903, got {"fixed":0}' \
+  storm --beside 5=b --beside 30=bad.json
+cd "$OLDPWD"
+beside='--beside <PERCENT[@PATIENCE][+limited]=FILE>'
+spelt='expected a percentage and a file, such as 30=plans/back-off.json or 30@2000+limited=plans/back-off.json; '
+spelt+='PERCENT is from 1 to 99, and PATIENCE from 1 to 3600000'
+for word in 0=x 100=x =x 30= 30 30x=x 1.5=x -1=x 30@0=x 30@3600001=x 30@5000000=x 30@=x 30@5@5=x @5=x 30+=x 30+unlimited=x \
+  30+limited+limited=x 30+limited@5=x 18446744073709551617=x; do
+  bad "invalid value '$word' for '$beside': $spelt" storm --beside="$word"
+done
+bad "invalid value '30@0=x' for '$beside': $spelt" storm --beside 30=x --beside 30@0=x
+bad "'$beside' has more than 99 per cent of the requests" storm --beside 40=x --beside 40=x --beside 20=x
+bad "the argument '$beside' cannot be used more than 3 times" storm --beside 1=x --beside 1=x --beside 1=x --beside 1=x
+bad "the argument '$beside' cannot be used with '--compare <FILE>'" storm --beside 30=x --compare x
+bad "the argument '--limit <LIMIT>' cannot be used multiple times without '--compare <FILE>'" \
+  storm --beside 30=x --limit aws --limit grpc:1/1
+
 # Of a further plan that is refused the file is told too.
 wants 4 '' "zsched: read failed\n$work/none.json: No such file or directory (os error 2)\n" storm --compare "$work/none.json"
 wants 4 '' "zsched: read failed\n$work: Is a directory (os error 21)\n" storm --compare "$work"
@@ -421,11 +550,11 @@ bad .. storm --quota 1/2/300 --budget 1
 bad .. storm --csv --json
 bad .. storm --csv --compare "$work/one.json"
 bad "invalid value 'rats=1' for '--sweep <NAME=VALUES>': expected a parameter and its values, such as rate=200..1600/8; \
-the parameters are rate, clients, together, capacity, queue, patience, outage, share, reserve and budget" storm --sweep rats=1
+the parameters are rate, clients, together, capacity, queue, patience, outage, share, reserve, budget and beside" storm --sweep rats=1
 bad "invalid value 'rate=2,1' for '--sweep <NAME=VALUES>': expected 1 to 64 values, each greater than the one before, \
 such as rate=200..1600/8 or rate=200,400" storm --sweep rate=2,1
 bad "invalid value 'share=1' for '--sweep <NAME=VALUES>': expected values in the range of the parameter; \
-a share and a reserve are of --quota, and a budget of --budget" storm --sweep share=1
+a share and a reserve are of --quota, a budget of --budget, and beside of --beside" storm --sweep share=1
 
 # Standard input that is a folder can't be read, but a bad command line is refused before anything is.
 rm "$work/in"

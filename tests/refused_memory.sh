@@ -248,6 +248,8 @@ tries_zsched() {
   beside tries refuses 0 "$jitter" storm --rate 3 --seconds 1 --outage 0..500
   beside tries refuses 0 "$jitter" storm --rate 3 --seconds 1 --outage 0..500 --quota 1/50%/1s --json
   beside tries refuses 0 "$jitter" storm --rate 3 --seconds 1 --compare "$top/plans/three-times.json"
+  beside tries refuses 0 "$jitter" storm --rate 3 --seconds 1 --outage 0..500 --beside "30=$top/plans/three-times.json" --json
+  beside tries refuses 0 "$jitter" storm --rate 3 --seconds 1 --beside "30=$top/plans/three-times.json" --sweep rate=1,2
   beside tries refuses 3 "$jitter" storm --compare "$top/jobs/three-calls.json"
   beside tries refuses 4 "$jitter" storm --compare "$top/plans/none.json"
   beside tries refuses 6 '"forever"' storm --rate 1 --seconds 1 --outage 0..10 --calls 5 --csv

@@ -52,8 +52,10 @@ printf '%s\n' SHA256SUMS "hikebox-$version-linux-aarch64.tar.gz" "hikebox-$versi
 (cd "$work/release" && printf '%s\n' *) | LC_ALL=C sort | cmp - <(LC_ALL=C sort "$work/want") ||
   fails "it has other files: $(ls "$work/release")"
 (cd "$work/release" && sha256sum --quiet -c SHA256SUMS) || fails "a checksum is wrong"
-"$clone/bin/release" "$work/again" >/dev/null
-diff -r "$work/release" "$work/again" || fails "two releases differ"
+"$clone/bin/release" "$work/again here" >"$work/said"
+grep -qF "twine upload $work/again\\ here/*.whl $work/again\\ here/hikebox-" "$work/said" ||
+  fails "what is left to do in a folder with a space: $(cat "$work/said")"
+diff -r "$work/release" "$work/again here" || fails "two releases differ"
 
 # The tarball, in another place; and the one for aarch64 has a library for it.
 mkdir "$work/tarball"
@@ -86,6 +88,19 @@ assert {"libgcc", "serde_json", "tokio"} <= {one["name"] for one in told["compon
 END
 
 # What is refused.
+for words in '' -x 'one two'; do
+  status=0
+  # shellcheck disable=SC2086
+  (cd "$work" && "$clone/bin/release" $words) 2>"$work/said" || status=$?
+  [ "$status" = 2 ] && [ "$(cat "$work/said")" = 'bin/release: bin/release FOLDER' ] ||
+    fails "the words '$words': $status, $(cat "$work/said")"
+done
+mkdir "$work/tools"
+for tool in bash env readlink mkdir realpath ls git python3; do ln -s "$(command -v "$tool")" "$work/tools"; done
+status=0
+PATH=$work/tools "$clone/bin/release" "$work/third" 2>"$work/said" || status=$?
+[ "$status" = 1 ] && [ "$(cat "$work/said")" = 'bin/release: expected cargo, got none on the PATH' ] && [ -z "$(ls "$work/third")" ] ||
+  fails "without cargo: $status, $(cat "$work/said")"
 status=0
 "$clone/bin/release" "$work/release" 2>"$work/said" || status=$?
 [ "$status" = 1 ] && grep -q 'expected an empty folder' "$work/said" ||

@@ -26,6 +26,10 @@ export CARGO_TARGET_DIR=$room/target
 registry=(--offline --quiet --config 'source.crates-io.replace-with="debian"'
   --config 'source.debian.directory="/usr/share/cargo/registry"')
 cargo test "${registry[@]}" --all-features | tee "$work/said"
+grep -q '^cargo:rustc-cfg=hikebox_pages$' "$CARGO_TARGET_DIR"/debug/build/hikebox-*/output || {
+  echo 'tests/rust.sh: the programs of the pages were not tested' >&2
+  exit 1
+}
 cargo check "${registry[@]}" --no-default-features
 RUSTDOCFLAGS='-D warnings' cargo doc "${registry[@]}" --no-deps --all-features
 passed=$(awk '/^test result: ok/ { sum += $4 } END { print sum }' "$work/said")

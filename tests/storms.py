@@ -15,7 +15,7 @@ import runpy
 import sys
 from dataclasses import dataclass, field
 from pathlib import Path
-from typing import Any, Dict, Iterator, List, NamedTuple, Optional, Set, Tuple
+from typing import Any, Dict, Iterator, List, NamedTuple, Optional, Sequence, Set, Tuple
 
 TOP = Path(__file__).resolve().parent.parent
 sys.path.insert(0, str(TOP / "python" / "tests"))
@@ -28,6 +28,17 @@ seeded = runpy.run_path(str(TOP / "python" / "src" / "hikebox" / "cli" / "seeded
 CALL = 100_000
 REFUSED, SHED, LATE, SUCCEEDED = 1, 2, 3, 0
 MAX_TICKETS = 2**32
+
+
+class Population(NamedTuple):
+    """Clients of one kind, who have so many of each hundred requests."""
+
+    share: int
+    plan: Any
+    #: None for the storm's.
+    patience: Optional[int] = None
+    #: Whether they draw on what the storm has, and ask its limit.
+    is_limited: bool = False
 
 
 @dataclass
@@ -57,6 +68,29 @@ class Storm:
     limit: Optional[Tuple[str, List[int], bool]] = None
     #: The plan of a breaker's open times.
     open_plan: Any = field(default_factory=lambda: {"spaced": 30_000})
+    #: The populations beside the first one, which has the plan and the patience of the storm.
+    beside: List[Population] = field(default_factory=list)
+
+    @property
+    def populations(self) -> List[Population]:
+        """All populations, the first one with the requests that the others leave."""
+        left = 100 - sum(population.share for population in self.beside)
+        others = [each._replace(patience=self.patience) if each.patience is None else each for each in self.beside]
+        return [Population(left, self.plan, self.patience, True), *others]
+
+    def population_of(self, request: int) -> int:
+        """Whose request this is: the population's place among all."""
+        place = request % 100 * 61 % 100
+        for number, population in enumerate(self.beside, 1):
+            if place < population.share:
+                return number
+            place -= population.share
+        return 0
+
+    @property
+    def has_limit(self) -> bool:
+        """Whether there is something to draw on."""
+        return any(each is not None for each in (self.budget, self.quota, self.limit))
 
     @property
     def last(self) -> int:
@@ -100,7 +134,7 @@ class Replica:
         """The units of work that stand there."""
         return max(0, self.busy - self.storm.can_be_done(moment))
 
-    def call(self, moment: int) -> Tuple[int, int]:
+    def call(self, moment: int, patience: int) -> Tuple[int, int]:
         """When a call that comes at this moment ends, and how."""
         storm = self.storm
         begins, ends = storm.outage
@@ -110,7 +144,7 @@ class Replica:
         if ahead > 0 if storm.queue == 0 else ahead >= storm.queue * CALL:
             return moment, SHED
         self.busy = max(self.busy, storm.can_be_done(moment)) + CALL
-        gives_up = moment + storm.patience
+        gives_up = moment + patience
         if storm.can_be_done(gives_up) < self.busy:
             return gives_up, LATE
         return self._done_at(moment, gives_up), SUCCEEDED
@@ -364,16 +398,31 @@ def open_times(plan: Any) -> List[int]:
 @dataclass
 class Request:
     began: int
+    #: Whose it is, as a place among the populations.
+    population: int
     failures: List[reference.Event] = field(default_factory=list)
     #: How it ended, or "open".
     ending: str = "open"
     #: From its first call's beginning to its success.
     took: int = 0
+    #: The tickets that were given for its retries.
+    tickets: int = 0
+    #: The moment of the last of its events.
+    last_moment: int = 0
 
 
 class Call(NamedTuple):
     at: int
     is_retry: bool
+    population: int
+
+
+class End(NamedTuple):
+    """The end of a call."""
+
+    at: int
+    how: int
+    population: int
 
 
 class Course:
@@ -382,17 +431,16 @@ class Course:
     def __init__(self, storm: Storm) -> None:
         self.storm = storm
         self.replicas = [Replica(storm, number) for number in range(storm.replicas)]
-        self.tickets = Tickets(storm)
-        self.limit = limit_of(storm)
-        self.granted = 0
+        self.populations = storm.populations
+        #: What the clients of each population draw on and ask: one and the same for all that are limited.
+        limited, free = (Tickets(storm), limit_of(storm)), (Tickets(Storm(storm.plan)), Limit())
+        self.draws_on = [limited if population.is_limited else free for population in self.populations]
         self.words: Iterator[int] = seeded(storm.words)
         self.requests: Dict[int, Request] = {}
         self.calls: List[Call] = []
-        #: The calls that ended: when, and how.
-        self.ended: List[Tuple[int, int]] = []
+        self.ended: List[End] = []
         #: After each call that was taken: its moment, its replica, and the `busy` of that.
         self.taken: List[Tuple[int, int, int]] = []
-        self.last_moment = 0
         self.is_cut = False
         #: What is pending, by moment and request: a beginning (None), or how a call ends.
         self.pending: List[Tuple[int, int, Optional[int]]] = []
@@ -401,94 +449,122 @@ class Course:
         for request, moment in enumerate(self.storm.moments()):
             self._put(moment, request, None)
         while self.pending:
-            moment, request, what = heapq.heappop(self.pending)
-            if what is None and request not in self.requests and not self.limit.admit(moment, request):
-                self.last_moment = moment
-                self.requests[request] = Request(moment, ending="denied")
+            moment, number, what = heapq.heappop(self.pending)
+            if what is None and number not in self.requests and not self._admits(moment, number):
+                self.requests[number] = self._request(moment, number, "denied")
                 continue
             if what is None and len(self.calls) == self.storm.calls:
                 self.is_cut = True
                 return
-            self.last_moment = moment
             if what is None:
-                self._begin(moment, request)
+                self._begin(moment, number)
             else:
-                self._end(moment, request, what)
+                self._end(moment, number, what)
+            self.requests[number].last_moment = moment
 
     def _put(self, moment: int, request: int, what: Optional[int]) -> None:
         if moment <= self.storm.last:
             heapq.heappush(self.pending, (moment, request, what))
 
-    def _begin(self, moment: int, request: int) -> None:
-        is_retry = request in self.requests
+    def _admits(self, moment: int, number: int) -> bool:
+        _, limit = self.draws_on[self.storm.population_of(number)]
+        return limit.admit(moment, number)
+
+    def _request(self, moment: int, number: int, ending: str) -> Request:
+        return Request(moment, self.storm.population_of(number), ending=ending, last_moment=moment)
+
+    def _begin(self, moment: int, number: int) -> None:
+        is_retry = number in self.requests
         if not is_retry:
-            self.requests[request] = Request(moment)
-            self.tickets.count(moment)
-        number = len(self.calls) % self.storm.replicas
-        replica = self.replicas[number]
-        self.calls.append(Call(moment, is_retry))
+            self.requests[number] = self._request(moment, number, "open")
+        population = self.requests[number].population
+        if not is_retry:
+            self.draws_on[population][0].count(moment)
+        place = len(self.calls) % self.storm.replicas
+        replica = self.replicas[place]
+        self.calls.append(Call(moment, is_retry, population))
         before = replica.busy
-        ends, how = replica.call(moment)
+        patience = self.populations[population].patience
+        assert patience is not None
+        ends, how = replica.call(moment, patience)
         if replica.busy != before:
-            self.taken.append((moment, number, replica.busy))
-        self._put(ends, request, how)
+            self.taken.append((moment, place, replica.busy))
+        self._put(ends, number, how)
 
     def _end(self, moment: int, number: int, how: int) -> None:
-        self.ended.append((moment, how))
         request = self.requests[number]
+        population = self.populations[request.population]
+        tickets, limit = self.draws_on[request.population]
+        self.ended.append(End(moment, how, request.population))
         if how == SUCCEEDED:
             request.ending, request.took = "won", moment - request.began
-            self.limit.succeed(moment, number)
-            self.limit.end(number)
+            limit.succeed(moment, number)
+            limit.end(number)
             return
-        self.limit.fail(moment, number)
+        limit.fail(moment, number)
         a, b, c, d = (next(self.words) for _ in range(4))
         request.failures.append(reference.Event(moment, (a, b, c, d), how))
-        start = reference.answer(self.storm.plan, request.failures).start
+        start = reference.answer(population.plan, request.failures).start
         if start is None:
             request.ending = "lost"
-        elif not (self.tickets.draw(moment) and self.limit.draw(moment, number, how == LATE)):
+        elif not (tickets.draw(moment) and limit.draw(moment, number, how == LATE)):
             request.ending = "denied"
         else:
-            self.granted += 1
+            request.tickets += population.is_limited and self.storm.has_limit
             self._put(start, number, None)
             return
-        self.limit.end(number)
+        limit.end(number)
 
 
 ROW = ("from", "requests", "won", "retries", "succeeded", "refused", "shed", "late", "waiting")
 _COLUMNS = {SUCCEEDED: "succeeded", REFUSED: "refused", SHED: "shed", LATE: "late"}
 
 
-def rows_of(course: Course) -> List[Dict[str, int]]:
-    """The lines of the report, from the whole course."""
+def rows_of(course: Course, of: Optional[int] = None) -> List[Dict[str, int]]:
+    """The lines of the report on all requests, or on those of one population, from the whole course."""
     window = course.storm.window
-    rows = [dict.fromkeys(ROW, 0) for _ in range(course.last_moment // window + 1)]
-    for request in course.requests.values():
+    requests = requests_of(course, of)
+    rows = [dict.fromkeys(ROW, 0) for _ in range(max((one.last_moment for one in requests), default=0) // window + 1)]
+    for request in requests:
         rows[request.began // window]["requests"] += 1
         rows[request.began // window]["won"] += request.ending == "won"
     for call in course.calls:
-        rows[call.at // window]["retries"] += call.is_retry
-    for moment, how in course.ended:
-        rows[moment // window][_COLUMNS[how]] += 1
+        if of in (None, call.population):
+            rows[call.at // window]["retries"] += call.is_retry
+    for end in course.ended:
+        if of in (None, end.population):
+            rows[end.at // window][_COLUMNS[end.how]] += 1
+    for index, row in enumerate(rows):
+        row["from"] = index * window
+    if of is None:
+        _count_waiting(course, rows)
+    return rows
+
+
+def requests_of(course: Course, of: Optional[int]) -> List[Request]:
+    """All requests, or those of one population."""
+    return [request for request in course.requests.values() if of in (None, request.population)]
+
+
+def _count_waiting(course: Course, rows: List[Dict[str, int]]) -> None:
+    """Puts into each line how many calls wait at the peer when its window ends."""
     busy = [0] * course.storm.replicas
     taken = iter([*course.taken, (2**63, 0, 0)])
     at, replica, units = next(taken)
-    for index, row in enumerate(rows):
-        row["from"] = index * window
-        end = row["from"] + window
+    for row in rows:
+        end = row["from"] + course.storm.window
         while at < end:
             busy[replica] = units
             at, replica, units = next(taken)
         row["waiting"] = sum(max(0, unit - course.storm.can_be_done(end)) // CALL for unit in busy)
-    return rows
 
 
-def totals_of(course: Course, rows: List[Dict[str, int]]) -> Dict[str, Any]:
-    endings = [request.ending for request in course.requests.values()]
-    requests, calls = len(endings), len(course.calls)
+def totals_of(course: Course, rows: List[Dict[str, int]], of: Optional[int] = None) -> Dict[str, Any]:
+    found = requests_of(course, of)
+    endings = [request.ending for request in found]
+    requests, calls = len(endings), sum(of in (None, call.population) for call in course.calls)
     begun = [row["requests"] + row["retries"] for row in rows]
-    took = sorted(request.took for request in course.requests.values() if request.ending == "won")
+    took = sorted(request.took for request in found if request.ending == "won")
 
     def at_percent(percent: int) -> Optional[int]:
         return took[-(-len(took) * percent // 100) - 1] if took else None
@@ -500,7 +576,7 @@ def totals_of(course: Course, rows: List[Dict[str, int]]) -> Dict[str, Any]:
         "hundredths": (2 * 100 * calls + requests) // (2 * requests) if requests else 0,
         "most_calls": max(begun),
         "most_from": rows[begun.index(max(begun))]["from"],
-        "tickets": course.granted if course.storm.limit else course.tickets.given,
+        "tickets": sum(request.tickets for request in found),
         "p50": at_percent(50),
         "p99": at_percent(99),
         "slowest": at_percent(100),
@@ -521,17 +597,41 @@ def recovered(storm: Storm, rows: List[Dict[str, int]]) -> Optional[int]:
     return None
 
 
-def report(storm: Storm) -> Tuple[List[Dict[str, int]], Dict[str, Any]]:
-    """The rows and the totals of a storm."""
+class Part(NamedTuple):
+    """The report on the requests of one population."""
+
+    share: int
+    rows: List[Dict[str, int]]
+    totals: Dict[str, Any]
+
+
+def reports(storm: Storm) -> Tuple[List[Dict[str, int]], Dict[str, Any], List[Part]]:
+    """The rows and the totals of a storm, and those of each population where there are several."""
     course = Course(storm)
     course.play()
     rows = rows_of(course)
-    return rows, totals_of(course, rows)
+    parts = []
+    for number, population in enumerate(storm.populations if storm.beside else []):
+        own = rows_of(course, number)
+        parts.append(Part(population.share, own, totals_of(course, own, number)))
+    return rows, totals_of(course, rows), parts
 
 
-def json_text(rows: List[Dict[str, int]], totals: Dict[str, Any]) -> str:
-    value = {"windows": [[row[name] for name in ROW] for row in rows], "totals": totals}
+def report(storm: Storm) -> Tuple[List[Dict[str, int]], Dict[str, Any]]:
+    """The rows and the totals of a storm."""
+    rows, totals, _ = reports(storm)
+    return rows, totals
+
+
+def json_text(rows: List[Dict[str, int]], totals: Dict[str, Any], parts: Sequence[Part] = ()) -> str:
+    value = _json_value(rows, totals)
+    if parts:
+        value["populations"] = [{"share": part.share, **_json_value(part.rows, part.totals)} for part in parts]
     return json.dumps(value, separators=(",", ":")) + "\n"
+
+
+def _json_value(rows: List[Dict[str, int]], totals: Dict[str, Any]) -> Dict[str, Any]:
+    return {"windows": [[row[name] for name in ROW] for row in rows], "totals": totals}
 
 
 def csv_text(rows: List[Dict[str, int]]) -> str:
@@ -568,6 +668,13 @@ def _plan(path: str) -> Any:
     return json.loads(Path(path).read_text())
 
 
+def _beside(text: str) -> Population:
+    words, _, path = text.partition("=")
+    words, _, limited = words.partition("+")
+    share, _, patience = words.partition("@")
+    return Population(int(share), _plan(path), int(patience) if patience else None, limited == "limited")
+
+
 NUMBERS = (
     "rate",
     "together",
@@ -592,18 +699,19 @@ def main() -> int:
         parser.add_argument(f"--{name}", type=int)
     for name, reader in READERS.items():
         parser.add_argument(f"--{name}", type=reader)
+    parser.add_argument("--beside", type=_beside, action="append")
     parser.add_argument("--csv", action="store_true")
     parser.add_argument("--json", action="store_true")
     parser.add_argument("file")
     given = parser.parse_args()
     plan = json.loads(sys.stdin.read() if given.file == "-" else Path(given.file).read_text())
-    named = {name: getattr(given, name) for name in (*NUMBERS, *READERS)}
+    named = {name: getattr(given, name) for name in (*NUMBERS, *READERS, "beside")}
     named["open_plan"] = named.pop("open")
-    rows, totals = report(Storm(plan, **{name: value for name, value in named.items() if value is not None}))
+    rows, totals, parts = reports(Storm(plan, **{name: value for name, value in named.items() if value is not None}))
     if given.csv:
         sys.stdout.write(csv_text(rows))
     elif given.json:
-        sys.stdout.write(json_text(rows, totals))
+        sys.stdout.write(json_text(rows, totals, parts))
     else:
         for name, value in totals.items():
             print(f"{name} {value}")

@@ -75,12 +75,19 @@ static void looks(void) {
     wants(hikebox_pass_free(&quota), HIKEBOX_OK);
 }
 
+// A storm of which each population has this policy, as it is played with a policy for each.
+static hikebox_status plays_four(hikebox_policy *policy, const hikebox_storm *storm, hikebox_window *windows,
+                                 size_t *count, hikebox_totals *totals) {
+    hikebox_policy second = HIKEBOX_INIT, third = HIKEBOX_INIT, fourth = HIKEBOX_INIT;
+    return hikebox_storm_play_populations(policy, &second, &third, &fourth, storm, windows, 121, count, totals);
+}
+
 static void plays(void) {
     static hikebox_window windows[121];
     hikebox_policy policy = HIKEBOX_INIT, empty = HIKEBOX_INIT;
     hikebox_storm storm = HIKEBOX_STORM;
     hikebox_totals totals = HIKEBOX_TOTALS, told;
-    size_t count = 7;
+    size_t count = 7, length = 7;
     holds(storm.size == sizeof storm && storm.rate == 800 && storm.period == 1);
     holds(totals.size == sizeof totals && totals.requests == 0 && !totals.recovers && !totals.cut);
     wants(read_policy("{\"recurs\":1}", &policy), HIKEBOX_OK);
@@ -95,12 +102,18 @@ static void plays(void) {
         told.size = sizeof told;
         wants(hikebox_storm_play(&policy, &storm, windows, 121, &count, &told), HIKEBOX_WRONG_SIZE);
         wants(hikebox_storm_play(&empty, &storm, windows, 0, &count, &told), HIKEBOX_WRONG_SIZE);
+        wants(plays_four(&policy, &storm, windows, &count, &told), HIKEBOX_WRONG_SIZE);
+        wants(plays_four(&empty, &storm, windows, &count, &told), HIKEBOX_WRONG_SIZE);
         holds(count == 7 && told.size == sizeof told && is_filled(&told, sizeof told));
         holds(is_filled(windows, sizeof windows));
         storm.size = sizeof storm;
     }
     wants(hikebox_storm_play(&policy, &storm, windows, 121, &count, &totals), HIKEBOX_OK);
     holds(totals.requests == 48000 && totals.size == sizeof totals);
+    told = (hikebox_totals)HIKEBOX_TOTALS;
+    wants(plays_four(&policy, &storm, windows, &length, &told), HIKEBOX_OK);
+    holds(length == count && told.size == sizeof told && told.requests == 48000);
+    holds(told.calls == totals.calls && told.won == totals.won && told.recovered == totals.recovered);
     wants(hikebox_policy_free(&policy), HIKEBOX_OK);
 }
 
@@ -133,7 +146,7 @@ static void steps(void) {
 // The sizes of version 1.0.0, which each later 1.x accepts.
 int sizes(void) {
     holds(sizeof(hikebox_course) == 32 && sizeof(hikebox_usage) == 48 && sizeof(hikebox_next) == 48);
-    holds(sizeof(hikebox_storm) == 1064 && sizeof(hikebox_totals) == 128);
+    holds(sizeof(hikebox_storm) == 1144 && sizeof(hikebox_totals) == 128);
     holds(sizeof(hikebox_bucket) == 48 && sizeof(hikebox_breaker) == 32);
     holds(sizeof(hikebox_kept) == 16 && sizeof(hikebox_request) == 32 && sizeof(hikebox_told) == 24);
     polls();

@@ -16,7 +16,7 @@ from typing import Any, Dict, List, Optional
 
 ELEMENT = "element-6066-11e4-a52e-4f735466cecf"
 #: Keys that have no sign of their own.
-TAB, CONTROL, DELETE = "\ue004", "\ue009", "\ue017"
+TAB, SHIFT, CONTROL, DELETE = "\ue004", "\ue008", "\ue009", "\ue017"
 HOME, RIGHT, UP, DOWN = "\ue011", "\ue014", "\ue013", "\ue015"
 
 _OPTIONS = ["--headless=new", "--no-sandbox", "--disable-gpu", "--disable-dev-shm-usage", "--no-first-run"]
@@ -75,12 +75,16 @@ class Browser:
         return self.call("POST", "/execute/sync", {"script": script, "args": list(arguments)})
 
     def wait(self, script: str, seconds: float = 120.0) -> Any:
-        """What the script gives, once it gives something."""
+        """What the script gives, once it gives something. It may fail while the page is not ready."""
         ends = time.monotonic() + seconds
         while True:
-            found = self.run(script)
+            found, failure = None, ""
+            try:
+                found = self.run(script)
+            except AssertionError as error:
+                failure = f": {error}"
             if found or time.monotonic() > ends:
-                assert found, f"not within {seconds} s: {script}"
+                assert found, f"not within {seconds} s: {script}{failure}"
                 return found
             time.sleep(0.05)
 
@@ -140,6 +144,7 @@ class Browser:
     def resize(self, width: int, height: int) -> None:
         params = {"width": width, "height": height, "deviceScaleFactor": 1, "mobile": False}
         self.call("POST", "/goog/cdp/execute", {"cmd": "Emulation.setDeviceMetricsOverride", "params": params})
+        self.wait(f"return innerWidth === {width} && innerHeight === {height}")
 
     def requests(self) -> List[str]:
         """The addresses that the page asked for since the last time."""

@@ -83,6 +83,8 @@ int main(int count, char **words) {
         fprintf(stderr, "lease: expected a number of tickets below 1000000000 or `new`, got \"%s\"\n", words[2]);
         return 2;
     }
+    /* (if standard output is closed, the file takes its number, and what is printed is written over the counts) */
+    check_system(fcntl(STDOUT_FILENO, F_GETFD) >= 0, "standard output");
     int file = open(words[1], makes ? O_RDWR | O_CREAT | O_EXCL : O_RDWR, 0666);
     check_system(file >= 0, words[1]);
     if (makes) {
@@ -95,5 +97,6 @@ int main(int count, char **words) {
     for (; wanted > 0 && draw(&leased, file, &ticket); wanted--)
         printf("%" PRIu64 "\n", ticket.number);
     check(hikebox_leased_free(&leased), "hikebox_leased_free");
+    check_system(!ferror(stdout) && fflush(stdout) == 0, "standard output");
     return 0;
 }

@@ -44,11 +44,14 @@ static int begin(uint16_t port) {
     return fd;
 }
 
-/* How the connecting ended: 0, or the number of its fault. */
+/* How the connecting ended: 0, or the number of its fault. A socket that connect() itself said is refused has no fault
+ * left, and no peer. */
 static int fault_of(int fd) {
+    struct sockaddr_in peer;
     int fault = 0;
-    socklen_t size = sizeof fault;
+    socklen_t size = sizeof fault, room = sizeof peer;
     if (getsockopt(fd, SOL_SOCKET, SO_ERROR, &fault, &size) < 0) fault = errno;
+    if (fault == 0 && getpeername(fd, (struct sockaddr *)&peer, &room) < 0) fault = ECONNREFUSED;
     return fault;
 }
 

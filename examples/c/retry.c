@@ -32,7 +32,8 @@ static void sleep_until(uint64_t moment) {
     }
 }
 
-/* Four random words: a program that has a better source takes that. */
+/* Four random words: the same ones in each process, so that this program always waits as long. A program whose processes
+ * must not retry all at once takes them from the system, such as by getrandom(). */
 static const uint32_t *random_words(void) {
     static uint32_t words[4];
     static uint64_t state = 88172645463325252u;

@@ -1,6 +1,6 @@
 /*
- * Plays what a policy does to a peer that is away for ten seconds, without a limit on its retries and under a quota, and
- * prints what each storm comes to.
+ * Plays what a policy does to a peer that is down for ten seconds, without a limit on its retries, under a quota, and
+ * under a quota beside clients who do not draw on it, and prints what each storm comes to.
  *
  *     cc storm.c -I../../include ../../dist/libhikebox.a -o storm && ./storm
  */
@@ -45,9 +45,16 @@ int main(int count, char **words) {
     play(&policy, &storm, "no limit");
     storm.draws_on = HIKEBOX_ON_QUOTA; /* 10 tickets a second, and one more for ten requests */
     storm.reserve = 10;
-    storm.share = 100;
-    storm.period = 1000;
+    storm.share = 100;   /* thousandths of a ticket for each request */
+    storm.period = 1000; /* milliseconds */
     play(&policy, &storm, "a quota");
+    /* 30 % of the requests, a patience of 500 ms, and not limited: they do not draw on the quota */
+    storm.second = (hikebox_population){30, 500, 0};
+    play(&policy, &storm, "a quota for 70 %");
+    storm.of = 1;
+    play(&policy, &storm, "these 70 %");
+    storm.of = 2;
+    play(&policy, &storm, "the other 30 %");
 
     check(hikebox_policy_free(&policy), "hikebox_policy_free");
     return 0;
