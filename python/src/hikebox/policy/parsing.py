@@ -26,6 +26,9 @@ _METHODS = tuple(
     for name in (_GATES if "{" in found else (found,))
 )
 
+#: How often an expression is parsed at most.
+_MOST_PARSES = 100
+
 
 class Refused(NamedTuple):
     """What is no policy: why, and from where to where in the text."""
@@ -58,8 +61,7 @@ def read(text: str) -> Union[Policy, Refused]:
     begins = len(flat) - len(flat.lstrip())
     spelt = flat.strip()
     try:
-        tree = ast.parse(spelt, mode="eval")
-        built = _value(tree.body)
+        built = _value(_tree(spelt))
     except SyntaxError as error:
         # (the place of an expression that ends too soon is 0, of Python 3.9 its last sign)
         is_short = not error.offset or "EOF" in error.msg
@@ -81,6 +83,17 @@ def read(text: str) -> Union[Policy, Refused]:
         refused = PolicyError(Fault.NOT_A_PLAN, hint=f"expected a policy, got {text.strip()!r}")
         return Refused(refused, begins, begins + len(spelt))
     return built
+
+
+def _tree(spelt: str) -> ast.expr:
+    """The tree of an expression. Before 3.13, Python raises a SystemError now and then where another thread parses too
+    (CPython's issue 106905). The text is not at fault, so it is parsed again."""
+    for _ in range(_MOST_PARSES - 1):
+        try:
+            return ast.parse(spelt, mode="eval").body
+        except SystemError:
+            pass
+    return ast.parse(spelt, mode="eval").body
 
 
 def _signs(line: str, count: int) -> int:

@@ -2,7 +2,7 @@
 
 from __future__ import annotations
 
-import ast
+import json
 from dataclasses import dataclass
 from typing import Any, Callable, List, Optional
 
@@ -65,9 +65,13 @@ def played(
     else:
         inputs += inputs[-1:] * (count - len(inputs))
         events = [(code, word_of(random()), word_of(random()), word_of(random()), word_of(random())) for code in inputs]
-    return [
-        Step(moment, ast.literal_eval(output), goes) for moment, goes, output in plan.course(count, start, took, events)
-    ]
+    return [Step(moment, _output_of(output), goes) for moment, goes, output in plan.course(count, start, took, events)]
+
+
+def _output_of(text: str) -> Any:
+    """The output that the engine prints as this text. Pairs are read as objects that hold a list."""
+    pairs = text.replace("(", '{"": [').replace(")", "]}")
+    return json.loads(pairs, object_hook=lambda pair: tuple(pair[""]))
 
 
 def word_of(number: float) -> int:
