@@ -1,5 +1,6 @@
-"""Threads that parse at the same time, as Python's own parser did not stand before 3.13 (CPython's issue 106905): where
-the garbage collector frees an object in the middle of one's parse and another thread parses, it raised SystemError."""
+"""Previews and expressions while another thread uses Python's parser. Before 3.13 a parse raises a SystemError if
+another thread parses in the middle of it, as it may where the garbage collector frees an object (CPython's issue
+106905)."""
 
 from __future__ import annotations
 
