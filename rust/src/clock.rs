@@ -132,9 +132,11 @@ mod time {
             Self { instant }
         }
 
-        /// The moment so long after this one, or after a century where the system's clock can't tell it.
+        /// The moment so long after this one; after a century where the system's clock can't tell it, or this one where it
+        /// can't tell that either.
         pub(crate) fn after(self, wait: Duration) -> Self {
-            Self::of(self.instant.checked_add(wait).unwrap_or_else(|| self.instant + A_CENTURY))
+            let later = |wait| self.instant.checked_add(wait);
+            Self::of(later(wait).or_else(|| later(A_CENTURY)).unwrap_or(self.instant))
         }
 
         /// The moment so long before this one, or this one where the system's clock can't tell it.
@@ -202,6 +204,10 @@ mod tests {
     fn moments_end_where_the_number_does() {
         let moment = Moment::now();
         assert!(moment.after(Duration::MAX) > moment && moment.before(Duration::MAX) <= moment);
+        // (to the second, the last instant that there is)
+        let longer = (0..63).rev().map(|power| Duration::from_secs(1 << power));
+        let last = longer.fold(Instant::now(), |last, wait| last.checked_add(wait).unwrap_or(last));
+        assert!(Moment::of(last).after(Duration::MAX) >= Moment::of(last));
     }
 
     #[test]

@@ -3,14 +3,14 @@
 
 use hikebox::RefusalReason::{BreakerOpen, LevelLow, Probing, RetriesFull};
 use hikebox::{
-    both, repeat, retry, BlockingRetryable, Breaker, Bucket, CallLimit, InFlight, Policy, RefusalReason, Refused,
+    repeat, retry, BlockingRetryable, Breaker, Bucket, CallLimit, InFlight, Policy, RefusalReason, Refused,
     RepeatError, RetryError, Retrying, SharedRetrying,
 };
+use std::cell::Cell;
 use std::panic::{catch_unwind, AssertUnwindSafe};
 use std::sync::atomic::{AtomicU64, Ordering};
-use std::sync::Arc;
 use std::thread;
-use std::time::Duration;
+use std::time::{Duration, Instant};
 
 type Answer<T> = Result<T, RetryError<&'static str, Refused>>;
 
@@ -124,9 +124,14 @@ fn what_is_not_admitted_is_an_error() {
 #[test]
 fn a_deadline_gives_the_token_back() {
     let (limit, waits) = (tokens(1.0), policy(r#"{"spaced":5}"#));
-    let sleeps_long = |_: Duration| thread::sleep(Duration::from_millis(60));
-    let retrying = Retrying::new(&waits, &limit).deadline(Duration::from_millis(50)).sleep(sleeps_long);
-    assert_eq!(retrying.call(fails(9)), Err(RetryError::Deadline("busy")));
+    let (now, sleeps) = (Cell::new(Instant::now()), Cell::new(0));
+    let sleeps_long = |_: Duration| {
+        sleeps.set(sleeps.get() + 1);
+        now.set(now.get() + Duration::from_millis(60));
+    };
+    let retrying =
+        Retrying::new(&waits, &limit).deadline(Duration::from_millis(50)).clock(|| now.get()).sleep(sleeps_long);
+    assert_eq!((retrying.call(fails(9)), sleeps.get()), (Err(RetryError::Deadline("busy")), 1));
     assert_eq!(refused(&limit), None);
     assert_eq!(refused(&limit), Some(LevelLow));
 }
@@ -207,7 +212,7 @@ fn each_run_of_a_repeat_is_a_call() {
 #[cfg(feature = "tokio")]
 mod futures {
     use super::*;
-    use hikebox::{retry_async, Retryable};
+    use hikebox::{both, retry_async, Retryable};
     use tokio::time::{sleep, timeout};
 
     /// A call that never ends.
@@ -259,8 +264,9 @@ mod futures {
 #[cfg(feature = "tower")]
 mod layers {
     use super::*;
-    use hikebox::{Budget, LimitLayer, Quota, RetryPolicy};
+    use hikebox::{both, Budget, LimitLayer, Quota, RetryPolicy};
     use std::future::{pending, ready, Ready};
+    use std::sync::Arc;
     use std::task::{Context, Poll};
     use tokio::time::{sleep, timeout, Instant};
     use tower::{service_fn, BoxError, Service, ServiceBuilder, ServiceExt};
@@ -316,18 +322,42 @@ mod layers {
         assert_eq!(others[1].draw().unwrap_err().reason(), LevelLow);
     }
 
-    // What it held comes back when it has ended, though its future is kept.
+    // What it held comes back when it has ended, though its future is kept: of the limit, and its copies of the service and
+    // the request.
     #[tokio::test(start_paused = true)]
     async fn a_call_that_ended_holds_nothing() {
-        let flights = halves();
+        let (flights, held, request) = (halves(), Arc::new(()), Arc::new(()));
         let retries = RetryPolicy::new(policy(r#"{"recurs":0}"#), flights.clone());
-        let mut service = ServiceBuilder::new()
-            .layer(LimitLayer::new(retries))
-            .service(service_fn(|_: u8| ready(Ok::<_, BoxError>(5))));
-        let mut call = service.ready().await.unwrap().call(1);
+        let of_service = held.clone();
+        let mut service =
+            ServiceBuilder::new().layer(LimitLayer::new(retries)).service(service_fn(move |_: Arc<()>| {
+                let _ = &of_service;
+                ready(Ok::<_, BoxError>(5))
+            }));
+        let mut call = service.ready().await.unwrap().call(request.clone());
+        assert_eq!((Arc::strong_count(&held), Arc::strong_count(&request)), (3, 2));
         assert_eq!((&mut call).await.unwrap(), 5);
-        assert_eq!(refused(&flights), Some(RetriesFull));
+        assert_eq!((refused(&flights), Arc::strong_count(&held)), (Some(RetriesFull), 2));
+        assert_eq!(Arc::strong_count(&request), 1);
         drop(call);
+    }
+
+    // One that is not admitted holds no copy of the service, and so no permit of it.
+    #[tokio::test(start_paused = true)]
+    async fn a_call_that_is_not_admitted_holds_nothing() {
+        let (limit, held) = (breaker(1, r#"{"spaced":30000}"#), Arc::new(()));
+        let mut request = limit.request().unwrap();
+        request.admit().unwrap();
+        request.failed();
+        let of_service = held.clone();
+        let retries = RetryPolicy::new(policy(r#"{"recurs":0}"#), limit);
+        let mut service = ServiceBuilder::new().layer(LimitLayer::new(retries)).service(service_fn(move |_: u8| {
+            let _ = &of_service;
+            ready(Ok::<_, BoxError>(5))
+        }));
+        let call = service.ready().await.unwrap().call(1);
+        assert_eq!(Arc::strong_count(&held), 2);
+        assert_eq!(reason(call.await), Some(BreakerOpen));
     }
 
     // Runs at 0, 100 and 200; the bucket has two tokens. A request that can't be copied is made once, and is told.
@@ -390,6 +420,49 @@ mod layers {
         let mut service = ServiceBuilder::new().layer(LimitLayer::new(retries)).service(GetsReady::default());
         for _ in 0..2 {
             assert_eq!(service.ready().await.unwrap().call(1).await.unwrap(), 3);
+        }
+    }
+
+    /// A service that fails, and is ready for so many calls.
+    #[derive(Clone)]
+    struct ReadyFor(u64);
+
+    impl Service<u8> for ReadyFor {
+        type Response = u32;
+        type Error = &'static str;
+        type Future = Ready<Result<u32, &'static str>>;
+
+        fn poll_ready(&mut self, _: &mut Context<'_>) -> Poll<Result<(), Self::Error>> {
+            if self.0 > 0 {
+                Poll::Ready(Ok(()))
+            } else {
+                Poll::Pending
+            }
+        }
+
+        fn call(&mut self, _: u8) -> Self::Future {
+            self.0 -= 1;
+            ready(Err("busy"))
+        }
+    }
+
+    // Two runs are made, and the third, which has its ticket, never begins: with a delay before it, and with none.
+    #[tokio::test(start_paused = true)]
+    async fn a_call_that_is_dropped_before_its_service_is_ready_gives_its_ticket_back() {
+        for json in [r#"{"spaced":100}"#, r#"{"recurs":5}"#] {
+            let quota = Quota::new_at(Instant::now().into_std(), 9, 0.0, Duration::from_secs(3600)).unwrap();
+            let retries = RetryPolicy::new(policy(json), quota.clone());
+            let mut service = ServiceBuilder::new().layer(LimitLayer::new(retries)).service(ReadyFor(2));
+            let call = service.ready().await.unwrap().call(1);
+            assert!(timeout(Duration::from_secs(1), call).await.is_err());
+            assert_eq!((quota.granted(), quota.seen().left), (1, 8), "{json}");
+            // of two tokens one is used
+            let bucket = tokens(2.0);
+            let retries = RetryPolicy::new(policy(json), bucket.clone());
+            let mut service = ServiceBuilder::new().layer(LimitLayer::new(retries)).service(ReadyFor(2));
+            let call = service.ready().await.unwrap().call(1);
+            assert!(timeout(Duration::from_secs(1), call).await.is_err());
+            assert_eq!([refused(&bucket), refused(&bucket)], [None, Some(LevelLow)], "{json}");
         }
     }
 

@@ -8,6 +8,9 @@ use std::cell::Cell;
 use std::rc::Rc;
 use std::time::{Duration, Instant};
 
+const ONE: Duration = Duration::from_millis(1);
+const HOUR: Duration = Duration::from_secs(3600);
+
 /// `ExponentialBackoff::default()` as a schedule, but for its time in all.
 fn default_schedule() -> Schedule {
     Schedule::exponential_milli(Duration::from_millis(500), 1500).cap(Duration::from_secs(60)).jittered(0.5..1.5)
@@ -104,4 +107,29 @@ fn the_deadline_of_the_page_ends_it_after_as_many_runs() {
             Err::<(), _>("busy")
         });
     assert_eq!((ended, runs), (Err(RetryError::Deadline("busy")), 25));
+}
+
+/// An error that asks for a millisecond, where an hour is planned: backoff waits for the millisecond, also past its time,
+/// and hikebox for the hour.
+#[test]
+fn a_wait_that_an_error_asks_for_is_what_the_page_says() {
+    let mut waits = vec![];
+    let mut errors = vec![backoff::Error::permanent("gone"), backoff::Error::retry_after("busy", ONE)];
+    let over = ExponentialBackoff::<SystemClock> {
+        initial_interval: HOUR,
+        max_elapsed_time: Some(Duration::ZERO),
+        ..ExponentialBackoff::default()
+    };
+    let answer = backoff::retry_notify(over, || Err::<(), _>(errors.pop().unwrap()), |_, wait| waits.push(wait));
+    assert!(matches!(answer, Err(backoff::Error::Permanent("gone"))));
+    assert_eq!(waits, [ONE]);
+
+    let (policy, waits) = (Policy::new(&Schedule::spaced(HOUR)).unwrap(), Cell::new(vec![]));
+    let mut errors = vec!["gone", "busy"];
+    let ended = Retrying::new(&policy, &Unlimited)
+        .when(|error| *error == "busy")
+        .retry_after(|_| Some(ONE))
+        .sleep(|wait| waits.set([waits.take(), vec![wait]].concat()))
+        .call(|| Err::<(), _>(errors.pop().unwrap()));
+    assert_eq!((ended, waits.take()), (Err(RetryError::NotRetried("gone")), vec![HOUR]));
 }

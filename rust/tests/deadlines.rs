@@ -230,6 +230,47 @@ async fn a_request_of_towers_has_a_deadline_of_its_own() {
     }
 }
 
+/// A request of tower's whose timer is due at 10 ms and rings at 200, past the deadline of 50: how many of its runs were
+/// made, of which the first so many fail.
+#[cfg(feature = "tower")]
+async fn runs_of_a_late_timer(quota: &Quota, fails: usize) -> usize {
+    use hikebox::RetryPolicy;
+    use std::{future::ready, sync::atomic::AtomicUsize, sync::atomic::Ordering, sync::Arc};
+    use tower::{retry::RetryLayer, service_fn, Service, ServiceBuilder, ServiceExt};
+
+    let runs = Arc::new(AtomicUsize::new(0));
+    let counted = runs.clone();
+    let by = RetryPolicy::new(policy(r#"{"spaced":10}"#), quota.clone()).deadline(Duration::from_millis(50));
+    let service = service_fn(move |_: u32| {
+        ready(if counted.fetch_add(1, Ordering::Relaxed) < fails { Err("busy") } else { Ok("there") })
+    });
+    let mut service = ServiceBuilder::new().layer(RetryLayer::new(by)).service(service);
+    let late = tokio::time::advance(Duration::from_millis(200));
+    let (answer, ()) = tokio::join!(service.ready().await.unwrap().call(7), late);
+    let runs = runs.load(Ordering::Relaxed);
+    assert_eq!(answer, if runs > fails { Ok("there") } else { Err("busy") });
+    runs
+}
+
+#[cfg(feature = "tower")]
+#[tokio::test(start_paused = true)]
+async fn a_run_that_tower_makes_past_it_uses_its_ticket() {
+    let quota = Quota::new(2, 0.0, Duration::from_secs(3600)).unwrap();
+    assert_eq!(runs_of_a_late_timer(&quota, 9).await, 2);
+    assert_eq!((quota.granted(), quota.seen().left), (1, 1));
+    assert_eq!(runs_of_a_late_timer(&quota, 1).await, 2);
+    assert_eq!((quota.granted(), quota.seen().left), (2, 0));
+    // there is none for another run
+    assert_eq!(runs_of_a_late_timer(&quota, 9).await, 1);
+    assert_eq!(quota.close().unwrap(), 2);
+    // it comes back where the late run helped, if the quota wants it back
+    let quota = Quota::new(1, 0.0, Duration::from_secs(3600)).unwrap().returning_tickets();
+    assert_eq!(runs_of_a_late_timer(&quota, 1).await, 2);
+    assert_eq!((quota.granted(), quota.seen().left), (0, 1));
+    assert_eq!(runs_of_a_late_timer(&quota, 9).await, 2);
+    assert_eq!((quota.granted(), quota.seen().left), (1, 0));
+}
+
 /// A clock that a sleep moves by so much more than it should.
 fn late_by(late: u64) -> (Cell<Instant>, impl Fn(&Cell<Instant>, Duration)) {
     (Cell::new(Instant::now()), move |now, wait| now.set(now.get() + wait + Duration::from_millis(late)))

@@ -10,14 +10,14 @@ use std::sync::atomic::{AtomicBool, Ordering};
 use std::thread;
 use std::time::Duration;
 
-/// What a forked child makes of this, as text; it has twenty seconds.
+/// What a forked child makes of this, as text; it has a minute.
 fn in_child(makes: impl FnOnce() -> String) -> String {
     let (mut reader, mut writer) = UnixStream::pair().unwrap();
     // SAFETY: the child allocates, which the system's allocator allows, and uses what is tested.
     match unsafe { libc::fork() } {
         0 => {
             // SAFETY: the child ends here, with no destructor of the parent's run.
-            unsafe { libc::alarm(20) };
+            unsafe { libc::alarm(60) };
             let said = catch_unwind(AssertUnwindSafe(makes)).unwrap_or_else(|_| "it panicked".to_owned());
             writer.write_all(said.as_bytes()).unwrap();
             unsafe { libc::_exit(0) }
@@ -210,5 +210,24 @@ fn a_child_waits_for_no_lock_that_another_thread_held_at_the_fork() {
             assert_eq!(child, "2 2");
         }
         is_over.store(true, Ordering::Relaxed);
+    });
+}
+
+#[test]
+fn a_child_makes_a_limit_whatever_other_threads_made_at_the_fork() {
+    let makes = || CallLimit::new(Bucket::aws()).unwrap();
+    let is_over = AtomicBool::new(false);
+    thread::scope(|scope| {
+        for _ in 0..3 {
+            scope.spawn(|| {
+                while !is_over.load(Ordering::Relaxed) {
+                    makes();
+                }
+            });
+        }
+        let in_child = |_: &u32| in_child(|| makes().request().unwrap().admit().is_ok().to_string()) == "true";
+        let children = (0..300).take_while(in_child).count();
+        is_over.store(true, Ordering::Relaxed);
+        assert_eq!(children, 300);
     });
 }

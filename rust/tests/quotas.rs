@@ -92,8 +92,8 @@ fn a_host_may_count_from_1970() {
 
 #[test]
 fn windows_go_by_the_systems_clock() {
-    let began = Instant::now() - Duration::from_secs(100);
-    let quota = Quota::new_at(began, 1, 1.0, Duration::from_secs(60)).unwrap();
+    let began = Instant::now() - Duration::from_secs(5000);
+    let quota = Quota::new_at(began, 1, 1.0, Duration::from_secs(3600)).unwrap();
     quota.deposit();
     assert_eq!(told(quota.seen()), [1, 1, 0, 2]);
     let mut pass = quota.pass().unwrap();
@@ -195,18 +195,21 @@ fn each_call_is_a_request_and_its_retries_draw() {
 
 #[test]
 fn a_refused_call_is_served_in_the_next_window() {
-    let (policy, quota) = (policy(r#"{"recurs":1}"#), quota(1, 0.0, 100));
+    let (policy, quota, began) = (policy(r#"{"recurs":1}"#), quota(1, 0.0, 100), Instant::now());
     let fails = || retry(&policy, &quota, || Err::<(), _>(()));
-    let ends: Vec<_> = (0..40)
-        .map(|_| {
-            thread::sleep(Duration::from_millis(10));
-            fails()
-        })
-        .collect();
-    // 400 ms are four windows at least, each with one ticket
-    let granted = ends.iter().filter(|end| **end == Err(RetryError::ScheduleDone(()))).count();
-    assert!((4..40).contains(&granted), "{granted}");
-    assert_eq!(quota.close().unwrap(), granted as u64);
+    let (mut granted, mut refused) = (0, 0);
+    while granted < 4 || refused == 0 {
+        assert!(began.elapsed() < Duration::from_secs(60), "{granted} granted, {refused} refused");
+        match fails() {
+            Err(RetryError::ScheduleDone(())) => granted += 1,
+            Err(RetryError::BudgetRefused(())) => refused += 1,
+            other => panic!("{other:?}"),
+        }
+        thread::sleep(Duration::from_millis(5));
+    }
+    // each window has one ticket, and at most this many windows have begun
+    assert!(granted <= began.elapsed().as_millis() / 100 + 2, "{granted}");
+    assert_eq!(u128::from(quota.close().unwrap()), granted);
 }
 
 #[test]

@@ -273,6 +273,21 @@ fn a_store_of_ones_own_grants_each_retry() {
     assert_eq!(broken.to_string(), "no (the store of retry tickets failed: the table is locked)");
 }
 
+/// One that is chosen when the program runs grants what it grants by its own type.
+#[test]
+fn a_store_behind_a_trait_object_grants_each_retry() {
+    let (two, store) = (policy(r#"{"recurs":2}"#), Store::of(5, false));
+    let chosen: Arc<dyn Tickets> = store.clone();
+    assert_eq!(retry(&two, &chosen, || Err::<(), _>("no")), Err(RetryError::ScheduleDone("no")));
+    let kept = Retrying::new(&two, &chosen).shared();
+    assert_eq!(kept.call(|| Err::<(), _>("no")), Err(RetryError::ScheduleDone("no")));
+    let mut machine = Machine::new(&two, &chosen).unwrap();
+    assert_eq!(machine.step(Duration::ZERO, None), Step::Run);
+    assert_eq!(machine.step(Duration::ZERO, Some(Report::Lost(0))), Step::Run);
+    assert_eq!(machine.step(Duration::ZERO, Some(Report::Lost(0))), Step::Over(Ending::BudgetRefused));
+    assert_eq!((store.asked.load(Ordering::SeqCst), store.left.load(Ordering::SeqCst)), (2, -1));
+}
+
 #[test]
 fn a_machine_counts_the_tickets_of_a_store_and_not_the_retries_that_were_refused() {
     let mut machine = Machine::new(&policy(r#"{"spaced":10}"#), &Store::of(2, false)).unwrap();
@@ -488,4 +503,21 @@ fn values_are_compared_and_are_keys() {
     keys::<hikebox::Schedule>();
     keys::<hikebox::Test>();
     keys::<hikebox::Usage>();
+    keys::<hikebox::Breaker>();
+    fn compared<T: PartialEq + Clone + std::fmt::Debug>() {}
+    compared::<hikebox::Terms>();
+}
+
+/// Parts that can be shown, though nothing in them can.
+#[test]
+fn a_retry_and_its_parts_are_shown_whatever_is_in_them() {
+    fn shown<T: std::fmt::Debug>() {}
+    struct Hidden;
+    shown::<Retrying<'_, Hidden, Hidden, Hidden, Hidden, Hidden>>();
+    shown::<hikebox::Hooks<Hidden, Hidden, Hidden, Hidden>>();
+    shown::<hikebox::NoHook<Hidden>>();
+    shown::<hikebox::SharedHooks<Hidden>>();
+    shown::<hikebox::Host<Hidden, Hidden, Hidden>>();
+    shown::<hikebox::Async<Hidden>>();
+    shown::<hikebox::Blocking<Hidden>>();
 }

@@ -239,6 +239,21 @@ fn a_sleep_that_panics_leaves_its_ticket_to_others() {
 }
 
 #[test]
+fn a_notice_that_panics_leaves_its_ticket_to_others_though_nothing_is_waited() {
+    let (policy, quota, runs) = (policy(r#"{"recurs":9}"#), quota(9, 0.0), Cell::new(0));
+    let retrying = Retrying::new(&policy, &quota).notify(|_, _| assert!(runs.get() < 3));
+    let noticed = catch_unwind(AssertUnwindSafe(|| {
+        retrying.call(|| {
+            runs.set(runs.get() + 1);
+            Err::<(), _>("busy")
+        })
+    }));
+    // of three tickets two are used, by the second run and the third
+    assert!(noticed.is_err());
+    assert_eq!((runs.get(), quota.granted(), quota.seen().left), (3, 2, 7));
+}
+
+#[test]
 fn tickets_of_a_budget_do_not_come_back() {
     let budget = Budget::new(5).unwrap();
     let mut machine = Machine::new(&policy(r#"{"spaced":100}"#), &budget).unwrap();

@@ -5,8 +5,8 @@
 #[macro_use]
 mod common;
 
-use common::{counts, keeper_of, number, Scratch};
-use hikebox::{BudgetError, Leased, LeasedQuota, NoTicket, StoreError, Ticket};
+use common::{comes_to, counts, is_locked, is_open, keeper_of, number, number_in_the_end, Scratch};
+use hikebox::{BudgetError, Leased, LeasedQuota, StoreError};
 use std::env;
 use std::error::Error;
 use std::fs;
@@ -175,8 +175,12 @@ fn a_window_that_is_over_counts_for_nothing() {
         folder.put(key, &copy(key, &boot(), [3, window - 1, 9, 20]).repeat(2));
         (number(quota().draw()), quota().seen().unwrap().window == window)
     };
-    // (a window may end just then)
-    assert!((0..5).any(|_| drew_at_once() == (Some(0), true)));
+    // (where a window ended just then, it is tried in the next)
+    comes_to(|| {
+        let (drawn, is_same_window) = drew_at_once();
+        assert!(!is_same_window || drawn == Some(0), "{drawn:?}");
+        is_same_window
+    });
 }
 
 #[test]
@@ -331,20 +335,28 @@ fn a_slot_that_another_process_keeps_locked_grants_nothing() {
 /// A slot that was taken away and made anew while its lock was waited for: the new one counts.
 #[test]
 fn a_slot_that_was_replaced_meanwhile_is_opened_again() {
-    let folder = Scratch::new("replaced");
-    assert_eq!(number(budget(&folder.0, 10).draw()), Some(0));
-    let path = folder.slot("budget b");
-    let mut keeper = keeper_of(&path);
-    thread::scope(|scope| {
-        let waits = scope.spawn(|| budget(&folder.0, 10).draw());
-        thread::sleep(Duration::from_millis(200));
-        fs::remove_file(&path).unwrap();
+    // (a process that is stopped for so long gives the lock up, and it is tried anew)
+    for _ in 0..10 {
+        let folder = Scratch::new("replaced");
         assert_eq!(number(budget(&folder.0, 10).draw()), Some(0));
-        assert_eq!(number(budget(&folder.0, 10).draw()), Some(1));
-        drop(keeper.stdin.take());
-        assert_eq!(number(waits.join().unwrap()), Some(2));
-    });
-    keeper.wait().unwrap();
+        let path = folder.slot("budget b");
+        let mut keeper = keeper_of(&path);
+        let waited = thread::scope(|scope| {
+            let waits = scope.spawn(|| budget(&folder.0, 10).draw());
+            comes_to(|| is_open(&path) || waits.is_finished());
+            fs::remove_file(&path).unwrap();
+            assert_eq!(number(budget(&folder.0, 10).draw()), Some(0));
+            assert_eq!(number(budget(&folder.0, 10).draw()), Some(1));
+            drop(keeper.stdin.take());
+            waits.join().unwrap()
+        });
+        keeper.wait().unwrap();
+        match waited {
+            Err(failed) if is_locked(&failed) => (),
+            drawn => return assert_eq!(number(drawn), Some(2)),
+        }
+    }
+    panic!("the lock was given up each time");
 }
 
 /// What a process of the next test does, in a file system of 24 KB: it fills it up while it draws, and makes room
@@ -444,18 +456,20 @@ fn a_fork_while_a_thread_leases_leaves_no_lock_behind() {
             // SAFETY: the child calls what is safe after a fork alone.
             match unsafe { libc::fork() } {
                 0 => unsafe {
-                    libc::sleep(20);
+                    libc::sleep(60);
                     libc::_exit(0)
                 },
-                child => children.push(child),
+                // (to kill the process -1 would be to kill them all)
+                child if child > 0 => children.push(child),
+                _ => (),
             }
             thread::sleep(Duration::from_millis(2));
         }
         is_over.store(true, Ordering::Relaxed);
     });
-    let began = Instant::now();
+    // (a lock that one of them kept would be given up after five seconds)
     let drawn = (Leased::new(&folder.0, "b", 1 << 40).unwrap().draw(), long_quota(&folder.0, 1 << 30, 0.0).draw());
-    let took = began.elapsed();
+    let forked = children.len();
     for child in children {
         // SAFETY: they are children of this process that were not waited for.
         unsafe {
@@ -464,10 +478,11 @@ fn a_fork_while_a_thread_leases_leaves_no_lock_behind() {
         }
     }
     assert!(matches!(drawn, (Ok(_), Ok(_))), "{drawn:?}");
-    assert!(took < Duration::from_secs(2), "{took:?}");
+    assert_eq!(forked, 60);
 }
 
-/// What a process of the next test does: it forks while a thread leases, and dies at once. Its child lives on.
+/// What a process of the next test does: it forks while a thread leases, and dies at once. Its child lives on until its
+/// standard input ends.
 #[test]
 #[ignore = "run by a_process_that_dies_after_a_fork_leaves_no_lock_behind"]
 fn process_that_forks_and_dies() {
@@ -475,15 +490,21 @@ fn process_that_forks_and_dies() {
         Some(folder) => folder,
         None => return,
     };
+    static LEASES: AtomicBool = AtomicBool::new(false);
     let quota = long_quota(&folder, 1 << 30, 0.0);
-    thread::spawn(move || while quota.draw().is_ok() {});
-    thread::sleep(Duration::from_millis(30));
+    thread::spawn(move || {
+        while quota.draw().is_ok() {
+            LEASES.store(true, Ordering::Relaxed);
+        }
+    });
+    comes_to(|| LEASES.load(Ordering::Relaxed));
+    let mut byte = 0_u8;
     // SAFETY: the child calls what is safe after a fork alone, and the parent ends.
     unsafe {
         match libc::fork() {
             0 => {
-                (0..3).for_each(|stream| assert_eq!(libc::close(stream), 0));
-                libc::sleep(20);
+                (1..3).for_each(|stream| assert_eq!(libc::close(stream), 0));
+                libc::read(0, (&mut byte as *mut u8).cast(), 1);
                 libc::_exit(0)
             }
             _ => libc::kill(libc::getpid(), libc::SIGKILL),
@@ -495,11 +516,13 @@ fn process_that_forks_and_dies() {
 fn a_process_that_dies_after_a_fork_leaves_no_lock_behind() {
     let folder = Scratch::new("fork-dies");
     for _ in 0..30 {
-        let output = child("process_that_forks_and_dies", &folder.0).output().unwrap();
+        let mut process = child("process_that_forks_and_dies", &folder.0).stdin(Stdio::piped()).spawn().unwrap();
+        let input = process.stdin.take();
+        let output = process.wait_with_output().unwrap();
         assert!(!output.status.success());
-        let began = Instant::now();
+        // (a lock that the child kept would be given up after five seconds)
         long_quota(&folder.0, 1 << 30, 0.0).draw().unwrap();
-        assert!(began.elapsed() < Duration::from_secs(2), "{:?}", began.elapsed());
+        drop(input);
     }
 }
 
@@ -535,22 +558,6 @@ fn what_dying_processes_left_behind_is_pruned() {
     assert_eq!([old.exists(), young.exists(), others.exists()], [false, true, true]);
 }
 
-/// The number of a ticket, or `None` where there is none. A lock that others keep for long, on a busy machine, is asked
-/// for again.
-fn number_in_the_end(draw: impl Fn() -> Result<Ticket, NoTicket>) -> Option<u64> {
-    loop {
-        match draw() {
-            Err(failed) if is_locked(&failed) => (),
-            drawn => return number(drawn),
-        }
-    }
-}
-
-fn is_locked(failed: &NoTicket) -> bool {
-    let error = failed.failure().and_then(|failure| failure.get().downcast_ref::<StoreError>());
-    matches!(error, Some(StoreError::Locked))
-}
-
 /// Processes that make and prune slots of one folder at once draw each ticket of a window once.
 #[test]
 fn slots_that_are_pruned_while_others_draw_grant_nothing_twice() {
@@ -582,27 +589,25 @@ fn slots_that_are_pruned_while_others_draw_grant_nothing_twice() {
     assert_eq!((sorted.len(), drawn.len()), (6_400, 6_400));
 }
 
-/// How long a lease takes does not grow with the names: 20,000 of them have 256 folders, and a file each.
+/// How long a lease takes does not grow with the names: 4,000 of them have 256 folders, and a file each. Both are leased
+/// in turns, and the least times count: a busy machine makes some of them longer.
 #[test]
 fn a_lease_among_many_names_is_as_quick_as_alone() {
-    let took = |folder: &Scratch| {
-        let budget = long_quota(&folder.0, 1 << 20, 0.0);
-        let mut times: Vec<_> = (0..101)
-            .map(|_| {
-                let began = Instant::now();
-                number(budget.draw());
-                began.elapsed()
-            })
-            .collect();
-        times.sort_unstable();
-        times[50]
-    };
     let (alone, many) = (Scratch::new("alone"), Scratch::new("many"));
     for name in 0..4_000 {
         let quota = LeasedQuota::new(&many.0, format!("n{name}"), 9, 0.0, Duration::from_secs(1_000_000)).unwrap();
         number(quota.draw());
     }
-    let (alone, many) = (took(&alone), took(&many));
+    let quotas = [long_quota(&alone.0, 1 << 20, 0.0), long_quota(&many.0, 1 << 20, 0.0)];
+    let mut least = [Duration::MAX; 2];
+    for _ in 0..200 {
+        for (quota, least) in quotas.iter().zip(&mut least) {
+            let began = Instant::now();
+            number(quota.draw());
+            *least = began.elapsed().min(*least);
+        }
+    }
+    let [alone, many] = least;
     assert!(many < 5 * alone + Duration::from_millis(1), "{alone:?} alone, {many:?} among 4,000");
 }
 

@@ -33,9 +33,9 @@ pub enum StoreError {
     Lost,
 }
 
-/// How long a slot's lock is waited for.
+/// How long a slot's lock is waited for, from when the slot is first looked for. One that nobody has is taken later too.
 const PATIENCE: Duration = Duration::from_secs(5);
-/// How often the folder may be removed while a slot is made in it.
+/// How often a slot may be removed or replaced, or its folder, while it is made and its lock is had.
 const REMOVED: u32 = 100;
 /// How many other files a process that makes one looks at, to take away those that nobody needs any more.
 const LOOKED_AT: usize = 16;
@@ -110,31 +110,40 @@ impl Folder {
 
     /// The slot of this key, which is made where it is missing.
     pub(crate) fn lock(&self, key: &Key) -> Result<Slot, StoreError> {
+        self.lock_within(PATIENCE, key)
+    }
+
+    /// The same, whose lock is waited for so long. A lock that nobody has is taken, however long it took to come to it.
+    fn lock_within(&self, patience: Duration, key: &Key) -> Result<Slot, StoreError> {
         if self.path.as_os_str().is_empty() {
             return Err(invalid("expected the path of a folder, got an empty one").into());
         }
-        let (path, began, mut removed) = (self.path.join(key.place()), Instant::now(), 0);
-        while began.elapsed() <= PATIENCE {
-            let file = match opened(&path) {
-                Ok(file) => Locked::of(file, began)?,
+        let (path, began, mut turns) = (self.path.join(key.place()), Instant::now(), 0);
+        loop {
+            match opened(&path) {
+                Ok(file) => {
+                    let file = Locked::of(file, began, patience)?;
+                    // (it may have been pruned before its lock was had)
+                    if file.is_at(&path) {
+                        return Slot::read(file, key).ok_or(StoreError::Damaged(path));
+                    }
+                }
                 Err(error) if error.kind() == io::ErrorKind::NotFound => {
                     if path.is_symlink() {
                         return Err(StoreError::Damaged(path));
                     }
                     match make(&path, key) {
-                        Err(error) if may_be_removed(&error) && removed < REMOVED => removed += 1,
+                        Err(error) if may_be_removed(&error) && turns < REMOVED => (),
                         made => made.map_err(|error| self.refused(error))?,
                     }
-                    continue;
                 }
                 Err(error) => return Err(self.refused(error)),
-            };
-            // (it may have been pruned before its lock was had)
-            if file.is_at(&path) {
-                return Slot::read(file, key).ok_or(StoreError::Damaged(path));
+            }
+            turns += 1;
+            if turns > REMOVED && began.elapsed() > patience {
+                return Err(StoreError::Locked);
             }
         }
-        Err(StoreError::Locked)
     }
 
     /// Why a slot can't be opened or made.
@@ -232,13 +241,13 @@ fn prune_slot(path: &Path) -> io::Result<()> {
 }
 
 impl Locked {
-    /// The file, once its lock is had: at the latest so long after that moment as a lock is waited for.
-    fn of(mut file: OwnFile, began: Instant) -> Result<Self, StoreError> {
+    /// The file, once its lock is had: it is waited for until so long after that moment.
+    fn of(mut file: OwnFile, began: Instant, patience: Duration) -> Result<Self, StoreError> {
         loop {
             file = match Self::at_once(file) {
                 Ok(locked) => return Ok(locked),
                 Err((_, error)) if error.kind() != io::ErrorKind::WouldBlock => return Err(error.into()),
-                Err(_) if began.elapsed() > PATIENCE => return Err(StoreError::Locked),
+                Err(_) if began.elapsed() > patience => return Err(StoreError::Locked),
                 Err((file, _)) => file,
             };
             thread::sleep(Duration::from_millis(1));
@@ -328,3 +337,25 @@ impl fmt::Display for StoreError {
 }
 
 impl Error for StoreError {}
+
+#[cfg(test)]
+mod tests {
+    use super::{Folder, Key, StoreError};
+    use std::time::Duration;
+    use std::{env, fs, process};
+
+    #[test]
+    fn a_lock_that_nobody_has_is_taken_without_any_patience() {
+        let path = env::temp_dir().join(format!("hikebox-patience-{}", process::id()));
+        let _ = fs::remove_dir_all(&path);
+        let (folder, key) = (Folder::new(&path), Key::of_budget("b"));
+        // it is made, and then it is there
+        for _ in 0..2 {
+            let slot = folder.lock_within(Duration::ZERO, &key).map_err(|error| error.to_string()).unwrap();
+            let other = folder.lock_within(Duration::ZERO, &key);
+            assert!(matches!(other, Err(StoreError::Locked)));
+            drop(slot);
+        }
+        fs::remove_dir_all(&path).unwrap();
+    }
+}

@@ -8,7 +8,7 @@ use crate::limits::grants::Tickets;
 use crate::limits::ticket::{NoTicket, Ticket};
 use crate::policy::Policy;
 use crate::random;
-use crate::system::{generation, is_generation, PerProcess};
+use crate::system::{generation, is_generation, MadeOnce, PerProcess};
 use std::error::Error;
 use std::fmt;
 use std::mem;
@@ -70,7 +70,7 @@ enum Made {
 
 /// Moment 0 of all limits, so that two at once have one clock. It lies a day before the first limit is made: a runtime
 /// of tokio's may have stopped its clock before that.
-static BEGAN: Mutex<Option<Moment>> = Mutex::new(None);
+static BEGAN: MadeOnce<Moment> = MadeOnce::new();
 
 const A_DAY: Duration = Duration::from_secs(86_400);
 
@@ -81,7 +81,7 @@ struct Handles {
 }
 
 /// What a [`CallLimit`] is made with.
-#[derive(Clone, Debug)]
+#[derive(Clone, Debug, PartialEq)]
 #[non_exhaustive]
 pub enum Terms {
     /// A bucket.
@@ -124,7 +124,7 @@ pub struct InFlight {
 
 /// A circuit breaker: after failures in a row it is open, then it is half open and admits probes, and when these
 /// succeed it is closed.
-#[derive(Clone, Debug)]
+#[derive(Clone, Debug, PartialEq, Eq, Hash)]
 pub struct Breaker {
     /// How many failures in a row open it.
     pub failures: u32,
@@ -347,7 +347,7 @@ impl CallLimit {
     }
 
     fn of(made: Made) -> Result<Self, BudgetError> {
-        let began = *lock(&BEGAN).get_or_insert_with(|| Moment::of(Instant::now()).before(A_DAY));
+        let began = BEGAN.get(|| Moment::of(Instant::now()).before(A_DAY));
         let handles = PerProcess::new(Handles::of(made.handle(moment_of(began))?));
         Ok(Self { shared: Arc::new(Shared { reads: made.reads(), made, began, handles }) })
     }

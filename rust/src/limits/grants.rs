@@ -56,6 +56,11 @@ impl<S: Tickets + 'static> Grants for Arc<S> {
     type Refusal = Infallible;
 }
 
+/// For a store that is chosen when the program runs.
+impl Grants for Arc<dyn Tickets> {
+    type Refusal = Infallible;
+}
+
 /// The limits that never refuse the first run.
 macro_rules! never_refuse {
     ($($(#[$gate:meta])? $kind:ident),+) => {$(
@@ -122,7 +127,7 @@ pub enum AnyBudget {
 pub struct Unlimited;
 
 /// A store of tickets outside the engine, such as a table of a database. (With the feature `leased`, `Leased` and
-/// `LeasedQuota` are stores in a folder.) Pass an `Arc` of it to whatever retries:
+/// `LeasedQuota` are stores in a folder.) Pass an `Arc` of it, or an `Arc<dyn Tickets>`, to whatever retries:
 ///
 /// ```
 /// use hikebox::{retry, NoTicket, Policy, RetryError, Ticket, Tickets};
@@ -383,23 +388,31 @@ impl Limit for CallLimit {
     }
 }
 
-impl<S: Tickets + 'static> Limit for Arc<S> {
-    fn source(&self) -> Source {
-        Source::Store(self.clone())
-    }
+/// How a store of one's own is used, behind an `Arc` of it or of any store.
+macro_rules! store {
+    ([$($of:tt)*] $store:ty) => {
+        impl<$($of)*> Limit for Arc<$store> {
+            fn source(&self) -> Source {
+                Source::Store(self.clone())
+            }
 
-    fn count_request(&self, _now: Moment) {
-        self.deposit();
-    }
+            fn count_request(&self, _now: Moment) {
+                self.deposit();
+            }
 
-    fn hears_of_successes(&self) -> bool {
-        true
-    }
+            fn hears_of_successes(&self) -> bool {
+                true
+            }
 
-    fn count_success(&self, last: Option<Ticket>, _clock: &dyn Fn() -> Moment) {
-        self.succeeded(last);
-    }
+            fn count_success(&self, last: Option<Ticket>, _clock: &dyn Fn() -> Moment) {
+                self.succeeded(last);
+            }
+        }
+    };
 }
+
+store!([S: Tickets + 'static] S);
+store!([] dyn Tickets);
 
 impl AnyBudget {
     fn get(&self) -> &dyn Limit {

@@ -12,6 +12,7 @@ use crate::retry::hooks::Hooked;
 use crate::retry::host::SystemSleep;
 use crate::retry::host::{Host, Random};
 use crate::retry::retrying::Retrying;
+use std::fmt;
 use std::future::Future;
 use std::time::Duration;
 
@@ -44,6 +45,12 @@ impl<F: Fn(Duration) -> S, S: Future<Output = ()>> AsyncSleep for F {
 /// A call whose runs are futures.
 #[derive(Clone, Copy)]
 pub struct Async<F>(F);
+
+impl<F> fmt::Debug for Async<F> {
+    fn fmt(&self, f: &mut fmt::Formatter<'_>) -> fmt::Result {
+        f.debug_struct("Async").finish_non_exhaustive()
+    }
+}
 
 /// Runs the call until it succeeds, in an async function: `FnMut` and `AsyncFnMut` have no bound in common that keeps
 /// such a future `Send`.

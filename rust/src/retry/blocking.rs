@@ -9,6 +9,7 @@ use crate::retry::hooks::Hooked;
 use crate::retry::host::{Host, Random, Sleep};
 use crate::retry::progress::Progress;
 use crate::retry::retrying::Retrying;
+use std::fmt;
 
 /// Runs the call until it succeeds: again after each failure, as the policy says, with a ticket of the budget for each
 /// retry. The first run takes none, and counts as a request of a [`Quota`](crate::Quota).
@@ -73,6 +74,12 @@ impl<T, E, F: FnMut() -> Result<T, E>> BlockingRetryable<T, E> for F {}
 /// A call that blocks.
 #[derive(Clone, Copy)]
 pub struct Blocking<F>(F);
+
+impl<F> fmt::Debug for Blocking<F> {
+    fn fmt(&self, f: &mut fmt::Formatter<'_>) -> fmt::Result {
+        f.debug_struct("Blocking").finish_non_exhaustive()
+    }
+}
 
 impl<E, H: Hooked<E>, K: Clock, S: Sleep, R: Random, L: MayRefuse> Retrying<'_, E, (), H, Host<K, S, R>, L> {
     /// Runs the call until it succeeds. Between runs the thread sleeps.

@@ -1,5 +1,6 @@
 //! The functions that a retry calls at each failure.
 
+use std::fmt;
 use std::marker::PhantomData;
 use std::sync::Arc;
 use std::time::Duration;
@@ -132,6 +133,24 @@ impl<E> Hooked<E> for SharedHooks<E> {
 impl<E> Clone for SharedHooks<E> {
     fn clone(&self) -> Self {
         Self(self.0.clone())
+    }
+}
+
+impl<W, C, A, N> fmt::Debug for Hooks<W, C, A, N> {
+    fn fmt(&self, f: &mut fmt::Formatter<'_>) -> fmt::Result {
+        f.debug_struct("Hooks").finish_non_exhaustive()
+    }
+}
+
+impl<E> fmt::Debug for NoHook<E> {
+    fn fmt(&self, f: &mut fmt::Formatter<'_>) -> fmt::Result {
+        f.write_str("NoHook")
+    }
+}
+
+impl<E> fmt::Debug for SharedHooks<E> {
+    fn fmt(&self, f: &mut fmt::Formatter<'_>) -> fmt::Result {
+        f.debug_struct("SharedHooks").finish_non_exhaustive()
     }
 }
 

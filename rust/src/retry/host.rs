@@ -2,6 +2,7 @@
 
 use crate::clock::SystemClock;
 use crate::random;
+use std::fmt;
 use std::thread;
 use std::time::Duration;
 
@@ -23,6 +24,12 @@ pub struct SystemSleep;
 /// Random words of the thread, seeded by the system's random bytes.
 #[derive(Clone, Copy, Debug, Default)]
 pub struct SystemRandom;
+
+impl<K, S, R> fmt::Debug for Host<K, S, R> {
+    fn fmt(&self, f: &mut fmt::Formatter<'_>) -> fmt::Result {
+        f.debug_struct("Host").finish_non_exhaustive()
+    }
+}
 
 /// A way to block: any function of a [`Duration`].
 pub trait Sleep {

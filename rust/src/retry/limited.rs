@@ -90,11 +90,12 @@ where
 /// A call of a [`Limited`] service, with its retries.
 #[must_use = "futures do nothing unless they are polled"]
 pub struct LimitedCall<Request, S: Service<Request>, B = Whenever, L = Refused> {
-    service: S,
+    /// `None` if the call was not admitted, and once it is over: a permit of the service is free then.
+    service: Option<S>,
     settings: Arc<Settings<Request, S::Response, S::Error>>,
-    /// `None` if it was not admitted, and once it is over: the limit has back then what the call held.
+    /// The same: the limit has back then what the call held.
     progress: Option<Progress>,
-    /// The request of the next call, if it could be copied.
+    /// The request of the next call, if it could be copied, until the call is over.
     next: Option<Request>,
     at: At<S::Future, Result<S::Response, S::Error>, L>,
     retries: PhantomData<fn() -> B>,
@@ -114,18 +115,24 @@ impl<Request, S: Service<Request>, B, L> Unpin for LimitedCall<Request, S, B, L>
 
 impl<Request, S: Service<Request>, B, L: MayRefuse> LimitedCall<Request, S, B, L> {
     fn new(mut service: S, settings: Arc<Settings<Request, S::Response, S::Error>>, request: Request) -> Self {
-        let (mut progress, mut next) = (None, None);
-        let at = match L::admitted(&settings.source) {
-            Ok(asked) => {
-                let now = Moment::now();
-                settings.source.count_request(now);
-                progress = Some(Progress::new(now, asked));
-                next = (settings.copy)(&request);
-                At::Call(Box::pin(service.call(request)))
-            }
-            Err(refused) => At::NotAdmitted(Some(refused)),
+        let asked = match L::admitted(&settings.source) {
+            Ok(asked) => asked,
+            Err(refused) => return Self::of(None, settings, At::NotAdmitted(Some(refused))),
         };
-        Self { service, settings, progress, next, at, retries: PhantomData }
+        let now = Moment::now();
+        settings.source.count_request(now);
+        let progress = Progress::new(now, asked);
+        let next = (settings.copy)(&request);
+        let at = At::Call(Box::pin(service.call(request)));
+        Self { progress: Some(progress), next, ..Self::of(Some(service), settings, at) }
+    }
+
+    fn of(
+        service: Option<S>,
+        settings: Arc<Settings<Request, S::Response, S::Error>>,
+        at: At<S::Future, Result<S::Response, S::Error>, L>,
+    ) -> Self {
+        Self { service, settings, progress: None, next: None, at, retries: PhantomData }
     }
 
     /// What follows a call that ended so: the wait for the next one, or `None`.
@@ -148,10 +155,10 @@ impl<Request, S: Service<Request>, B, L: MayRefuse> LimitedCall<Request, S, B, L
             _ => None,
         };
         let resumed = self.progress.as_mut().map_or(false, |progress| progress.resume(Moment::now).is_ok());
-        match self.next.take() {
-            Some(request) if resumed => {
+        match (self.next.take(), &mut self.service) {
+            (Some(request), Some(service)) if resumed => {
                 self.next = (self.settings.copy)(&request);
-                self.at = At::Call(Box::pin(self.service.call(request)));
+                self.at = At::Call(Box::pin(service.call(request)));
                 None
             }
             _ => kept,
@@ -160,7 +167,7 @@ impl<Request, S: Service<Request>, B, L: MayRefuse> LimitedCall<Request, S, B, L
 
     /// The call is over, and ended so.
     fn over(&mut self, result: Result<S::Response, BoxError>) -> Poll<Result<S::Response, BoxError>> {
-        (self.progress, self.at) = (None, At::Over);
+        (self.service, self.progress, self.next, self.at) = (None, None, None, At::Over);
         Poll::Ready(result)
     }
 }
@@ -192,10 +199,10 @@ where
                         return Poll::Pending;
                     }
                     *sleep = None;
-                    match this.service.poll_ready(cx) {
-                        Poll::Ready(Ok(())) => {}
-                        Poll::Ready(Err(error)) => return this.over(Err(error.into())),
-                        Poll::Pending => return Poll::Pending,
+                    match this.service.as_mut().map(|service| service.poll_ready(cx)) {
+                        Some(Poll::Ready(Err(error))) => return this.over(Err(error.into())),
+                        Some(Poll::Pending) => return Poll::Pending,
+                        Some(Poll::Ready(Ok(()))) | None => {}
                     }
                     if let Some(result) = this.begins() {
                         return this.over(result.map_err(Into::into));

@@ -218,7 +218,8 @@ impl Machine {
         self.next()
     }
 
-    /// A run ends that began as soon as the one before had failed, or that begins with this where it was waited for.
+    /// A run ends that began as soon as the one before had failed, or that begins with this where it was waited for. Its
+    /// host says when the next one begins: [`Machine::begins`].
     #[inline]
     pub(crate) fn ran(&mut self, run: &Run) -> Result<(), Ending> {
         let told = match self.told.what {
@@ -226,7 +227,9 @@ impl Machine {
             _ => self.handle.ran(run, &mut self.told),
         };
         debug_assert!(!told || self.told.left == self.left_at(run.ended));
-        self.next()
+        self.next()?;
+        self.waits = true;
+        Ok(())
     }
 
     /// The moment to wait for, or `None` where a run is under way, or it is over.
@@ -271,10 +274,10 @@ impl Machine {
         Ok(())
     }
 
-    /// Whether its next run is yet to begin, where its host does not step it when that does.
+    /// The run after one that was told by [`Machine::ran`] begins.
     #[inline]
-    pub(crate) fn set_waits(&mut self, waits: bool) {
-        self.waits = waits;
+    pub(crate) fn begins(&mut self) {
+        self.waits = false;
     }
 
     /// Its run succeeded, and it is not stepped any more: the ticket of its last retry, of a store.

@@ -71,11 +71,7 @@ impl Progress {
     #[cold]
     fn asked(&mut self, rules: &Rules<'_>, now: Moment, lost: &mut Lost, asked: Duration) -> Result<Duration, Ending> {
         let asked = rules.options.granted(asked, self.passed(now)).ok_or(Ending::Deadline)?;
-        let wait = asked.max(Duration::from_millis(self.planned(rules, now, lost)?));
-        if let Some(running) = &mut self.running {
-            running.machine.set_waits(!wait.is_zero());
-        }
-        Ok(wait)
+        Ok(asked.max(Duration::from_millis(self.planned(rules, now, lost)?)))
     }
 
     /// The milliseconds until the start that is planned.
@@ -147,6 +143,18 @@ impl Progress {
         running.resume(began, now).map(|()| Some(now))
     }
 
+    /// The same for a host that makes the run in any case: one past the deadline is the last, and uses its ticket too.
+    #[cfg(feature = "tower")]
+    pub(crate) fn begin_in_any_case(&mut self, clock: impl FnOnce() -> Moment) {
+        if let Some(running) = &mut self.running {
+            let now = match running.deadline {
+                Some(_) => running.told_at(self.began, clock()),
+                None => running.latest,
+            };
+            running.begins_at(now);
+        }
+    }
+
     /// The error of a retry that ended so.
     pub(crate) fn error<E, L>(&self, ended: Ending, error: E) -> RetryError<E, L> {
         let failure = || self.running.as_ref().and_then(|running| running.machine.store_failure());
@@ -207,7 +215,6 @@ impl Running {
     /// Begins the run that is due, or that an error had wait, where that is not past the deadline.
     fn resume(&mut self, began: Moment, now: Moment) -> Result<(), Ending> {
         if self.deadline.map_or(false, |deadline| now.since(began) > deadline) {
-            self.machine.set_waits(true);
             self.machine.cancel();
             return Err(Ending::Deadline);
         }
@@ -220,7 +227,7 @@ impl Running {
     #[inline]
     fn begins_at(&mut self, now: u64) {
         self.latest = self.latest.max(now).max(self.machine.due().unwrap_or(0));
-        self.machine.set_waits(false);
+        self.machine.begins();
     }
 
     /// What the engine is told of a moment, of a retry whose first run began then, at the origin.

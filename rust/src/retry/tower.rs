@@ -293,9 +293,8 @@ impl<Request, Response, E, B: Noted> Future for RetryWait<Request, Response, E, 
             }
         }
         let mut next = this.next.take().expect("it is not polled after its end");
-        if this.sleep.is_some() {
-            // Where the engine refuses it, the run that tower makes all the same is the last one.
-            let _ = next.progress.get_mut().map(|progress| progress.resume(Moment::now));
+        if let Some(progress) = next.progress.get_mut() {
+            progress.begin_in_any_case(Moment::now);
         }
         Poll::Ready(next)
     }

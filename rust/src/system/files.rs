@@ -86,9 +86,11 @@ pub(super) unsafe extern "C" fn after_fork() {
 }
 
 /// Closes the files of the parent's locks in a child: they would stay locked as long as it lives, where the parent
-/// died.
+/// died. No thread of the child opens a file yet, or forks: one of the parent's may have been counted for the moment in
+/// which it saw the fork.
 pub(super) fn close_inherited() {
     FORKING.store(0, Ordering::SeqCst);
+    OPENING.store(0, Ordering::SeqCst);
     for own in &OWN {
         let descriptor = own.swap(-1, Ordering::Relaxed);
         if descriptor >= 0 {
@@ -134,10 +136,11 @@ pub(crate) fn boottime() -> io::Result<Duration> {
 
 #[cfg(test)]
 mod tests {
-    use super::{change, OwnFile, OWN};
-    use crate::system::generation;
+    use super::{change, close_inherited, OwnFile, FORKING, OPENING, OWN};
+    use crate::system::{generation, register};
     use std::fs::File;
-    use std::os::unix::io::AsRawFd;
+    use std::io;
+    use std::os::unix::io::{AsRawFd, FromRawFd};
     use std::sync::atomic::{AtomicI32, Ordering};
     use std::sync::Barrier;
     use std::thread;
@@ -145,22 +148,59 @@ mod tests {
 
     static OPENED: AtomicI32 = AtomicI32::new(-1);
 
-    /// Whether the process of a fork, which this thread makes, knows the file and has closed it.
-    fn child_has_closed_it() -> bool {
+    /// A file whose number no file of another test has, once it is closed: these have the least that are free.
+    fn with_a_high_number() -> io::Result<File> {
+        let file = File::open("/dev/null")?;
+        // SAFETY: the call makes a file of its own, or answers -1.
+        match unsafe { libc::fcntl(file.as_raw_fd(), libc::F_DUPFD_CLOEXEC, 300) } {
+            -1 => Err(io::Error::last_os_error()),
+            // SAFETY: nobody else has this file.
+            number => Ok(unsafe { File::from_raw_fd(number) }),
+        }
+    }
+
+    /// Whether the process of a fork, which this thread makes, says so, by what is safe after a fork.
+    fn in_child(says: impl FnOnce() -> bool) -> bool {
         // SAFETY: the child calls what is safe after a fork alone.
         unsafe {
             match libc::fork() {
-                0 => {
-                    let opened = OPENED.load(Ordering::Relaxed);
-                    let is_closed = opened >= 0 && libc::fcntl(opened, libc::F_GETFD) == -1;
-                    libc::_exit(i32::from(!is_closed))
-                }
+                0 => libc::_exit(i32::from(!says())),
                 child => {
                     let mut status = -1;
                     libc::waitpid(child, &mut status, 0) == child && status == 0
                 }
             }
         }
+    }
+
+    /// Whether a forked child knows the file and has closed it.
+    fn child_has_closed_it() -> bool {
+        in_child(|| {
+            let opened = OPENED.load(Ordering::Relaxed);
+            // SAFETY: a descriptor that is not open is refused.
+            opened >= 0 && unsafe { libc::fcntl(opened, libc::F_GETFD) } == -1
+        })
+    }
+
+    #[test]
+    fn a_child_forks_though_a_thread_was_about_to_open_a_file_at_its_fork() {
+        generation();
+        let forks = || {
+            // (so such a thread leaves it, which counts itself, sees the fork, and is not in the child)
+            OPENING.fetch_add(1, Ordering::SeqCst);
+            close_inherited();
+            OPENING.load(Ordering::SeqCst) == 0
+        };
+        assert!(in_child(forks));
+    }
+
+    #[test]
+    fn a_child_is_told_from_its_parent_where_two_threads_registered_for_forks() {
+        let parents = generation();
+        register();
+        assert!(in_child(|| generation() != parents && FORKING.load(Ordering::SeqCst) == 0));
+        assert_eq!(generation(), parents);
+        assert!(OwnFile::opened(|| File::open("/dev/null")).is_ok());
     }
 
     #[test]
@@ -172,7 +212,7 @@ mod tests {
                 let file = OwnFile::opened(|| {
                     begun.wait();
                     thread::sleep(Duration::from_millis(100));
-                    let file = File::open("/dev/null")?;
+                    let file = with_a_high_number()?;
                     OPENED.store(file.as_raw_fd(), Ordering::Relaxed);
                     Ok(file)
                 });

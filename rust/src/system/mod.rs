@@ -3,14 +3,14 @@
 
 #[cfg(feature = "leased")]
 mod files;
+mod made_once;
 #[cfg(feature = "tower")]
 mod to_take;
 mod try_lock;
 
 #[cfg(feature = "leased")]
 pub(crate) use files::{boottime, try_lock, unlock, OwnFile};
-#[cfg(not(feature = "tokio"))]
-use std::ptr;
+pub(crate) use made_once::MadeOnce;
 use std::sync::atomic::{AtomicBool, AtomicPtr, AtomicU64, Ordering};
 #[cfg(not(feature = "tokio"))]
 use std::time::Instant;
@@ -52,31 +52,36 @@ pub(crate) fn monotonic() -> u64 {
 /// An instant, and what [`monotonic`] told at it: the same pair each time.
 #[cfg(not(feature = "tokio"))]
 pub(crate) fn known_instant() -> (Instant, u64) {
-    static KNOWN: AtomicPtr<(Instant, u64)> = AtomicPtr::new(ptr::null_mut());
-    let known = KNOWN.load(Ordering::Acquire);
-    if known.is_null() {
-        return know_instant(&KNOWN);
-    }
-    // SAFETY: the pointer is to a pair that is never freed.
-    unsafe { *known }
+    static KNOWN: MadeOnce<(Instant, u64)> = MadeOnce::new();
+    KNOWN.get(|| read_at_once(Instant::now, monotonic))
 }
 
-#[cfg(not(feature = "tokio"))]
-#[cold]
-fn know_instant(known: &AtomicPtr<(Instant, u64)>) -> (Instant, u64) {
-    let made = Box::into_raw(Box::new((Instant::now(), monotonic())));
-    match known.compare_exchange(ptr::null_mut(), made, Ordering::AcqRel, Ordering::Acquire) {
-        // SAFETY: this pair is never freed.
-        Ok(_) => unsafe { *made },
-        // SAFETY: nobody else has the one pointer, and the other is to a pair that is never freed.
-        Err(others) => unsafe {
-            drop(Box::from_raw(made));
-            *others
-        },
+/// What two readings of one clock tell within a millisecond: where the thread was stopped between them they are made
+/// again. (Each takes some 30 nanoseconds.) A clock that is slower than that is read a hundred times, and the readings
+/// that are closest to each other count.
+#[cfg(any(test, not(feature = "tokio")))]
+fn read_at_once<T>(read: impl Fn() -> T, nanos: impl Fn() -> u64) -> (T, u64) {
+    const CLOSE: u64 = 1_000_000;
+    let between = || {
+        let before = nanos();
+        let read = read();
+        let after = nanos();
+        (after - before, (read, before))
+    };
+    let mut closest = between();
+    for _ in 1..100 {
+        if closest.0 < CLOSE {
+            break;
+        }
+        let next = between();
+        if next.0 < closest.0 {
+            closest = next;
+        }
     }
+    closest.1
 }
 
-/// How many forks lie between the process in which this was first asked for and this one.
+/// What grows by each fork between the process in which this was first asked for and this one.
 static GENERATION: AtomicU64 = AtomicU64::new(0);
 static IS_REGISTERED: AtomicBool = AtomicBool::new(false);
 
@@ -90,7 +95,7 @@ unsafe extern "C" fn count_fork() {
 /// A number that is another one in a forked child than in its parent. It costs two loads, and no call of the system.
 #[inline]
 pub(crate) fn generation() -> u64 {
-    if !IS_REGISTERED.load(Ordering::Relaxed) {
+    if !IS_REGISTERED.load(Ordering::Acquire) {
         register();
     }
     GENERATION.load(Ordering::Relaxed)
@@ -102,17 +107,18 @@ pub(crate) fn is_generation(number: u64) -> bool {
     GENERATION.load(Ordering::Relaxed) == number
 }
 
+/// Has each fork counted from now on. Several threads that come first at once may each register the functions, which are
+/// then called several times around each fork. No thread goes on before they are registered.
 #[cold]
 fn register() {
-    if !IS_REGISTERED.swap(true, Ordering::Relaxed) {
-        #[cfg(feature = "leased")]
-        let (before, after): (Handler, Handler) = (Some(files::before_fork), Some(files::after_fork));
-        #[cfg(not(feature = "leased"))]
-        let (before, after): (Handler, Handler) = (None, None);
-        // SAFETY: the functions are called around each fork, and change atomic numbers and own files alone. (Where there
-        // is no memory to register them, children are taken for their parent.)
-        unsafe { pthread_atfork(before, after, Some(count_fork)) };
-    }
+    #[cfg(feature = "leased")]
+    let (before, after): (Handler, Handler) = (Some(files::before_fork), Some(files::after_fork));
+    #[cfg(not(feature = "leased"))]
+    let (before, after): (Handler, Handler) = (None, None);
+    // SAFETY: the functions are called around each fork, and change atomic numbers and own files alone. (Where there is no
+    // memory to register them, children are taken for their parent.)
+    unsafe { pthread_atfork(before, after, Some(count_fork)) };
+    IS_REGISTERED.store(true, Ordering::Release);
 }
 
 /// A value of which each process has its own. A forked child makes it anew when it first asks for it, since another
@@ -198,5 +204,33 @@ impl<T> Drop for PerProcess<T> {
         if made.generation != generation() {
             leaked(made);
         }
+    }
+}
+
+#[cfg(test)]
+mod tests {
+    use super::read_at_once;
+    use std::cell::Cell;
+
+    /// Two readings of a clock that each take this many nanoseconds, by turns: how far they are apart.
+    fn apart(takes: &[u64]) -> u64 {
+        let (now, mut left) = (Cell::new(0), takes.iter().copied().cycle());
+        let left = std::cell::RefCell::new(move || left.next().unwrap());
+        let read = || {
+            now.set(now.get() + (left.borrow_mut())());
+            now.get()
+        };
+        let (first, second) = read_at_once(read, read);
+        first.abs_diff(second)
+    }
+
+    #[test]
+    fn two_readings_between_which_a_thread_was_stopped_are_made_again() {
+        const SECOND: u64 = 1_000_000_000;
+        // the number, the instant, and the number again
+        assert_eq!(apart(&[30, 30, 30]), 30);
+        assert_eq!(apart(&[30, 5 * SECOND, 30, 30, 30, 5 * SECOND, 30, 40, 50]), 40);
+        // a clock that is always so slow: the closest readings
+        assert_eq!(apart(&[1, 3_000_000, 1, 1, 2_000_000, 1]), 2_000_000);
     }
 }

@@ -5,23 +5,28 @@ use hikebox::{retry, Grants, NoTicket, Policy, RetryError, Ticket, Usage};
 use std::io::{BufRead, BufReader};
 use std::path::{Path, PathBuf};
 use std::process::{Child, Command, Stdio};
-use std::time::Duration;
-use std::{env, fs};
+use std::time::{Duration, Instant};
+use std::{env, fs, thread};
 
 /// A folder of a test's own, which is taken away in the end.
 pub struct Scratch(pub PathBuf);
 
 impl Scratch {
     pub fn new(name: &str) -> Self {
-        let path = env::temp_dir().join(format!("hikebox-{name}-{}", std::process::id()));
-        let _ = fs::remove_dir_all(&path);
-        Self(path)
+        let scratch = Self(env::temp_dir().join(format!("hikebox-{name}-{}", std::process::id())));
+        scratch.remove();
+        scratch
+    }
+
+    /// Takes it away, also where a test has put a file in its place.
+    fn remove(&self) {
+        let _ = fs::remove_dir_all(&self.0).or_else(|_| fs::remove_file(&self.0));
     }
 }
 
 impl Drop for Scratch {
     fn drop(&mut self) {
-        let _ = fs::remove_dir_all(&self.0);
+        self.remove();
     }
 }
 
@@ -83,6 +88,42 @@ pub fn number(drawn: Result<Ticket, NoTicket>) -> Option<u64> {
         Err(NoTicket::UsedUp { .. }) => None,
         Err(failed) => panic!("{failed}"),
     }
+}
+
+/// The same. A lock that others keep for long, on a busy machine, is asked for again.
+#[cfg(feature = "leased")]
+#[track_caller]
+pub fn number_in_the_end(draw: impl Fn() -> Result<Ticket, NoTicket>) -> Option<u64> {
+    loop {
+        match draw() {
+            Err(failed) if is_locked(&failed) => thread::sleep(Duration::from_millis(1)),
+            drawn => return number(drawn),
+        }
+    }
+}
+
+/// Whether a draw failed since others kept the slot's lock for too long.
+#[cfg(feature = "leased")]
+pub fn is_locked(failed: &NoTicket) -> bool {
+    let error = failed.failure().and_then(|failure| failure.get().downcast_ref::<hikebox::StoreError>());
+    matches!(error, Some(hikebox::StoreError::Locked))
+}
+
+/// Waits until this happens, for a minute at most.
+#[track_caller]
+pub fn comes_to(mut happens: impl FnMut() -> bool) {
+    let began = Instant::now();
+    while !happens() {
+        assert!(began.elapsed() < Duration::from_secs(60), "it did not happen within a minute");
+        thread::sleep(Duration::from_millis(1));
+    }
+}
+
+/// Whether this process has the file at this path open.
+pub fn is_open(path: &Path) -> bool {
+    // (the folder for temporary files may be a link)
+    let (path, open) = (fs::canonicalize(path).unwrap(), fs::read_dir("/proc/self/fd").unwrap().flatten());
+    open.filter_map(|entry| fs::read_link(entry.path()).ok()).any(|file| file == path)
 }
 
 /// A draw for which the store fails with an error of this pattern.
