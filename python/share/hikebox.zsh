@@ -54,7 +54,7 @@ case $state in
       check) _arguments -S '(- *)'{-h,--help}'[print help]' '1:policy:_files' ;;
       storm)
         _arguments -S '(- *)'{-h,--help}'[print help]' $picture \
-          '--scenario[begin with a story, or with the scenario of a file]:scenario:_hikebox_scenarios' \
+          '--scenario[begin with a scenario, by its name or its file]:scenario:_hikebox_scenarios' \
           '--rate[requests a second]:number:' \
           '--rates[spans with a rate of their own]:FROM..TO@N,..:' \
           '--together[requests that come at one moment]:number:' \

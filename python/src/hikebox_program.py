@@ -1,7 +1,8 @@
 """The program `hikebox`, from before its package is loaded: control-C ends it without a traceback, and so does a pipe
-that nobody reads."""
+that nobody reads, or an engine that can't be loaded."""
 
 import signal
+import sys
 
 __all__ = ["main"]
 
@@ -11,6 +12,10 @@ def main() -> int:
     if signal.getsignal(signal.SIGINT) is signal.default_int_handler:
         signal.signal(signal.SIGINT, signal.SIG_DFL)
     signal.signal(signal.SIGPIPE, signal.SIG_DFL)
-    from hikebox.cli.main import main as program
-
+    try:
+        from hikebox.cli.main import main as program
+    except ImportError as error:
+        if sys.stderr is not None:
+            sys.stderr.write(f"hikebox: {error}\n")
+        return 4
     return program()

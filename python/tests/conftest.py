@@ -3,6 +3,7 @@
 from __future__ import annotations
 
 import os
+import random
 import shutil
 import signal
 import socket
@@ -38,28 +39,52 @@ def clock() -> Any:
     return VirtualClock()
 
 
+def free_port() -> int:
+    """A port that nobody listens at, and that the system gives to no connection as its own: a server that is stopped
+    finds it free when it is started again."""
+    first, last = map(int, Path("/proc/sys/net/ipv4/ip_local_port_range").read_text().split())
+    ports = [port for port in range(10_000, 65_000) if not first <= port <= last] or range(10_000, 65_000)
+    while True:
+        port = random.choice(ports)
+        with socket.socket() as free:
+            try:
+                free.bind(("127.0.0.1", port))
+                return port
+            except OSError:
+                continue
+
+
 class RedisServer:
     """A redis-server of the test's own, on loopback, that can be stopped and started."""
 
     def __init__(self, folder: Path, *options: str) -> None:
         self.folder = folder
         self.options = options
-        with socket.socket() as free:
-            free.bind(("127.0.0.1", 0))
-            self.port: int = free.getsockname()[1]
+        self.port = 0
         self.process: Optional[subprocess.Popen[bytes]] = None
 
     def start(self) -> None:
-        words: List[str] = ["redis-server", "--port", str(self.port), "--bind", "127.0.0.1", "--dir", str(self.folder)]
-        self.process = subprocess.Popen([*words, "--save", "", *self.options], stdout=subprocess.DEVNULL)
-        client = self.client()
-        for _ in range(200):
-            try:
-                client.ping()
+        """Starts it, again on the port that it had. Another process may take a free port before it does."""
+        for _ in range(100):
+            port = self.port or free_port()
+            words = ["redis-server", "--port", str(port), "--bind", "127.0.0.1", "--dir", str(self.folder)]
+            self.process = subprocess.Popen([*words, "--save", "", *self.options], stdout=subprocess.DEVNULL)
+            if self._answers(port, self.process):
+                self.port = port
                 return
+            self.stop()
+            time.sleep(0.1)
+        raise RuntimeError("redis-server did not start")
+
+    def _answers(self, port: int, process: Any) -> bool:
+        """Waits until it answers, and not another server on its port: False where it ended."""
+        until = time.monotonic() + 60
+        while process.poll() is None and time.monotonic() < until:
+            try:
+                return bool(self.client(port).info("server")["process_id"] == process.pid)
             except Exception:
                 time.sleep(0.05)
-        raise RuntimeError("redis-server did not start")
+        return False
 
     def stop(self) -> None:
         """Ends it at once, with no word to it."""
@@ -68,10 +93,11 @@ class RedisServer:
             self.process.wait()
             self.process = None
 
-    def client(self) -> Any:
+    def client(self, port: Optional[int] = None) -> Any:
         import redis
 
-        return redis.Redis(host="127.0.0.1", port=self.port, socket_timeout=2, socket_connect_timeout=2)
+        how: Any = {"socket_timeout": 60, "socket_connect_timeout": 60}
+        return redis.Redis(host="127.0.0.1", port=port or self.port, **how)
 
 
 @pytest.fixture
@@ -112,15 +138,10 @@ def served(server: Any) -> Iterator[Any]:
     thread.join()
 
 
-@pytest.fixture(scope="session")
-def running_server() -> Iterator[Any]:
+@pytest.fixture
+def server() -> Iterator[Any]:
+    """A server on loopback that answers what the test says. It is the test's own: a request that a client of another
+    test gave up may be read late."""
     from http_server import Server
 
     yield from served(Server())
-
-
-@pytest.fixture
-def server(running_server: Any) -> Any:
-    """A server on loopback that answers what the test says."""
-    running_server.says(200)
-    return running_server

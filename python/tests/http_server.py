@@ -4,6 +4,7 @@ from __future__ import annotations
 
 import socket
 import struct
+import threading
 import time
 from dataclasses import dataclass, field
 from http.server import BaseHTTPRequestHandler, ThreadingHTTPServer
@@ -22,6 +23,8 @@ class Answer:
     #: Seconds that pass before the answer, and before each byte of its body.
     after: float = 0.0
     drips: float = 0.0
+    #: What is waited for in the middle of the body.
+    holds: Optional[threading.Event] = None
     #: Whether the body has no length, and whether the connection is reset in place of an answer.
     is_chunked: bool = False
     resets: bool = False
@@ -34,7 +37,7 @@ class Server(ThreadingHTTPServer):
 
     def __init__(self) -> None:
         super().__init__(("127.0.0.1", 0), Handler)
-        self.answers: List[Answer] = []
+        self.answers: List[Answer] = [Answer(200)]
         self.requests: List[Tuple[str, str, bytes]] = []
         #: How many connections were made.
         self.connections = 0
@@ -104,6 +107,10 @@ class Handler(BaseHTTPRequestHandler):
             for at in range(len(body)):
                 time.sleep(answer.drips)
                 self.wfile.write(body[at : at + 1])
+        elif answer.holds is not None:
+            self.wfile.write(body[: len(body) // 2])
+            answer.holds.wait(60)
+            self.wfile.write(body[len(body) // 2 :])
         else:
             self.wfile.write(body if answer.sends is None else body[: answer.sends])
         if answer.sends is not None:

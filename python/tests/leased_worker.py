@@ -45,11 +45,11 @@ class Dying:
 
 def store_of(how: Any) -> Any:
     if "file" in how:
-        store: Any = FileStore(how["file"])
+        store: Any = FileStore(how["file"], patience=100)
     else:
         import redis
 
-        client = redis.Redis(host="127.0.0.1", port=how["port"], socket_timeout=1, socket_connect_timeout=1)
+        client = redis.Redis(host="127.0.0.1", port=how["port"], socket_timeout=60, socket_connect_timeout=60)
         store = RedisStore(client, durable=how.get("durable", False))
     if how.get("kill", "drawn") != "drawn":
         return Dying(store, how["kill"], how["number"])
@@ -109,6 +109,7 @@ def main() -> None:
             mine += 1
             if mine == most:
                 os.kill(os.getpid(), signal.SIGKILL)
+        pauses.look()
 
     threads = [threading.Thread(target=work) for _ in range(how.get("threads", 1))]
     for thread in threads:

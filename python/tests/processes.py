@@ -51,7 +51,7 @@ class Workers:
 
     def await_tickets(self, count: int) -> None:
         """Waits until so many tickets were drawn."""
-        until = time.monotonic() + 30
+        until = time.monotonic() + 60
         while self.count() < count:
             assert time.monotonic() < until
             time.sleep(0.02)

@@ -18,7 +18,7 @@ from hikebox.leased.shared import SharedLimit
 def main() -> None:
     how = json.loads(sys.argv[1])
     output = os.open(sys.argv[2], os.O_WRONLY | os.O_CREAT | os.O_APPEND)
-    limit = SharedLimit(FileStore(how["file"]), "tokens", Bucket(how["tokens"], cost=1, refund=True))
+    limit = SharedLimit(FileStore(how["file"], patience=100), "tokens", Bucket(how["tokens"], cost=1, refund=True))
     drawn = 0
     while True:
         request = limit.request()

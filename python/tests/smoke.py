@@ -84,10 +84,10 @@ def tries_lab() -> None:
         asked = urllib.request.Request(address + "storm", body, {"Content-Type": "application/json"})
         parts: List[Any] = [address, address + "lab.css", address + "lab.js", asked]
         for part in parts:
-            with urllib.request.urlopen(part, timeout=20) as answer:
+            with urllib.request.urlopen(part, timeout=120) as answer:
                 assert answer.status == 200 and len(answer.read()) > 1000, part
         lab.send_signal(signal.SIGINT)
-        assert (lab.wait(timeout=20), lab.stdout.read()) == (0, "")
+        assert (lab.wait(timeout=120), lab.stdout.read()) == (0, "")
 
 
 if __name__ == "__main__":

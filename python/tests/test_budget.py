@@ -6,8 +6,10 @@ import copy
 import gc
 import os
 import pickle
+import re
 import signal
 import threading
+from decimal import Decimal
 from typing import Any, List, Tuple
 
 import pytest
@@ -224,7 +226,7 @@ def test_a_fork_while_another_thread_holds_a_lock() -> None:
     with budget.passes.root():
         child = os.fork()
         if child == 0:
-            signal.alarm(10)
+            signal.alarm(60)
             drawn: List[Any] = []
             thread = threading.Thread(target=lambda: drawn.append(budget.close()))
             thread.start()
@@ -264,7 +266,7 @@ def test_a_child_that_is_forked_while_a_thread_reads_a_policy_waits_for_no_lock(
 
     def fails_in_the_child() -> None:
         monkeypatch.undo()
-        signal.alarm(30)
+        signal.alarm(60)
         fails()
 
     monkeypatch.setattr(Policy, "reads", property(slowly))
@@ -296,6 +298,15 @@ def test_policies_and_retries_go_on_in_a_forked_child() -> None:
         finally:
             os._exit(status)
     assert os.waitstatus_to_exitcode(os.waitpid(child, 0)[1]) == 0
+
+
+@pytest.mark.parametrize("limit", [True, 1.5, "7", None, Decimal(7)])
+def test_a_limit_that_is_no_whole_number_is_refused(limit: Any) -> None:
+    rising = Budget.rising(5)
+    for takes in (Budget, Budget.rising, rising.raise_to):
+        with pytest.raises(TypeError, match=re.escape(f"expected a whole number of tickets, got {limit!r}")):
+            takes(limit)
+    assert rising.limit == 5
 
 
 def test_it_is_shown() -> None:

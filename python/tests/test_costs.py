@@ -72,7 +72,7 @@ def test_successes_of_many_threads_are_counted_while_others_look() -> None:
 
 
 def test_a_success_on_a_quota_is_counted_and_no_more() -> None:
-    quota = Quota(0, 1, 3600)
+    quota = Quota(0, 1, 10**6)
     retrying = Retrying(recurs(3), budget=quota)
     counted = ["deposit", "lend", "moment", "deposit", "give_back"]
     retrying(succeeds)
@@ -83,7 +83,7 @@ def test_a_success_on_a_quota_is_counted_and_no_more() -> None:
 
 
 def test_a_success_that_is_counted_as_such_costs_no_more() -> None:
-    quota = Quota(0, 1, 3600, counts_successes=True)
+    quota = Quota(0, 1, 10**6, counts_successes=True)
     retrying = Retrying(recurs(3), budget=quota)
     retrying(succeeds)
     assert functions(lambda: retrying(succeeds))[1:] == [

@@ -2,6 +2,7 @@
 
 from __future__ import annotations
 
+import contextlib
 import math
 import os
 import re
@@ -15,13 +16,14 @@ import threading
 import time
 import zlib
 from pathlib import Path
+from types import SimpleNamespace
 from typing import Any, Callable, Dict, Iterator, List, Optional
 
 import pytest
 from conftest import python_environment
 
 from draws import number
-from hikebox import StoreError, StoreLost, TermsError, Usage
+from hikebox import StoreError, StoreLost, TermsError, Usage, _forks
 from hikebox.leased import FileStore, Leased, LeasedQuota, Range, slots
 
 #: A window that no test sees the end of, in seconds and in milliseconds.
@@ -46,6 +48,14 @@ def path_of(folder: Path, key: bytes) -> Path:
     for byte in key:
         digest = ((digest ^ byte) * 0x100000001B3) % 2**64
     return folder / f"{digest:016x}"[:2] / f"{digest:016x}"[2:]
+
+
+def wait_for_another(path: Path) -> None:
+    """Waits until two threads have this slot open: this one, and one that waits for its lock."""
+    until = time.monotonic() + 60
+    while sum(os.path.realpath(link.path) == str(path) for link in os.scandir("/proc/self/fd")) < 2:
+        assert time.monotonic() < until
+        time.sleep(0.001)
 
 
 def take(store: FileStore, count: int = 1, name: str = "a") -> Range:
@@ -287,11 +297,13 @@ def has_time_namespaces() -> Optional[str]:
     return None if tried.returncode == 0 else f"no time namespace: {tried.stderr.strip()}"
 
 
-@pytest.mark.parametrize("shift", ["3600", "-100", "86400"])
-def test_a_process_in_a_time_namespace_counts_in_the_windows_of_all(shift: str, tmp_path: Path) -> None:
+@pytest.mark.parametrize("hours", [1, -1, 24])
+def test_a_process_in_a_time_namespace_counts_in_the_windows_of_all(hours: int, tmp_path: Path) -> None:
     reason = has_time_namespaces()
     if reason is not None:
         pytest.skip(reason)
+    # (no clock goes back to before the machine started)
+    shift = str(max(3600 * hours, -int(time.clock_gettime(time.CLOCK_BOOTTIME) / 2)))
     code = (
         "import sys, time; from hikebox.leased import FileStore, LeasedQuota, Leased\n"
         "quota = LeasedQuota(FileStore(sys.argv[1]), 'a', 3, 0, float(sys.argv[2]), lease=1)\n"
@@ -374,7 +386,7 @@ def test_a_relative_path_where_the_present_directory_is_gone(tmp_path: Path, mon
 
 
 def test_a_removed_folder_is_made_again_and_leases_go_on(tmp_path: Path) -> None:
-    store = FileStore(tmp_path / "counts")
+    store = FileStore(tmp_path / "counts", patience=60)
     leased = Leased(store, "a", limit=100, lease=4)
     assert number(leased.draw()) == 0
     shutil.rmtree(tmp_path / "counts")
@@ -384,7 +396,7 @@ def test_a_removed_folder_is_made_again_and_leases_go_on(tmp_path: Path) -> None
     with store._locked("budget a"):
         waiting = threading.Thread(target=lambda: drawn.append(take(store)))
         waiting.start()
-        time.sleep(0.05)
+        wait_for_another(path_of(tmp_path / "counts", b"budget a"))
         shutil.rmtree(tmp_path / "counts")
     waiting.join()
     assert drawn == [Range(0, 1, None)]
@@ -399,6 +411,28 @@ def test_a_lock_that_is_not_given_up(tmp_path: Path) -> None:
     assert take(store) == Range(0, 1, None)
 
 
+@pytest.mark.parametrize("held_up_at", range(1, 5))
+def test_a_process_that_is_held_up_for_longer_than_its_patience_tries_once_more(
+    held_up_at: int, tmp_path: Path, monkeypatch: pytest.MonkeyPatch
+) -> None:
+    """It is held up at any of its looks at the clock, and meanwhile the lock is given up."""
+    store = FileStore(tmp_path / "counts", patience=5)
+    looks: List[float] = []
+    holder = contextlib.ExitStack()
+
+    def clock() -> float:
+        looks.append(0.0)
+        if len(looks) >= held_up_at:
+            holder.close()
+            return 60.0
+        return 0.0
+
+    with holder:
+        holder.enter_context(store._locked("budget a"))
+        monkeypatch.setattr(slots, "time", SimpleNamespace(monotonic=clock, sleep=lambda seconds: None))
+        assert take(store) == Range(0, 1, None)
+
+
 # Kills, full disks, forks
 
 KILLED = """
@@ -406,7 +440,7 @@ import os, sys
 from hikebox.leased import FileStore, Leased
 folder, output = sys.argv[1:]
 file = os.open(output, os.O_WRONLY | os.O_CREAT | os.O_APPEND)
-leased = Leased(FileStore(folder), "a", limit=10**9, lease=3)
+leased = Leased(FileStore(folder, patience=100), "a", limit=10**9, lease=3)
 while True:
     ticket = leased.draw()
     assert ticket
@@ -416,20 +450,23 @@ while True:
 
 def test_30_processes_killed_at_any_moment(tmp_path: Path) -> None:
     running: List[Any] = []
-    for number in range(30):
-        words = [sys.executable, "-c", KILLED, str(tmp_path / "counts"), str(tmp_path / f"tickets-{number}")]
-        running.append(subprocess.Popen(words, env=python_environment()))
-        if len(running) >= 5:
-            until = time.monotonic() + 20
-            oldest = tmp_path / f"tickets-{number - 4}"
-            while not (oldest.exists() and oldest.read_bytes().count(b"\n") > 12) and time.monotonic() < until:
-                time.sleep(0.01)
-            time.sleep(0.02 + 0.001 * number)
-            os.kill(running[0].pid, signal.SIGKILL)
-            assert running.pop(0).wait() == -signal.SIGKILL
-    for process in running:
-        process.kill()
-        process.wait()
+    try:
+        for number in range(30):
+            words = [sys.executable, "-c", KILLED, str(tmp_path / "counts"), str(tmp_path / f"tickets-{number}")]
+            running.append(subprocess.Popen(words, env=python_environment()))
+            if len(running) >= 5:
+                until = time.monotonic() + 100
+                oldest = tmp_path / f"tickets-{number - 4}"
+                while not (oldest.exists() and oldest.read_bytes().count(b"\n") > 12):
+                    assert time.monotonic() < until
+                    time.sleep(0.01)
+                time.sleep(0.02 + 0.001 * number)
+                os.kill(running[0].pid, signal.SIGKILL)
+                assert running.pop(0).wait() == -signal.SIGKILL
+    finally:
+        for process in running:
+            process.kill()
+            process.wait()
     texts = [path.read_bytes() for path in tmp_path.glob("tickets-*")]
     # (a line that a kill cut off has no end)
     tickets = [int(line) for text in texts for line in text.splitlines(keepends=True) if line.endswith(b"\n")]
@@ -563,6 +600,26 @@ def test_a_child_that_is_forked_while_a_file_is_opened_does_not_keep_it(tmp_path
     assert [os.waitstatus_to_exitcode(os.waitpid(child, 0)[1]) for child in children] == [0] * len(children)
 
 
+def test_no_child_is_forked_while_a_folder_is_open(tmp_path: Path, monkeypatch: pytest.MonkeyPatch) -> None:
+    """A lease that makes a slot looks at the files beside it, by an open folder that a child would keep."""
+    may_fork: List[bool] = []
+
+    def another_forks() -> None:
+        may_fork.append(_forks.no_fork.acquire(blocking=False))
+        if may_fork[-1]:
+            _forks.no_fork.release()
+
+    def listdir(path: str, lists: Callable[[str], List[str]] = os.listdir) -> List[str]:
+        other = threading.Thread(target=another_forks)
+        other.start()
+        other.join()
+        return lists(path)
+
+    monkeypatch.setattr(os, "listdir", listdir)
+    take(FileStore(tmp_path / "counts"))
+    assert may_fork == [False]
+
+
 def test_a_process_killed_in_a_lease_while_its_child_lives(tmp_path: Path) -> None:
     """The child was forked while the lock was held, and its copy of the file does not hold it."""
     code = (
@@ -628,7 +685,9 @@ def calls_of_a_lease(folder: Path, name: str) -> List[str]:
     subprocess.run(words, env=python_environment(), check=True)
     text = output.read_text()
     between = text[text.index('"/begins"') : text.index('"/ends"')]
-    return [line.partition("(")[0] for line in between.splitlines()[1:-1]]
+    calls = [line.partition("(")[0] for line in between.splitlines()[1:-1]]
+    # (Python may ask the system for memory at any time)
+    return [call for call in calls if call not in ("brk", "mmap", "munmap", "mremap", "madvise")]
 
 
 def fill_names(folder: Path, count: int) -> None:
@@ -715,24 +774,24 @@ def test_windows_that_are_over_are_deleted(tmp_path: Path) -> None:
 
 
 def test_a_slot_that_is_deleted_while_a_lease_waits_for_it_is_made_again(tmp_path: Path) -> None:
-    store = FileStore(tmp_path / "counts")
+    store = FileStore(tmp_path / "counts", patience=60)
     take_of_window(store, "a", 100)
     path = path_of(tmp_path / "counts", b"windows of 100 ms of a")
     drawn: List[Range] = []
     with store._locked("windows of 100 ms of a"):
         waiting = threading.Thread(target=lambda: drawn.append(take_of_window(store, "a", 100)))
         waiting.start()
-        time.sleep(0.05)
+        wait_for_another(path)
         path.unlink()
     waiting.join()
     assert [(granted.first, granted.tickets) for granted in drawn] == [(0, 1)]
     assert path.exists()
 
 
-def test_8_threads_of_4_processes_make_one_slot(tmp_path: Path) -> None:
+def test_8_threads_of_4_processes_make_one_slot(memory: Path) -> None:
     code = (
         "import os, sys, threading; from hikebox.leased import FileStore, Leased\n"
-        "store = FileStore(sys.argv[1])\n"
+        "store = FileStore(sys.argv[1], patience=100)\n"
         "def work():\n"
         "    for name in range(40):\n"
         "        while True:\n"
@@ -744,7 +803,7 @@ def test_8_threads_of_4_processes_make_one_slot(tmp_path: Path) -> None:
         "threads = [threading.Thread(target=work) for _ in range(8)]\n"
         "[thread.start() for thread in threads]; [thread.join() for thread in threads]\n"
     )
-    words = [sys.executable, "-c", code, str(tmp_path / "counts")]
+    words = [sys.executable, "-c", code, str(memory / "counts")]
     running = [subprocess.Popen(words, env=python_environment(), stdout=subprocess.PIPE, text=True) for _ in range(4)]
     drawn: Dict[int, List[int]] = {}
     for process in running:

@@ -16,6 +16,7 @@ import sys
 import threading
 import time
 import weakref
+from types import SimpleNamespace
 from typing import Any, Callable, Dict, Iterator, List
 
 import pytest
@@ -42,6 +43,7 @@ from hikebox import (
     spaced,
     state_of,
 )
+from hikebox.retry import waits
 from hikebox.retry.options import DEFAULTS
 from hikebox.testing import VirtualClock, no_waits
 
@@ -543,17 +545,15 @@ def test_an_event_ends_a_wait_by_a_sleep_that_was_given(sleep: Any) -> None:
     assert 0.09 < time.monotonic() - began < 20
 
 
-def test_a_sleep_beside_an_event_waits_as_long_as_the_policy_says() -> None:
-    slept: List[float] = []
-
-    def sleep(seconds: float) -> None:
-        slept.append(seconds)
-        time.sleep(seconds)
-
-    began = time.monotonic()
-    Retrying(recurs(2) & spaced(0.2), stop=threading.Event(), sleep=sleep, fallback=lambda state: None)(fails)
-    assert 0.4 <= time.monotonic() - began < 20
-    assert len(slept) >= 4 and max(slept) <= 0.05
+def test_a_sleep_beside_an_event_waits_as_long_as_the_policy_says(monkeypatch: pytest.MonkeyPatch) -> None:
+    clock = VirtualClock(5.0)
+    # (which is the clock by which time passes while a thread sleeps)
+    monkeypatch.setattr(waits, "time", SimpleNamespace(monotonic=clock, sleep=time.sleep))
+    monkeypatch.setattr(waits, "_REAL_CLOCKS", (clock,))
+    how: Any = {"stop": threading.Event(), "sleep": clock.sleep, "clock": clock, "fallback": lambda state: None}
+    Retrying(recurs(2) & spaced(0.125), **how)(fails)
+    # two parts of 0.05 s, and what is left
+    assert clock.slept == pytest.approx([0.05, 0.05, 0.025] * 2) and clock() == pytest.approx(5.25)
 
 
 def test_a_sleep_that_takes_no_time_beside_an_event_is_told_the_whole_wait(clock: VirtualClock) -> None:
@@ -595,11 +595,11 @@ async def own_sleep(seconds: float) -> None:
 @pytest.mark.parametrize("kind", [asyncio.Event, threading.Event, multiprocessing.Event, Flag])
 def test_an_event_ends_a_wait_of_a_coroutine(kind: Any, sleep: Any) -> None:
     async def main() -> Any:
+        began = time.monotonic()
         try:
             event = kind()
         except OSError:
             pytest.skip("processes can share no memory on this machine")
-        began = time.monotonic()
         if kind is not Flag:
             asyncio.get_running_loop().call_later(0.1, event.set)
         retrying = AsyncRetrying(spaced(60), stop=event, sleep=sleep, fallback=lambda state: state.ending)
@@ -630,6 +630,14 @@ def test_a_wait_beside_an_event_that_is_not_set_ends_by_itself(kind: Any) -> Non
     assert asyncio.run(main()) == []
 
 
+class Pulsed(threading.Event):
+    """An event that is set and cleared again at once, so that no thread finds it set: those that wait are woken."""
+
+    def pulse(self) -> None:
+        with self._cond:  # type: ignore[attr-defined]
+            self._cond.notify_all()  # type: ignore[attr-defined]
+
+
 @pytest.mark.parametrize("kind", ["blocking", "threading", "asyncio"])
 def test_an_event_that_is_set_and_cleared_again_lets_no_attempt_begin_early(kind: str) -> None:
     began: List[float] = []
@@ -646,9 +654,10 @@ def test_an_event_that_is_set_and_cleared_again_lets_no_attempt_begin_early(kind
             asyncio.get_running_loop().call_later(later, lambda: (event.set(), event.clear()))
         await AsyncRetrying(recurs(1) & spaced(0.4), stop=event, fallback=lambda state: None)(ask_later)
 
-    event: Any = asyncio.Event() if kind == "asyncio" else threading.Event()
+    event: Any = {"blocking": Pulsed, "threading": threading.Event, "asyncio": asyncio.Event}[kind]()
     if kind == "blocking":
-        threading.Timer(0.1, lambda: (event.set(), event.clear())).start()
+        for later in (0.05, 0.1):
+            threading.Timer(later, event.pulse).start()
         Retrying(recurs(1) & spaced(0.4), stop=event, fallback=lambda state: None)(ask)
     else:
         asyncio.run(main(event))
@@ -746,6 +755,27 @@ def test_loops_of_several_threads_wait_for_one_event() -> None:
     for thread in threads:
         thread.join(30)
     assert endings == [Ending.STOPPED] * 400
+
+
+def test_a_wait_for_an_event_that_the_collector_ends_waits_for_no_lock() -> None:
+    # (the collector may close a coroutine at any step of the thread that watches its event)
+    event, watch = threading.Event(), waits._Watch()
+
+    async def main() -> None:
+        left = watch.is_set(event)
+        left.send(None)
+
+        def closes() -> None:
+            with watch._lock:
+                left.close()
+
+        thread = threading.Thread(target=closes, daemon=True)
+        thread.start()
+        thread.join(20)
+        assert not thread.is_alive()
+
+    asyncio.run(main())
+    event.set()
 
 
 def test_a_timeout_of_trio_ends_a_retry_without_waits() -> None:
@@ -1030,9 +1060,9 @@ def test_a_switch_leaves_all_waits_out() -> None:
             assert asyncio.run(fetch_later()) == 3
         assert fetch() > 0
     assert time.monotonic() - began < 30
-    slept: List[float] = []
-    fetch.retry_with(sleep=slept.append)()
-    assert slept == pytest.approx([3600] * 3, abs=1)
+    clock = VirtualClock()
+    fetch.retry_with(clock=clock, sleep=clock.sleep)()
+    assert clock.slept == [3600] * 3
 
 
 # Memory
@@ -1224,5 +1254,5 @@ def test_threads_that_poll_at_once_have_a_slate_each() -> None:
             thread.join()
     finally:
         sys.setswitchinterval(before)
-    for jitter, waits in slept.items():
-        assert len(waits) == 2000 and all(wait == pytest.approx(jitter) for wait in waits)
+    for jitter, waited in slept.items():
+        assert len(waited) == 2000 and all(wait == pytest.approx(jitter) for wait in waited)

@@ -218,7 +218,7 @@ def test_responses_that_are_followed_are_let_go(server: Server, clock: VirtualCl
                 assert callable(verb)
             return int(response.status)
 
-    assert asyncio.run(asyncio.wait_for(main(), 20)) == 200
+    assert asyncio.run(asyncio.wait_for(main(), 60)) == 200
 
 
 def test_a_budget_of_a_client(server: Server, clock: VirtualClock) -> None:

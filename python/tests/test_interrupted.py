@@ -2,6 +2,7 @@
 
 from __future__ import annotations
 
+import contextlib
 import gc
 import linecache
 import os
@@ -64,8 +65,27 @@ def is_of_os_stat(error: BaseException) -> bool:
     return isinstance(cause, Interrupt) and handler.name == "handler" and is_stat
 
 
+@contextlib.contextmanager
+def finalizers_are_interrupted_too() -> Iterator[None]:
+    """One that is raised in a finalizer goes no further; pytest would keep it, with its frames, and tell of it."""
+    hook, sys.unraisablehook = sys.unraisablehook, lambda unraisable: None
+    try:
+        yield
+    finally:
+        sys.unraisablehook = hook
+
+
+def took(call: Callable[[], Any]) -> float:
+    """How many seconds a call takes."""
+    began = time.perf_counter()
+    call()
+    return time.perf_counter() - began
+
+
 def interrupted(call: Callable[[], Any]) -> None:
-    """Calls this again and again, while a timer of 0.1 ms raises exceptions inside the package."""
+    """Calls this again and again, while a timer raises exceptions inside the package: each 0.1 ms, or on a slow machine
+    once in the time that a call takes there, so that calls come to their end."""
+    interval = max(0.0001, min(took(call) for _ in range(9)))
     package = os.path.dirname(hikebox.__file__)
 
     def handler(number: int, frame: Any) -> None:
@@ -73,23 +93,21 @@ def interrupted(call: Callable[[], Any]) -> None:
             raise Interrupt()
 
     came_through, until = 0, time.monotonic() + SECONDS
-    # (one that is raised in a finalizer goes no further; pytest would keep it, with its frames)
-    hook, sys.unraisablehook = sys.unraisablehook, lambda unraisable: None
     before = signal.signal(signal.SIGALRM, handler)
-    signal.setitimer(signal.ITIMER_REAL, 0.0001, 0.0001)
-    try:
-        while came_through < OFTEN and time.monotonic() < until:
-            try:
-                call()
-            except Interrupt:
-                came_through += 1
-            except SystemError as error:
-                assert is_of_os_stat(error)
-                came_through += 1
-    finally:
-        signal.setitimer(signal.ITIMER_REAL, 0)
-        signal.signal(signal.SIGALRM, before)
-        sys.unraisablehook = hook
+    with finalizers_are_interrupted_too():
+        signal.setitimer(signal.ITIMER_REAL, interval, interval)
+        try:
+            while came_through < OFTEN and time.monotonic() < until:
+                try:
+                    call()
+                except Interrupt:
+                    came_through += 1
+                except SystemError as error:
+                    assert is_of_os_stat(error)
+                    came_through += 1
+        finally:
+            signal.setitimer(signal.ITIMER_REAL, 0)
+            signal.signal(signal.SIGALRM, before)
     assert came_through > OFTEN / 10
 
 
@@ -188,13 +206,14 @@ def interrupted_at(step: int, run: Callable[[], Any]) -> bool:
         return trace
 
     before = sys.gettrace()
-    sys.settrace(trace)
-    try:
-        run()
-    except Interrupt:
-        pass
-    finally:
-        sys.settrace(before)
+    with finalizers_are_interrupted_too():
+        sys.settrace(trace)
+        try:
+            run()
+        except Interrupt:
+            pass
+        finally:
+            sys.settrace(before)
     return left[0] <= 0
 
 

@@ -226,13 +226,19 @@ def test_retries_draw_on_it(tmp_path: Path) -> None:
 
 
 def test_coroutines_draw_on_it_and_others_go_on_meanwhile(tmp_path: Path) -> None:
+    beats: List[int] = []
+
     class Slow(FileStore):
+        """Takes as long as a coroutine needs to go on."""
+
         def take(self, *words: Any) -> Range:
-            time.sleep(0.1)
+            goal, until = len(beats) + 2, time.monotonic() + 60
+            while len(beats) < goal:
+                assert time.monotonic() < until
+                time.sleep(0.001)
             return super().take(*words)
 
     leased = Leased(Slow(tmp_path / "counts"), "a", limit=100, lease=4)
-    beats = []
 
     async def beat() -> None:
         while True:
@@ -257,7 +263,8 @@ def test_coroutines_draw_on_it_and_others_go_on_meanwhile(tmp_path: Path) -> Non
     ended = asyncio.run(main())
     assert [state_of(error).granted for error in ended] == [3] * 10  # type: ignore[union-attr]
     assert leased.granted == 31
-    assert len(beats) > 20
+    # eight leases
+    assert len(beats) >= 16
 
 
 def test_threads_draw_each_ticket_once(tmp_path: Path) -> None:

@@ -467,12 +467,12 @@ def test_a_quota_in_redis(redis_server: Any) -> None:
     decoding = redis.Redis(host="127.0.0.1", port=server.port, decode_responses=True)
 
     def in_one_window(name: str) -> Any:
-        """The quota, what was drawn and seen in a window of it, and that window: none if it ended before."""
+        """The quota, what was drawn and seen in a window of it, and that window: none if some may be of another one."""
         first = LeasedQuota(store, name, 4, 0.5, 3, lease=2, again_after=0.01)
         second = LeasedQuota(RedisStore(decoding), name, 4, 0.5, 3, lease=2, again_after=0.01)
-        while time.time() % 3 > 0.1:
+        while not 1 < time.time() % 3 < 1.3:
             time.sleep(0.01)
-        window = int(time.time() // 3)
+        began, window = time.monotonic(), int(time.time() // 3)
         drawn = [number(quota.draw()) for quota in (first, first, second, second, second)]
         for _ in range(3):
             first.deposit()
@@ -483,9 +483,9 @@ def test_a_quota_in_redis(redis_server: Any) -> None:
         drawn += [number(quota.draw()) for quota in (first, second, first)]
         key = "hikebox:{%s}:quota:3000:%d" % (name, window)
         kept = (server.client().pttl(key), server.client().hgetall(key))
-        return first, drawn, seen, kept, window if time.time() // 3 == window else None
+        return first, drawn, seen, kept, window if time.monotonic() - began < 1 else None
 
-    for name in "abcdef":
+    for name in "abcdefghijkl":
         first, drawn, (of_second, of_first), (milliseconds, counts), window = in_one_window(name)
         if window is not None:
             break
@@ -616,13 +616,19 @@ def test_a_client_that_repeats_tells_requests_once(redis_server: Any, monkeypatc
     port = redis_server().port
     client = redis.Redis(port=port, retry=Retry(NoBackoff(), 3), retry_on_error=[redis.TimeoutError])
     time.sleep(8.2)
-    while time.time() % 5 > 1:  # all of it is in one window
-        time.sleep(0.01)
-    quota = LeasedQuota(RedisStore(client), "a", 2, 1, 5)
-    quota.deposit(10)
-    with pytest.raises(StoreError, match="Redis: the answer was lost"):
-        quota.seen()
-    assert lost and (quota.seen().asked, quota.seen().left) == (10, 12)
+    for name in "abcdefghijkl":
+        while not 1 < time.time() % 5 < 2:
+            time.sleep(0.01)
+        began = time.monotonic()
+        lost.clear()
+        quota = LeasedQuota(RedisStore(client), name, 2, 1, 5)
+        quota.deposit(10)
+        with pytest.raises(StoreError, match="Redis: the answer was lost"):
+            quota.seen()
+        seen = quota.seen()
+        if time.monotonic() - began < 1:  # (so it is sure that all of it was in one window)
+            break
+    assert lost and (seen.asked, seen.left) == (10, 12)
     assert client.ping()
 
 
@@ -647,7 +653,7 @@ def test_processes_killed_at_points_of_a_lease_of_redis(workers: Drawers, redis_
     time.sleep(3.2)
     how = {"port": server.port, "name": "a", "reserve": 100, "share": 0.5, "per": 0.5, "lease": 10, "each": 1}
     for point, number in KILLS:
-        workers.start({**how, "patient": True, "seconds": 10, "kill": point, "number": number})
+        workers.start({**how, "patient": True, "seconds": 60, "kill": point, "number": number})
     for _ in range(2):
         workers.start({**how, "patient": True, "seconds": 2.5, "again_after": 0.05})
     ends = workers.wait()
@@ -672,7 +678,10 @@ def test_redis_stopped_and_started_under_load(durable: bool, workers: Drawers, r
         workers.start(how)
     workers.await_tickets(2000)
     server.stop()
-    time.sleep(0.3)
+    until = time.monotonic() + 60
+    while -1 not in workers.tickets():
+        assert time.monotonic() < until
+        time.sleep(0.05)
     stopped_at = time.time()
     server.start()
     drawn = len(workers.notes("ticket"))

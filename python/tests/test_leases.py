@@ -64,7 +64,7 @@ class Counting:
         self.calls += 1
         if self.may_answer is not None:
             self.was_asked.set()
-            assert self.may_answer.wait(20)
+            assert self.may_answer.wait(60)
         if self.error is not None:
             raise self.error
         if period is None:
@@ -305,7 +305,7 @@ def test_a_child_that_is_forked_at_any_step_of_a_draw_has_no_lease_of_its_parent
     ticks = itertools.count()
     for step in range(1, 10_000):
         # (by a clock that goes on at each look, as where the machine is busy)
-        store = FileStore(tmp_path / str(step))
+        store = FileStore(tmp_path / str(step), patience=60)
         quota = LeasedQuota(store, "a", 100, 0, LONG, lease=8, clock=lambda: next(ticks) / 1000)
         both = drawn_by_parent_and_child(quota, step, 9)
         if both is None:
@@ -330,7 +330,7 @@ def test_nobody_waits_for_the_store_who_has_a_ticket_at_hand(now: Clock) -> None
     drawn: List[Any] = []
     asking = threading.Thread(target=lambda: drawn.append(quota.draw()))
     asking.start()
-    assert store.was_asked.wait(20)
+    assert store.was_asked.wait(60)
     # the other thread waits for the store, and none of this does
     first.hand_back()
     assert number(quota.draw()) == 0
@@ -389,15 +389,18 @@ def test_a_signals_handler_that_draws_while_its_thread_asks_the_store(asks: str,
 
     def handler(number: int, frame: Any) -> None:
         if next(turns) == 0:
-            found.append(refusal(quota.draw()))
+            drawn = refusal(quota.draw())
             with pytest.raises(StoreError, match="is being asked"):
                 quota.seen()
-            store.may_answer.set()
+            found.append(drawn)
 
     def signals() -> None:
         # again and again: one that comes just before the thread waits does not interrupt it
-        while store.was_asked.wait(20) and not store.may_answer.wait(0.01):
+        while store.was_asked.wait(60) and not found:
             os.kill(os.getpid(), signal.SIGUSR1)
+            time.sleep(0.01)
+        # (not by the handler, which may have interrupted the thread where it holds the event's own lock)
+        store.may_answer.set()
 
     before = signal.signal(signal.SIGUSR1, handler)
     signalling = threading.Thread(target=signals)
@@ -434,6 +437,38 @@ def test_a_handler_of_the_log_that_draws(fails: str, now: Clock) -> None:
     assert [number(each) for each in found] == [None] and store.calls == 1
 
 
+def test_a_thread_that_waits_for_the_log_keeps_no_other_from_drawing(now: Clock) -> None:
+    store = Counting(now)
+    store.error = StoreError("away")
+    quota = LeasedQuota(store, "a", 4, 0, 10, clock=now)
+
+    class Handler(logging.Handler):
+        def emit(self, record: Any) -> None:
+            pass
+
+    handler = Handler()
+    logging.getLogger("hikebox").addHandler(handler)
+    threads = [threading.Thread(target=quota.draw) for _ in range(2)]
+    try:
+        handler.acquire()  # (as where it handles something on this thread)
+        try:
+            threads[0].start()
+            until = time.monotonic() + 60
+            while store.calls == 0:
+                assert time.monotonic() < until
+                time.sleep(0.001)
+            threads[1].start()
+            threads[1].join(60)
+            assert not threads[1].is_alive()
+        finally:
+            handler.release()
+            for thread in threads:
+                if thread.ident is not None:
+                    thread.join()
+    finally:
+        logging.getLogger("hikebox").removeHandler(handler)
+
+
 def test_terms_that_are_set_while_the_store_says_that_there_is_none(now: Clock) -> None:
     store = Counting(now)
     quota = LeasedQuota(store, "a", 0, 0, 10, lease=1, clock=now)
@@ -441,7 +476,7 @@ def test_terms_that_are_set_while_the_store_says_that_there_is_none(now: Clock) 
     drawn: List[Any] = []
     asking = threading.Thread(target=lambda: drawn.append(quota.draw()))
     asking.start()
-    assert store.was_asked.wait(20)
+    assert store.was_asked.wait(60)
     quota.set_terms(reserve=1)
     store.may_answer.set()
     asking.join()
@@ -554,7 +589,7 @@ def test_a_thread_that_waited_takes_what_another_one_leased(now: Clock) -> None:
     threads = [threading.Thread(target=lambda: drawn.append(quota.draw())) for _ in range(8)]
     for thread in threads:
         thread.start()
-    assert store.was_asked.wait(20)
+    assert store.was_asked.wait(60)
     time.sleep(0.1)
     store.may_answer.set()
     for thread in threads:

@@ -18,7 +18,7 @@ def fails(attempt: Attempt) -> None:
 
 
 def test_the_retry_of_a_loop_that_is_left_ends() -> None:
-    quota = Quota(10, 0, 3600)
+    quota = Quota(10, 0, 10**6)
     retrying, retrying_async = Retrying(recurs(5), budget=quota), AsyncRetrying(recurs(5), budget=quota)
 
     async def main() -> Any:
@@ -93,7 +93,7 @@ class Pending:
 @pytest.mark.parametrize("on", [BaseException, (KeyError, BaseException)])
 @pytest.mark.parametrize("how", [{}, {"before_sleep": print}], ids=["plain", "with a hook"])
 def test_what_is_closed_in_an_attempt_ends(on: Any, how: Any) -> None:
-    quota = Quota(10, 0, 3600)
+    quota = Quota(10, 0, 10**6)
     retrying_async: Any = AsyncRetrying(recurs(3), on=on, budget=quota, **how)
     retrying = Retrying(recurs(3), on=on, budget=quota, **how)
 

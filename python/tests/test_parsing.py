@@ -5,10 +5,10 @@ another thread parses in the middle of it, as it may where the garbage collector
 from __future__ import annotations
 
 import ast
+import contextlib
 import gc
 import threading
-from contextlib import contextmanager
-from typing import Iterator
+from typing import Iterator, Optional
 
 import pytest
 
@@ -21,16 +21,19 @@ class Freed:
     left = 0
     asked = threading.Event()
     parsed = threading.Event()
+    parser: Optional[threading.Thread] = None
 
     def __init__(self) -> None:
         self.itself = self
 
     def __del__(self) -> None:
         if Freed.left:
-            Freed.left -= 1
-            Freed.parsed.clear()
-            Freed.asked.set()
-            Freed.parsed.wait(10)
+            # (the collector may run in the thread that parses, which asks nobody)
+            if threading.current_thread() is not Freed.parser:
+                Freed.left -= 1
+                Freed.parsed.clear()
+                Freed.asked.set()
+                Freed.parsed.wait(60)
             Freed()
 
 
@@ -38,15 +41,17 @@ def parse_when_asked(stop: threading.Event) -> None:
     while not stop.is_set():
         if Freed.asked.wait(0.1):
             Freed.asked.clear()
-            ast.parse("[1, 2]", mode="eval")
+            # (which Python may refuse too, since the other thread is in the middle of it)
+            with contextlib.suppress(SystemError):
+                ast.parse("[1, 2]", mode="eval")
             Freed.parsed.set()
 
 
-@contextmanager
+@contextlib.contextmanager
 def freed_often(times: int) -> Iterator[None]:
     """Frees such an object at each allocation in this block, so many times."""
     stop = threading.Event()
-    other = threading.Thread(target=parse_when_asked, args=(stop,))
+    other = Freed.parser = threading.Thread(target=parse_when_asked, args=(stop,))
     other.start()
     threshold = gc.get_threshold()
     gc.collect()

@@ -618,18 +618,18 @@ def test_what_the_page_on_storms_says_of_clients_beside_is_so() -> None:
     quota = Quota(10, 0.1, 1)
     back, never = (storm(FULL, budget=quota, beside=[Population(share, FULL)]) for share in (0.2, 0.21))
     assert (back.totals.recovered_ms, never.totals.recovered_ms) == (20_000, None)
-    assert "With 20 per cent the peer is back at once, and with 21 it never is" in page
+    assert "With 20 % the peer is back at once, and with 21 % it never is" in page
     for seed, border in [*((seed, 20) for seed in range(8) if seed != 6), (6, 21)]:
         shares = [Population(percent / 100, FULL) for percent in (border, border + 1)]
         ends = [storm(FULL, budget=quota, seed=seed, beside=[each]).totals.recovered_ms for each in shares]
         assert ends == [20_000, None], seed
-    assert "(Of the seeds 0 to 7 seven have this border; with `--words 6` it is 21.)" in page
+    assert "(Of the seeds 0 to 7 seven have this border; with `--words 6` it is 21 %.)" in page
     half = [Population(0.5, FULL)]
     with_quota, without = (storm(FULL, budget=each, queue=500, beside=half) for each in (quota, None))
     assert (with_quota.totals.recovered_ms, without.totals.recovered_ms) == (27_000, 29_000)
     assert "at 27 s if half of the requests have none, and at 29 s if all have none" in page
     won = [1000 * each.totals.won // each.totals.requests for each in with_quota.populations]
-    assert won == [781, 980] and "78.1 per cent of your requests succeed, and 98.0 of the others" in page
+    assert won == [781, 980] and "78.1 % of your requests succeed, and 98.0 % of the others" in page
 
 
 def test_what_the_page_on_storms_says_of_its_sweeps_is_so() -> None:
@@ -638,8 +638,8 @@ def test_what_the_page_on_storms_says_of_its_sweeps_is_so() -> None:
     waits = [exponential(0.1, 2).cap(10), exponential(0.1, 2).cap(10).jittered(0, 1)]
     waits += [exponential(0.1, 2).cap(10).jittered(0.5, 1), decorrelated(0.1, 10, 3)]
     plain, *jittered = [storm(recurs(100) & wait, **base).totals for wait in waits]
-    assert (plain.won, round(plain.calls_per_request, 1)) == (5200, 9.4) and "only 5,200 succeed" in page
-    assert "by 9.4 calls for each" in page and "within 18 seconds, by 6.5 to 7.1 calls" in page
+    assert (plain.won, plain.hundredths) == (5200, 945) and "only 5,200 succeed" in page
+    assert "by 9.45 calls for each" in page and "within 18 seconds, by 6.5 to 7.1 calls" in page
     assert all(each.won == 10_000 and (each.slowest_ms or 0) < 18_000 for each in jittered)
     assert [min(each.hundredths for each in jittered), max(each.hundredths for each in jittered)] == [654, 706]
     shares = [100 * storm(FULL, rate=rate).totals.won / (rate * 60) for rate in (300, 400)]

@@ -9,6 +9,7 @@ import pickle
 import random
 import subprocess
 import threading
+from concurrent.futures import ThreadPoolExecutor
 from datetime import timedelta
 from pathlib import Path
 from typing import Any, Callable, Iterator, List, Tuple
@@ -269,18 +270,19 @@ def test_a_policy_may_stand_twice_in_another() -> None:
 
 def test_threads_build_on_one_policy_and_preview_it() -> None:
     policy = recurs(3) & exponential(0.1, 2)
-    seen: List[Any] = []
+    ready = threading.Barrier(6)
 
-    def work() -> None:
+    def work(_: int) -> List[Any]:
+        seen: List[Any] = []
+        ready.wait()
         for count in range(100):
             built = policy.cap(1) & recurs(count)
             seen.append((count, built.to_json(), [step.next_ms for step in built.preview(5)], built.most_retries))
+        return seen
 
-    threads = [threading.Thread(target=work) for _ in range(6)]
-    for thread in threads:
-        thread.start()
-    for thread in threads:
-        thread.join()
+    # (an exception of a thread is raised here)
+    with ThreadPoolExecutor(6) as threads:
+        seen = [each for found in threads.map(work, range(6)) for each in found]
     assert len(seen) == 600
     for count, text, starts, most in seen:
         assert text == '{"meet":[{"cap":[1000,{"meet":[{"recurs":3},{"exponential":[100,2]}]}]},{"recurs":%d}]}' % count
@@ -652,6 +654,19 @@ def test_a_policy_is_neither_true_nor_false() -> None:
             joined()
 
 
+@pytest.mark.parametrize("wrong, said", [(5, "5"), (10**15, "1000000000000000"), (None, "None"), ([1], r"\[1\]")])
+def test_what_is_no_text_is_no_policy(wrong: Any, said: str) -> None:
+    with pytest.raises(TypeError, match=f"^from_json: expected a text of JSON, got {said}$"):
+        Policy.from_json(wrong)
+    with pytest.raises(TypeError, match=f"^parse: expected an expression, got {said}$"):
+        Policy.parse(wrong)
+
+
+def test_a_text_of_json_may_be_bytes_of_any_kind() -> None:
+    for text in (b'{"recurs":3}', bytearray(b'{"recurs":3}'), memoryview(b'{"recurs":3}')):
+        assert Policy.from_json(text) == recurs(3)
+
+
 def test_an_expression_in_the_place_of_json_is_named() -> None:
     with pytest.raises(PolicyError, match="is an expression, which Policy.parse reads"):
         Policy.of("recurs(3)")
@@ -755,3 +770,9 @@ def test_at_how_many_events_a_policy_goes_on_at_most() -> None:
 def test_an_expression_builds_policies_alone(text: str) -> None:
     with pytest.raises(PolicyError):
         Policy.parse(text)
+
+
+@pytest.mark.parametrize("steps", ["3", None, 2.5])
+def test_a_number_of_steps_that_is_none_is_refused(steps: Any) -> None:
+    with pytest.raises(TypeError, match="preview: steps"):
+        recurs(3).preview(steps)

@@ -2,11 +2,13 @@
 
 from __future__ import annotations
 
+import _ctypes
 import fcntl
 import os
 import pty
 import random
 import re
+import select
 import signal
 import struct
 import subprocess
@@ -20,7 +22,8 @@ import pytest
 from conftest import TOP, heed_signals, python_environment
 from test_cli import hikebox
 
-from hikebox import BudgetError
+from hikebox import BudgetError, Policy, PolicyError
+from hikebox.version import VERSION
 from hikebox.cli.seeded import seeded
 from hikebox.cli.values import quota, terms
 
@@ -139,12 +142,12 @@ def test_control_c_at_the_start_prints_no_traceback(tmp_path: Path) -> None:
     process = subprocess.Popen(
         [sys.executable, "-c", program], stderr=subprocess.PIPE, env=environment, preexec_fn=heed_signals
     )
-    until = time.monotonic() + 20
+    until = time.monotonic() + 60
     while not (tmp_path / "loading").exists():
         assert time.monotonic() < until
         time.sleep(0.01)
     process.send_signal(signal.SIGINT)
-    assert process.communicate(timeout=20)[1] == b""
+    assert process.communicate(timeout=60)[1] == b""
     assert process.returncode == -signal.SIGINT
 
 
@@ -157,12 +160,12 @@ def test_control_c_ends_it_while_it_reads_what_it_replays() -> None:
     assert process.stdin is not None
     process.stdin.write(b"x")
     process.stdin.flush()
-    until = time.monotonic() + 20
+    until = time.monotonic() + 60
     while unread(process.stdin.fileno()):
         assert time.monotonic() < until
         time.sleep(0.01)
     process.send_signal(signal.SIGINT)
-    assert process.wait(timeout=20) == -signal.SIGINT
+    assert process.wait(timeout=60) == -signal.SIGINT
     assert process.communicate()[1] == b""
 
 
@@ -179,7 +182,7 @@ sys.argv = ["hikebox", "check", "recurs(1)"]
 hikebox_program.main()
 """
     script = f"trap '' INT; exec {sys.executable} -c '{program}'"
-    done = subprocess.run(["sh", "-c", script], env=python_environment(), capture_output=True, text=True, timeout=20)
+    done = subprocess.run(["sh", "-c", script], env=python_environment(), capture_output=True, text=True, timeout=60)
     assert done.stdout.endswith("\nTrue\n")
 
 
@@ -218,6 +221,87 @@ def test_a_builder_without_its_call_is_told_with_its_form() -> None:
         ("recurs(3) + 1", "expected a policy, got 'recurs(3) + 1'"),
     ):
         assert hikebox("plan", word) == (3, "", f"hikebox: not a plan: {said}\n")
+
+
+def test_an_array_is_json_and_no_file() -> None:
+    said = "not a plan: expected a plan, a string or an object with one member, got"
+    for text in ("[]", '["recurs",3]'):
+        assert hikebox("plan", text) == (3, "", f"hikebox: {said} {text}\n")
+
+
+def test_what_is_found_is_quoted_up_to_60_characters() -> None:
+    form = "expected an expression, as recurs(3) & exponential(0.1, 2), got"
+    wrong = {
+        "recurs(3) spaced(1)": f"not a plan: {form} 'recurs(3) spaced(1)': invalid syntax",
+        f"recurs(3) spaced({60 * '1'})": f"not a plan: {form} 'recurs(3) spaced({43 * '1'}..': invalid syntax",
+        60 * "x" + "()": f"not a plan: no builder is called '{60 * 'x'}'",
+        61 * "x" + "()": f"not a plan: no builder is called '{60 * 'x'}..'",
+        "recurs(3) + " + 60 * "1": f"not a plan: expected a policy, got 'recurs(3) + {48 * '1'}..'",
+        "&".join(3000 * ["recurs(1)"]): "too deep: expected a plan at most 32 deep",
+        "recurs(\udcff)": "not a plan: expected an expression in UTF-8, got 'recurs(\\udcff)'",
+    }
+    for text, said in wrong.items():
+        with pytest.raises(PolicyError, match=f"^{re.escape(said)}$"):
+            Policy.parse(text)
+
+
+@pytest.mark.parametrize(
+    "engine, said",
+    [
+        ("/no/such.so", "/no/such.so: cannot open shared object file: No such file or directory; it is made for "),
+        ("/etc/passwd", "/etc/passwd: "),
+        (_ctypes.__file__, f"expected that of {VERSION}, got {_ctypes.__file__}: undefined symbol: hikebox_"),
+    ],
+)
+def test_an_engine_that_can_not_be_loaded_is_an_error_of_one_line(engine: str, said: str) -> None:
+    environment = {**python_environment(), "HIKEBOX_LIBRARY": engine}
+    # (`python -m hikebox` loads the package before its program)
+    command = [
+        sys.executable,
+        "-c",
+        "import sys, hikebox_program; sys.exit(hikebox_program.main())",
+        "plan",
+        "forever()",
+    ]
+    done = subprocess.run(command, capture_output=True, text=True, env=environment, timeout=60)
+    assert (done.returncode, done.stdout, done.stderr.count("\n")) == (4, "", 1)
+    assert done.stderr.startswith(f"hikebox: the engine of hikebox can't be loaded: {said}")
+
+
+# The streams and the terminal
+
+
+@pytest.mark.parametrize("encoding", ["ascii", "latin-1", "utf-8"])
+def test_a_character_that_a_stream_has_no_bytes_for_is_escaped(encoding: str) -> None:
+    environment = {**python_environment(), "PYTHONIOENCODING": encoding, "PYTHONUTF8": "0"}
+
+    def prints(*words: str) -> bytes:
+        command = [*PROGRAM, "storm", "--seconds", "1", *words, "recurs(1)"]
+        return subprocess.run(command, stdout=subprocess.PIPE, check=True, env=environment, timeout=120).stdout
+
+    is_whole = encoding == "utf-8"
+    named = prints("--name", "\u20ac", "--name", "b", "recurs(0)").splitlines()[:2]
+    assert named == ["1: \u20ac".encode() if is_whole else rb"1: \u20ac", b"2: b"]
+    assert ">\u20ac</" in prints("--title", "\u20ac", "--svg", "-").decode()
+    undecodable = prints("--name", os.fsdecode(b"\xff"), "--name", "b", "recurs(0)").splitlines()[0]
+    assert undecodable == rb"1: \udcff"
+
+
+@pytest.mark.parametrize("columns", [40, 80, 200])
+def test_the_prose_of_a_help_is_wrapped_for_the_terminal(columns: int, monkeypatch: pytest.MonkeyPatch) -> None:
+    monkeypatch.setenv("COLUMNS", str(columns))
+    for command, said in (
+        ("run", "The command has HIKEBOX_ATTEMPT, the number of the attempt from 1, and with a deadline, also of"),
+        (
+            "storm",
+            "Each line of the report is a window of time, named by its first moment. A request or a retry counts",
+        ),
+    ):
+        _, output, _ = hikebox(command, "--help")
+        prose = [line for line in output.splitlines() if line[:1].strip() and not line.startswith("usage:")]
+        assert said in " ".join(prose)
+        assert max(map(len, prose)) <= min(columns, 120)
+        assert "\n  hikebox storm --scenario brown-out --find quota 'recurs(3)'\n" in output or command == "run"
 
 
 def test_a_policy_that_is_read_from_a_terminal_is_asked_for() -> None:
@@ -274,16 +358,29 @@ def on_a_terminal(*words: str) -> Tuple[int, str]:
             break
         written.append(part)
     os.close(ours)
-    return process.wait(timeout=20), b"".join(written).decode()
+    return process.wait(timeout=60), b"".join(written).decode()
+
+
+def read_up_to(terminal: int, pattern: bytes) -> bytes:
+    """What was written on a terminal, up to something that this matches."""
+    written = b""
+    while not re.search(pattern, written):
+        assert select.select([terminal], [], [], 60)[0], written
+        written += os.read(terminal, 4096)
+    return written
 
 
 def test_a_line_on_a_terminal_tells_the_attempt_and_the_wait() -> None:
-    # (nearly a second is left for a busy machine to write each line in)
     words = ["--policy", "recurs(1) & spaced(1.9)", "--", "sh", "-c", "exit 7"]
-    status, written = on_a_terminal("run", *words)
-    assert status == 7
     line = "\rhikebox: attempt 1: status 7; attempt 2 in {} s\033[K"
-    assert written == line.format(2) + line.format(1) + "\r\033[K"
+    lines = [line.format(2), line.format(1), "\r\033[K"]
+    # (a machine that is busy for nearly a second may leave a line out)
+    for _ in range(10):
+        status, written = on_a_terminal("run", *words)
+        assert status == 7
+        if written == "".join(lines):
+            break
+    assert written == "".join(lines)
     assert on_a_terminal("run", "--quiet", *words) == (7, "")
     assert "\r\033[K" not in on_a_terminal("run", "--verbose", *words)[1]
     assert hikebox("run", *words) == (7, "", "")
@@ -292,10 +389,13 @@ def test_a_line_on_a_terminal_tells_the_attempt_and_the_wait() -> None:
 def test_a_line_is_cut_where_the_terminal_has_no_room() -> None:
     ours, theirs = terminal()
     fcntl.ioctl(theirs, termios.TIOCSWINSZ, struct.pack("HHHH", 24, 19, 0, 0))
-    words = [*PROGRAM, "run", "--policy", "recurs(1) & spaced(0.9)", "--", "sh", "-c", "exit 7"]
-    process = subprocess.Popen(words, stderr=theirs, env=python_environment())
-    assert process.wait(timeout=20) == 7
-    assert os.read(ours, 4096) == b"\rhikebox: attempt 1\033[K\r\033[K"
+    words = [*PROGRAM, "run", "--policy", "spaced(60)", "--", "sh", "-c", "exit 7"]
+    process: Any = subprocess.Popen(words, stderr=theirs, env=python_environment(), preexec_fn=heed_signals)
+    written = read_up_to(ours, rb"\033\[K")
+    process.terminate()
+    assert process.wait(timeout=60) == 128 + signal.SIGTERM
+    # (again for each second that passes)
+    assert re.fullmatch(rb"(\rhikebox: attempt 1\033\[K)+\r\033\[K", written + os.read(ours, 4096))
     os.close(ours)
     os.close(theirs)
 
@@ -303,10 +403,10 @@ def test_a_line_is_cut_where_the_terminal_has_no_room() -> None:
 def test_a_signal_takes_the_line_away() -> None:
     ours, theirs = terminal()
     words = [*PROGRAM, "run", "--policy", "spaced(60)", "--", "sh", "-c", "exit 7"]
-    process: Any = subprocess.Popen(words, stderr=theirs, env=python_environment())
-    assert b"attempt 2 in 60 s" in os.read(ours, 4096)
+    process: Any = subprocess.Popen(words, stderr=theirs, env=python_environment(), preexec_fn=heed_signals)
+    read_up_to(ours, rb"attempt 2 in \d+ s\033\[K")
     process.terminate()
-    assert process.wait(timeout=20) == 128 + signal.SIGTERM
+    assert process.wait(timeout=60) == 128 + signal.SIGTERM
     assert os.read(ours, 4096).endswith(b"\r\033[K")
     os.close(ours)
     os.close(theirs)

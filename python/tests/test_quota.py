@@ -158,10 +158,10 @@ BAD_TERMS: List[Any] = [
     ((0, 1000.1, 1), "expected a share from 0 to 1000 retries a request, got 1000.1"),
     ((0, float("nan"), 1), "expected a share from 0 to 1000 retries a request, got nan"),
     ((0, 0.0004, 1), "expected a share of 0 or at least 0.001 retries a request, got 0.0004"),
-    ((0, 0, 0), "expected a window of at least 100 ms, got 0"),
-    ((0, 0, 0.099), "expected a window of at least 100 ms, got 0.099"),
+    ((0, 0, 0), "expected a window of at least 0.1 s, got 0"),
+    ((0, 0, 0.099), "expected a window of at least 0.1 s, got 0.099"),
     ((0, 0, 0.0001), "the window of a quota: 0.0001 s is less than a millisecond"),
-    ((0, 0, timedelta(0)), "expected a window of at least 100 ms, got datetime.timedelta(0)"),
+    ((0, 0, timedelta(0)), "expected a window of at least 0.1 s, got datetime.timedelta(0)"),
     ((0, 0, -1), "the window of a quota: expected 0 to 4611686018427387903 milliseconds, got -1"),
     ((0, 0, float("inf")), "the window of a quota: a duration of inf seconds"),
 ]
@@ -257,7 +257,7 @@ def test_a_loop_of_attempts_is_a_request(clock: VirtualClock) -> None:
 
 
 def test_a_quota_of_the_real_clock() -> None:
-    quota = Quota(3, 0, 3600)
+    quota = Quota(3, 0, 10**6)
     with pytest.raises(KeyError) as caught:
         Retrying(forever(), budget=quota)(fails)
     state = state_of(caught.value)
@@ -416,7 +416,7 @@ def test_threads_share_a_retrying_and_a_quota(clock: VirtualClock) -> None:
 
 
 def test_coroutines_share_a_quota_and_one_that_is_cancelled_gives_its_tickets_right() -> None:
-    quota = Quota(100, 0, 3600)
+    quota = Quota(100, 0, 10**6)
 
     async def main() -> Any:
         retrying = AsyncRetrying(recurs(3) & spaced(0.001), budget=quota, fallback=lambda state: state.granted)
@@ -480,7 +480,7 @@ def test_counts_while_others_draw(clock: VirtualClock) -> None:
 
 
 def test_a_forked_child_begins_anew() -> None:
-    quota = Quota(2, 0.5, 3600)
+    quota = Quota(2, 0.5, 10**6)
     quota.deposit()
     assert bool(quota.draw())
 

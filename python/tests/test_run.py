@@ -46,11 +46,12 @@ def wait_for(path: Path, seconds: float = 30.0) -> str:
 
 
 def test_what_an_attempt_started_ends_with_it(tmp_path: Path) -> None:
-    file = tmp_path / "f"
-    command = f'sh -c "sleep 1; echo wrote >> {file}"; true'
-    assert hikebox("run", *AT_ONCE, "--timeout", "0.3", "--", "sh", "-c", command)[0] == 124
-    time.sleep(1.2)
-    assert not file.exists()
+    started = tmp_path / "started"
+    command = f"sh -c 'echo $$ >> {started}; exec sleep 60'; true"
+    assert hikebox("run", *AT_ONCE, "--timeout", "0.5", "--", "sh", "-c", command)[0] == 124
+    # (an attempt that the machine holds up may end before it starts anything)
+    processes = started.read_text().split() if started.exists() else []
+    assert len(processes) <= 3 and not any(is_alive(int(process)) for process in processes)
 
 
 def test_attempts_never_overlap(tmp_path: Path) -> None:
@@ -58,16 +59,19 @@ def test_attempts_never_overlap(tmp_path: Path) -> None:
     # a grandchild that ignores SIGTERM, and a command that ends at once at it
     script = f"""
         [ ! -e {log} ] || for group in $(cut -d ' ' -f 2 {log}); do
-            ! kill -0 -- -$group 2>/dev/null || echo overlap >> {tmp_path}/bad
+            cat /proc/[0-9]*/stat 2>/dev/null | sed -n "s/.*) [^ZX] [0-9]* $group .*/overlap/p" >> {tmp_path}/bad
         done
         echo "$HIKEBOX_ATTEMPT $$" >> {log}
-        sh -c 'trap "" TERM; sleep 20; echo late >> {tmp_path}/bad' &
+        sh -c 'trap "" TERM; sleep 60; echo late >> {tmp_path}/bad' &
         wait
     """
-    words = ["--timeout", "0.3", "--kill-after", "0.3", "--", "sh", "-c", script]
-    assert hikebox("run", *AT_ONCE, *words)[0] == 124
-    assert [line.split()[0] for line in log.read_text().splitlines()] == ["1", "2", "3"]
-    assert not (tmp_path / "bad").exists()
+    words = ["-v", "--timeout", "0.5", "--kill-after", "0.3", "--", "sh", "-c", script]
+    status, _, errors = hikebox("run", *AT_ONCE, *words)
+    assert (status, errors.count("status 124")) == (124, 3)
+    # (an attempt that the machine holds up may end before it writes anything)
+    wrote = [line.split()[0] for line in log.read_text().splitlines()] if log.exists() else []
+    assert wrote == sorted(set(wrote) & {"1", "2", "3"})
+    assert not (tmp_path / "bad").exists() or (tmp_path / "bad").read_text() == ""
 
 
 def test_what_a_failed_attempt_leaves_is_ended(tmp_path: Path) -> None:
@@ -96,8 +100,8 @@ def test_the_first_process_of_a_container_has_no_zombies(tmp_path: Path) -> None
 def test_a_signal_to_hikebox_ends_the_group(start: Any, tmp_path: Path, name: str) -> None:  # noqa: F811
     # sh starts what runs in the background with INT and QUIT ignored
     left = tmp_path / "left"
-    script = f"sleep 60 & echo $! > {left}; trap 'exit 3' {name}; wait"
-    process = start("run", "--policy", "recurs(9)", "--kill-after", "1", "--", "sh", "-c", script)
+    script = f"trap 'exit 3' {name}; sleep 60 & echo $! > {left}; wait"
+    process = start("run", "--policy", "recurs(9)", "--kill-after", "50", "--", "sh", "-c", script)
     sleeper = int(wait_for(left))
     process.send_signal(getattr(signal, f"SIG{name}"))
     process.communicate(timeout=60)
@@ -231,6 +235,16 @@ def test_output_is_held_back_up_to_a_limit(tmp_path: Path) -> None:
         assert hikebox("run", "--output-limit", wrong, "--", "true")[0] == 2
 
 
+def test_a_short_attempt_with_too_much_output_fails_too(tmp_path: Path) -> None:
+    words = ["run", "--last-output", "--output-limit", "5", *AT_ONCE, "--"]
+    assert hikebox(*words, "printf", "12345") == (0, "12345", "")
+    too_long = "hikebox: the output is longer than 5 (--output-limit)\n"
+    assert hikebox(*words, "printf", "123456") == (4, "", too_long)
+    script = f'echo "$HIKEBOX_ATTEMPT" >> {tmp_path}/runs; printf 123456; exit 7'
+    assert hikebox(*words, "sh", "-c", script) == (4, "", too_long)
+    assert (tmp_path / "runs").read_text() == "1\n"
+
+
 def test_output_is_not_held_back_in_memory() -> None:
     measure = "import resource, runpy, sys; sys.argv = sys.argv[1:]\n"
     measure += "try:\n    runpy.run_module('hikebox', run_name='__main__')\n"
@@ -309,6 +323,8 @@ def shell() -> Iterator[Shell]:
 
 
 RUN = " ".join([*PROGRAM, "run", "--quiet"])
+#: One that tells what it does.
+TELLS = " ".join([*PROGRAM, "run", "--verbose"])
 
 
 def test_a_command_reads_the_terminal(shell: Shell) -> None:
@@ -353,14 +369,24 @@ def test_control_c_reaches_the_command_and_ends_the_run(shell: Shell) -> None:
 
 
 def test_control_c_between_two_attempts_ends_the_run(shell: Shell) -> None:
-    shell.types(f"{RUN} --policy 'spaced(60)' -- sh -c 'echo up; exit 7'; echo over $?\n")
-    shell.expects("up")
-    time.sleep(0.5)
+    shell.types(f"{TELLS} --policy 'spaced(60)' -- sh -c 'exit 7'; echo over $?\n")
+    shell.expects("next in")
     shell.types("\x03")
     shell.expects("over 130\r")
 
 
-def test_control_z_stops_both_and_fg_continues_both(shell: Shell) -> None:
+def stopped(shell: Shell) -> None:
+    """Asks the shell for its jobs until one is stopped."""
+    until = time.monotonic() + 40
+    while True:
+        shell.types("jobs; echo all''listed\n")
+        if "Stopped" in shell.expects("(?s).*alllisted")[0]:
+            return
+        assert time.monotonic() < until
+        time.sleep(0.05)
+
+
+def test_control_z_stops_both_and_fg_continues_both(shell: Shell, tmp_path: Path) -> None:
     shell.types(f"{RUN} -- sh -c 'echo up; read x; echo got $x'\n")
     shell.expects("up")
     time.sleep(0.5)
@@ -374,16 +400,17 @@ def test_control_z_stops_both_and_fg_continues_both(shell: Shell) -> None:
     shell.types("line\n")
     shell.expects("got line")
     # in the background it goes on, and is stopped where it reads the terminal
-    shell.types(f"{RUN} -- sh -c 'echo up; sleep 1; echo slept; read x; echo got $x'\n")
+    file = tmp_path / "file"
+    waits = f"until [ -e {file} ]; do sleep 0.05; done"
+    shell.types(f"{RUN} -- sh -c 'echo up; {waits}; echo slept; read x; echo got $x'\n")
     shell.expects("up")
     time.sleep(0.5)
     shell.types("\x1a")
     shell.expects("Stopped")
     shell.types("bg\n")
+    file.touch()
     shell.expects("\nslept")
-    time.sleep(0.5)
-    shell.types("jobs\n")
-    shell.expects("Stopped")
+    stopped(shell)
     shell.types("fg\n")
     time.sleep(0.5)
     shell.types("more\n")
@@ -402,14 +429,34 @@ def test_a_command_that_does_not_heed_control_z_goes_on(shell: Shell) -> None:
 
 
 def test_control_z_between_two_attempts(shell: Shell) -> None:
-    shell.types(f"{RUN} --policy 'recurs(1) & spaced(1)' -- sh -c 'echo up; exit 7'; echo over $?\n")
-    shell.expects("up")
-    time.sleep(0.4)
+    shell.types(f"{TELLS} --policy 'recurs(1) & spaced(6)' -- sh -c 'echo up; exit 7'; echo over $?\n")
+    shell.expects("next in")
     shell.types("\x1a")
     shell.expects("Stopped")
     shell.expects("over 148")
     shell.types("fg\n")
     shell.expects("up")
+
+
+def test_control_z_while_the_rest_of_an_attempt_is_ended(shell: Shell) -> None:
+    leaves = 'trap "" TERM; sleep 60 & trap - TERM; echo pids $PPID $!.; exit 7'
+    words = f"--kill-after 100 --policy 'recurs(1) & spaced(6)' -- sh -c '{leaves}'"
+    shell.types(f"{TELLS} {words}; echo over $?\n")
+    found = shell.expects(r"pids (\d+) (\d+)\.")
+    group, left = os.getpgid(int(found[1])), int(found[2])
+    # (the command is over once hikebox has the terminal again)
+    until = time.monotonic() + 40
+    while os.tcgetpgrp(shell.file) != group:
+        assert time.monotonic() < until
+        time.sleep(0.01)
+    shell.types("\x1a")
+    time.sleep(0.2)
+    os.kill(left, signal.SIGKILL)
+    shell.expects("Stopped")
+    shell.expects("over 148")
+    shell.types("fg\n")
+    os.kill(int(shell.expects(r"pids \d+ (\d+)\.")[1]), signal.SIGKILL)
+    shell.expects("attempt 2: status 7; the policy was done")
 
 
 def test_a_pager_beside_it_keeps_the_terminal(shell: Shell) -> None:
@@ -441,9 +488,9 @@ def test_control_c_in_a_script_ends_the_script(shell: Shell, tmp_path: Path) -> 
 
 
 def test_a_timeout_ends_what_has_the_terminal(shell: Shell) -> None:
-    shell.types(f"{RUN} --policy 'recurs(1)' --timeout 0.5 -- sh -c 'echo up; read x; echo got'; echo over $?\n")
-    shell.expects("up")
-    shell.expects("up")
+    shell.types(f"{TELLS} --policy 'recurs(1)' --timeout 0.5 -- sh -c 'read x; echo got'; echo over $?\n")
+    shell.expects("attempt 1: status 124; next in")
+    shell.expects("attempt 2: status 124; the policy was done")
     shell.expects("over 124\r")
     shell.types("echo still''here\n")
     shell.expects("stillhere")
@@ -462,7 +509,7 @@ def test_a_hikebox_that_is_killed_leaves_the_terminal(shell: Shell) -> None:
     assert len(started) == 2
     os.kill(hikebox_id, signal.SIGKILL)
     shell.expects("over 137\r")
-    until = time.monotonic() + 10
+    until = time.monotonic() + 40
     while any(is_alive(process) for process in started) and time.monotonic() < until:
         time.sleep(0.02)
     assert not any(is_alive(process) for process in started)
@@ -479,12 +526,15 @@ def test_a_command_that_has_no_terminal_signals_reads_it(shell: Shell) -> None:
 
 
 def test_who_started_it_keeps_the_terminal_where_it_goes_on(shell: Shell, tmp_path: Path) -> None:
-    script = tmp_path / "script"
-    script.write_text(f"{RUN} -- sh -c 'sleep 1; echo slept' &\nread x\necho got $x\nwait\necho over\n")
+    script, file = tmp_path / "script", tmp_path / "file"
+    waits = f"echo up; until [ -e {file} ]; do sleep 0.05; done"
+    script.write_text(f"{RUN} -- sh -c '{waits}; echo slept' &\nread x\necho got $x\nwait\necho over\n")
     shell.types(f"bash {script}\n")
-    time.sleep(0.7)
+    shell.expects("up")
     shell.types("word\n")
-    for line in ("got word", "slept", "over"):
+    shell.expects("got word")
+    file.touch()
+    for line in ("slept", "over"):
         shell.expects(line)
     script.write_text(
         f"import subprocess, time\nstarted = subprocess.Popen({[*PROGRAM, 'run', '--', 'sleep', '1']!r})\n"

@@ -278,7 +278,7 @@ print(work(1500), work(6000))
 
 def test_nothing_is_leaked() -> None:
     done = subprocess.run(
-        [sys.executable, "-c", GROWS], env=python_environment(), capture_output=True, text=True, timeout=100, check=True
+        [sys.executable, "-c", GROWS], env=python_environment(), capture_output=True, text=True, timeout=300, check=True
     )
     before, after = (int(word) for word in done.stdout.split())
     # in kilobytes; one handle that is lost each time would be more

@@ -25,6 +25,7 @@ from hikebox.errors import StoreError
 from hikebox.leased import FileStore
 from hikebox.leased.shared import SharedLimit
 from hikebox.limits import both
+from hikebox.testing import VirtualClock
 
 TOKENS = 400
 
@@ -67,13 +68,15 @@ def test_a_breaker_over_two_processes(tmp_path: Path) -> None:
     one, other = (
         SharedLimit(FileStore(tmp_path), "a", Breaker(2, exponential(2, 2), probe_deadline=60)) for _ in range(2)
     )
+    now = VirtualClock(1000.0)
+    one.clock = other.clock = now
     late = admitted(other)
     for limit in (one, other):
         admitted(limit).failed()
+    now.advance(1.999)
     refusal = one.request().admit()
-    assert refusal is not None and refusal.reason is RefusalReason.BREAKER_OPEN and refusal.again_at is not None
-    assert 0 < refusal.again_at - one.clock() <= 2
-    time.sleep(refusal.again_at - one.clock() + 0.002)
+    assert refusal is not None and (refusal.reason, refusal.again_at) == (RefusalReason.BREAKER_OPEN, 1002.0)
+    now.advance(0.001)
     probe = admitted(other)
     assert reason(one.request().admit()) is RefusalReason.PROBING
     late.failed()  # one of before, which changes nothing
@@ -219,7 +222,7 @@ def test_no_token_is_drawn_twice_by_processes_that_are_killed(tmp_path: Path) ->
 
 
 def test_eight_threads_draw_each_token_once(tmp_path: Path) -> None:
-    limit = SharedLimit(FileStore(tmp_path), "a", Bucket(100, cost=1))
+    limit = SharedLimit(FileStore(tmp_path, patience=100), "a", Bucket(100, cost=1))
     granted: List[None] = []
 
     def draws() -> None:
@@ -267,7 +270,7 @@ def test_runs_share_a_bucket(tmp_path: Path) -> None:
 
 def test_a_timeout_costs_more(tmp_path: Path) -> None:
     limit = f"bucket:10000/0/1000/10000/0/0@{tmp_path}"
-    words = ["--limit", limit, "--policy", "recurs(1)", "--timeout", "0.1", "--kill-after", "0.1", "--", "sleep", "9"]
+    words = ["--limit", limit, "--policy", "recurs(1)", "--timeout", "0.1", "--kill-after", "0.1", "--", "sleep", "99"]
     assert hikebox("run", *words)[0] == 124
     assert level_of(tmp_path) == 0
 
@@ -316,10 +319,20 @@ def test_a_run_that_ends_while_it_waits_gives_its_token_back(tmp_path: Path, sta
     assert level_of(folder) == 1
 
 
+#: The program, whose leases wait as long as another process holds the lock.
+PATIENT = """
+import sys
+from hikebox.cli.main import main
+from hikebox.leased import FileStore
+FileStore.__init__.__kwdefaults__["patience"] = 100.0
+sys.exit(main())
+"""
+
+
 def test_eight_runs_at_once_are_retried_as_often_as_there_are_tokens(tmp_path: Path) -> None:
     ran = tmp_path / "ran"
     words = ["run", "--limit", f"bucket:12000/0/1000/1000/0/0@{tmp_path / 'counts'}", "--policy", "recurs(5)", "--"]
-    command = [sys.executable, "-m", "hikebox", *words, "sh", "-c", f"echo ran >> {ran}; exit 1"]
+    command = [sys.executable, "-c", PATIENT, *words, "sh", "-c", f"echo ran >> {ran}; exit 1"]
     runs = [subprocess.Popen(command, env=python_environment(), stderr=subprocess.PIPE) for _ in range(8)]
     assert [run.wait(timeout=100) for run in runs] == [1] * 8
     for run in runs:
@@ -359,7 +372,7 @@ def test_eight_runs_at_once_are_retried_as_often_as_there_are_tokens(tmp_path: P
         (["--open", "spaced(1)"], "--open: expected --limit breaker:.. too, got no --limit"),
         (["--limit", "aws@x", "--limit", "aws@y"], "argument --limit: expected it once, got 'aws@y' too"),
         (["--limit", "aws@x", "--budget", "3"], "argument --budget: not allowed with argument --limit"),
-        (["--budget", "3@"], "expected N or N@FOLDER, got '3@'"),
+        (["--budget", "3@"], "--budget: expected N or N@FOLDER, got '3@'"),
         (["--budget", "3", "--budget", "4"], "argument --budget: expected it once, got '4' too"),
     ],
 )

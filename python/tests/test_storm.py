@@ -436,7 +436,7 @@ def test_a_policy_to_compare_is_one_more() -> None:
 
 def test_a_cut_storm_has_a_status_of_its_own() -> None:
     status, told, errors = hikebox("--calls", "100", "--json", "recurs(3)")
-    assert (status, errors) == (6, "hikebox: not finished\n")
+    assert (status, errors) == (6, "hikebox: not finished: a storm was cut by --calls\n")
     assert json.loads(told)["totals"]["cut"] is True
 
 
@@ -469,7 +469,7 @@ NAMES = "rate, clients, together, seconds, capacity, queue, patience, outage, sh
         (["--rate", "20000"], "rate: 20000 a second for 60 s are 1200000 requests, and a storm has at most 1048576"),
         (["--window", "1"], "window: 120000 ms by windows of 1 ms are 120001 lines, and a report has at most 65537"),
         (["--budget", "4294967297"], "argument --budget: expected a number from 0 to 4294967296, got '4294967297'"),
-        (["--quota", "1/1%/0s"], "argument --quota: expected a window of at least 100 ms, got 0.0"),
+        (["--quota", "1/1%/0s"], "argument --quota: expected a window of at least 0.1 s, got 0.0"),
         (["--limit", "aws:1"], f"argument --limit: {LIMIT_WANTED}, got 'aws:1'"),
         (["--limit", "aws", "--open", "spaced(1)"], "open: needs --limit breaker:.."),
         (["--open", "spaced(1)"], "open: needs --limit breaker:.."),

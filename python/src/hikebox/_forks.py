@@ -4,7 +4,7 @@ from __future__ import annotations
 
 import os
 import threading
-from typing import Any, Protocol, TypeVar
+from typing import Any, Optional, Protocol, TypeVar
 from weakref import WeakKeyDictionary
 
 __all__ = ["BeginsAnew", "OfOneProcess", "begins_anew_in_a_child", "no_fork"]
@@ -33,8 +33,17 @@ def begins_anew_in_a_child(thing: BeginsAnew) -> None:
 
 def _begin_all() -> None:
     no_fork.release()
-    for thing in list(_things):
-        thing.begin_anew()
+    failed: Optional[BaseException] = None
+    # (a list of references, since a finalizer may make another thing meanwhile)
+    for reference in _things.keyrefs():
+        thing = reference()
+        if thing is not None:
+            try:
+                thing.begin_anew()
+            except BaseException as error:
+                failed = error  # the others begin anew all the same
+    if failed is not None:
+        raise failed
 
 
 os.register_at_fork(before=no_fork.acquire, after_in_parent=no_fork.release, after_in_child=_begin_all)

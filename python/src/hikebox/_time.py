@@ -74,7 +74,9 @@ def seconds(duration: Duration, what: str = "") -> int:
     elif not math.isfinite(duration):
         raise PolicyError(Fault.OUT_OF_RANGE, hint=f"{place}a duration of {duration!r} seconds")
     else:
-        count, is_less = -1 if duration < 0 else round(duration * 1000), 0 < duration < 0.001 - _GRAIN_OFF
+        # (a thousand times the greatest floats is infinite)
+        is_within = 0 <= duration <= _MAX_SECONDS + 1
+        count, is_less = round(duration * 1000) if is_within else -1, 0 < duration < 0.001 - _GRAIN_OFF
     if not 0 <= count <= MAX_NUMBER:
         wanted = f"expected 0 to {MAX_NUMBER} milliseconds"
         raise PolicyError(Fault.OUT_OF_RANGE, hint=f"{place}{wanted}, got {shown(duration)}")

@@ -8,7 +8,6 @@ from typing import Union
 from ._engine.calls import MAX_TICKETS
 from ._engine.handles import Pass
 from .budgets.granting import Granting
-from .budgets.passes import Passes
 from .budgets.tickets import Refusal, RefusalReason, Ticket
 from .errors import BudgetError, EngineError, TermsError, TicketError, shown
 
@@ -51,12 +50,10 @@ class Budget(Granting):
         return made
 
     def _begin(self, limit: int, rising: bool) -> None:
-        if isinstance(limit, bool) or not isinstance(limit, int):
-            raise TypeError(f"expected a whole number of tickets, got {limit!r}")
         _look_at_limit(limit)
         self._limit = limit
         self._rising = rising
-        self.passes = Passes("budget", partial(Pass.of_budget, limit, rising))
+        self.begin_with("budget", partial(Pass.of_budget, limit, rising))
 
     @property
     def limit(self) -> int:
@@ -70,10 +67,13 @@ class Budget(Granting):
         try:
             number = lent.draw()
         except EngineError:
-            passes.look_open()
-            raise
+            if not passes.look_again(lent):
+                raise
+            return self.draw()
         finally:
             passes.give_back(lent)
+        if passes is not self.passes:  # (the handler of a signal forked meanwhile: in the child it is the parent's)
+            return self.draw()
         return Refusal(RefusalReason.USED_UP) if number is None else Ticket(number, None, self)
 
     def hand_back(self, ticket: Ticket) -> None:
@@ -100,5 +100,7 @@ class Budget(Granting):
 
 
 def _look_at_limit(limit: int) -> None:
+    if isinstance(limit, bool) or not isinstance(limit, int):
+        raise TypeError(f"expected a whole number of tickets, got {limit!r}")
     if not 0 <= limit <= MAX_TICKETS:
         raise TermsError(f"expected a limit from 0 to {MAX_TICKETS}, got {shown(limit)}")

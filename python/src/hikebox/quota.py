@@ -74,7 +74,7 @@ class Quota(Granting, CountsRequests):
     request, at its first attempt:
 
     >>> from hikebox import recurs, retry
-    >>> quota = Quota(reserve=10, share=0.2, per=10)
+    >>> quota = Quota(reserve=10, share=0.2, per=3600)
     >>> @retry(recurs(3), budget=quota)
     ... def fetch():
     ...     return "fetched"
@@ -104,7 +104,7 @@ class Quota(Granting, CountsRequests):
         self._returns_tickets = returns_tickets
         self._carries = carries
         self._clock = clock
-        self.passes = Passes("quota", partial(_first_pass, clock, self._in_force, carries))
+        self.begin_with("quota", partial(_first_pass, clock, self._in_force, carries))
 
     @property
     def terms(self) -> Terms:
@@ -140,12 +140,12 @@ class Quota(Granting, CountsRequests):
         """Sets the reserve and the share, as when a service reloads its configuration. Each draw follows them from now
         on, in the present window too. What you leave out stays, and so do windows and the tickets they have given.
 
-        >>> quota = Quota(reserve=1, share=0, per=60)
+        >>> quota = Quota(reserve=1, share=0, per=3600)
         >>> bool(quota.draw()), bool(quota.draw())
         (True, False)
         >>> quota.set_terms(reserve=2)
         >>> bool(quota.draw()), quota.seen().left, quota
-        (True, 0, <Quota(2, 0, per=60)>)
+        (True, 0, <Quota(2, 0, per=3600)>)
         """
         with self.passes.root() as root:
             terms = self.terms.changed(reserve, share)
@@ -163,22 +163,24 @@ class Quota(Granting, CountsRequests):
         try:
             lent.deposit(moment(self._clock()))
         except EngineError:
-            passes.look_open()
-            raise
+            if not passes.look_again(lent):
+                raise
+            self.deposit()
         finally:
             passes.give_back(lent)
 
     def _deposit_all(self, requests: int) -> None:
         """Counts so many requests, by the pass that counts any number."""
+        now = moment(self._clock())
         with self.passes.root() as root:
-            root.deposit(moment(self._clock()), c_uint64(requests))
+            root.deposit(now, c_uint64(requests))
 
     def draw(self) -> Union[Ticket, Refusal]:
         """Returns a `Ticket`, or a `Refusal`, which is false, if the present window has none left. The next window may
         have one, and so may this one after more requests. A window's tickets are numbered from 0. Tickets carried to it
         are drawn first, and are the last ones of the window before.
 
-        >>> quota = Quota(reserve=1, share=0.5, per=60)
+        >>> quota = Quota(reserve=1, share=0.5, per=3600)
         >>> ticket = quota.draw()
         >>> ticket
         <Ticket 0 of window 0>
@@ -187,7 +189,13 @@ class Quota(Granting, CountsRequests):
         >>> quota.draw()
         <Ticket 1 of window 0>
         """
-        passes, now = self.passes, moment(self._clock())
+        passes = self.passes
+        drawn = self._drawn_with(passes, moment(self._clock()))
+        # (the clock, or the handler of a signal, may have forked meanwhile: in the child it is the parent's)
+        return self.draw() if drawn is None or passes is not self.passes else drawn
+
+    def _drawn_with(self, passes: Passes, now: int) -> Union[Ticket, Refusal, None]:
+        """What a draw returns, or None where it is made again."""
         number = None
         lent = passes.lend()
         try:
@@ -195,11 +203,12 @@ class Quota(Granting, CountsRequests):
             if number is None:
                 return _refusal(lent.seen(now)[-1])
             ticket = Ticket(number % WINDOW, number // WINDOW, self)
-            ticket.may_come_back_to(passes.keep(lent, ticket, is_of_retry=False))
+            ticket.may_come_back_to(passes.keep(lent, ticket))
             return ticket
         except EngineError:
-            passes.look_open()
-            raise
+            if not passes.look_again(lent):
+                raise
+            return None
         finally:
             if number is None:
                 passes.give_back(lent)
@@ -209,7 +218,7 @@ class Quota(Granting, CountsRequests):
         from the one before, and `granted` is one less. A second time it raises a `TicketError`. `ticket.hand_back()` is
         the same. Retries under the quota do it by themselves.
 
-        >>> quota = Quota(reserve=1, share=0, per=60)
+        >>> quota = Quota(reserve=1, share=0, per=3600)
         >>> ticket = quota.draw()
         >>> quota.hand_back(ticket)
         >>> bool(quota.draw()), quota.granted
@@ -220,12 +229,13 @@ class Quota(Granting, CountsRequests):
         hikebox.errors.TicketError: expected a ticket that is out, got <Ticket 0 of window 0>, which was handed back
         """
         self.passes.look_open()
-        self.passes.drop(checked_ticket(ticket).comes_back(self), hands_back=True)
+        self.passes.drop(checked_ticket(ticket).comes_back(self))
 
     def seen(self) -> Usage:
         """Returns the use of the present window: its requests, its tickets given and left, and when the next begins."""
-        with self.passes.lent() as lent:
-            window, asked, given, left, after = lent.seen(moment(self._clock()))
+        now = moment(self._clock())
+        with self.passes.root() as root:
+            window, asked, given, left, after = root.seen(now)
         return Usage(window, asked, given, left, next=after / 1000)
 
     def expression(self) -> str:
@@ -237,7 +247,7 @@ class Quota(Granting, CountsRequests):
 
     def retry_drawing(self, awaits: bool) -> Drawing:
         """Returns what draws for a retry with another clock."""
-        return ByPass(self.passes, lambda: moment(self._clock()))
+        return ByPass(self, lambda: moment(self._clock()))
 
 
 class _InForce:

@@ -13,6 +13,7 @@ from ctypes import POINTER, c_bool, c_char_p, c_size_t, c_uint8, c_uint32, c_uin
 from typing import Any, Dict, Tuple
 
 from ..errors import EngineError
+from ..version import VERSION
 from .structs import (
     Asking,
     Course,
@@ -162,7 +163,12 @@ def _load() -> Any:
             f"is {machine}; HIKEBOX_LIBRARY names another one"
         ) from None
     for name, parameters in SIGNATURES.items():
-        function = getattr(library, name)
+        try:
+            function = getattr(library, name)
+        except AttributeError as error:
+            raise ImportError(
+                f"the engine of hikebox can't be loaded: expected that of {VERSION}, got {error}"
+            ) from None
         function.argtypes = parameters
         function.restype = c_uint32
     return library

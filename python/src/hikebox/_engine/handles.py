@@ -194,7 +194,8 @@ class PolicyHandle:
             room = length.value
 
     def __del__(self, free: Any = _policy_free) -> None:
-        if self.handle.held:
+        handle = getattr(self, "handle", None)  # (which an exception of a signal handler may have left out)
+        if handle is not None and handle.held:
             free(self.at)
 
 
@@ -229,7 +230,10 @@ class Pass:
     """A pass of a budget, of a quota or of nothing. Who holds it joins it into another, closes what it is of with it,
     or frees it. Moments are whole milliseconds from 0 to MAX_NUMBER."""
 
-    __slots__ = ("handle", "at", "_now", "_ticket", "_at_ticket")
+    __slots__ = ("handle", "at", "home", "_now", "_ticket", "_at_ticket")
+
+    #: Where who lends it keeps it while nobody uses it.
+    home: List[Pass]
 
     def __init__(self) -> None:
         self.handle = Handle()

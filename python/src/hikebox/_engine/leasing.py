@@ -149,7 +149,8 @@ class LeasedPass:
         return Seen(drawn.value, at_hand.value, untold.value)
 
     def __del__(self) -> None:
-        if self.handle.held:
+        handle = getattr(self, "handle", None)  # (which an exception of a signal handler may have left out)
+        if handle is not None and handle.held:
             self._free(self.at)
 
 

@@ -4,7 +4,7 @@ from __future__ import annotations
 
 from ctypes import POINTER, byref, c_size_t, c_uint32, c_uint64
 from functools import lru_cache
-from typing import Any, Callable, Dict, NamedTuple, Optional, Sequence, Tuple
+from typing import Any, Callable, Dict, List, NamedTuple, Optional, Sequence, Tuple
 
 from .calls import OK, RACES_LOST, TOO_MANY_PASSES, library, refused, unchecked
 from .structs import BreakerTerms, BucketTerms, Handle
@@ -74,7 +74,10 @@ class LimitHandle:
     """A handle of a limit, or of two at once. One request at a time is asked for with it. Moments are whole
     milliseconds from 0 to MAX_NUMBER, and random words have 32 bits."""
 
-    __slots__ = ("handle", "at", "_calls", "_now", "_cost", "_random", "_number", "_at_number", "__weakref__")
+    __slots__ = ("handle", "at", "home", "_calls", "_now", "_cost", "_random", "_number", "_at_number", "__weakref__")
+
+    #: Where its limit keeps it while it has no request.
+    home: List[LimitHandle]
 
     def __init__(self) -> None:
         self.handle = Handle()
@@ -161,14 +164,17 @@ class LimitHandle:
 
     def cancelled(self) -> None:
         """Tells that the retry drawn last is cancelled while it waits."""
-        _done("hikebox_limit_cancelled", self._calls.cancelled(self.at))
+        if self.handle.held:  # (the collector frees it before a request of the same cycle)
+            _done("hikebox_limit_cancelled", self._calls.cancelled(self.at))
 
     def ended(self) -> None:
         """Tells that the request is over, if one is under way."""
-        _done("hikebox_limit_ended", self._calls.ended(self.at))
+        if self.handle.held:
+            _done("hikebox_limit_ended", self._calls.ended(self.at))
 
     def __del__(self) -> None:
-        if self.handle.held:
+        handle = getattr(self, "handle", None)  # (which an exception of a signal handler may have left out)
+        if handle is not None and handle.held:
             self._calls.free(self.at)
 
 

@@ -13,6 +13,7 @@ __all__ = [
     "Loan",
     "Machine",
     "end_retry",
+    "free_retry",
     "give_machine_up",
     "is_crowded",
     "lend_machine",
@@ -135,6 +136,12 @@ def end_retry(handle: Handle, drawn: Pass) -> None:
     status = library.hikebox_retry_end(byref(handle), drawn.at)
     if status != OK:
         raise refused("hikebox_retry_end", status)
+
+
+def free_retry(handle: Handle, free: Any = _retry_free) -> None:
+    """Frees the retry in this handle with its pass, where it holds one."""
+    if handle.held:
+        free(byref(handle))
 
 
 def _begun(call: str, status: int) -> bool:

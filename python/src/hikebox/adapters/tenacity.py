@@ -51,7 +51,7 @@ def before_deposit(quota: Union[Quota, LeasedQuota]) -> Callable[[Any], None]:
 
     >>> import tenacity
     >>> from hikebox import Quota, recurs
-    >>> quota = Quota(reserve=0, share=0.5, per=60)
+    >>> quota = Quota(reserve=0, share=0.5, per=3600)
     >>> stop, wait = stop_and_wait(recurs(2), budget=quota)
     >>> @tenacity.retry(before=before_deposit(quota), stop=stop, wait=wait)
     ... def fetch():

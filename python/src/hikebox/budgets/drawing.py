@@ -4,6 +4,7 @@ from __future__ import annotations
 
 from typing import Any, Awaitable, Callable, Optional, Protocol
 
+from ..errors import EngineError
 from .passes import Keep, Passes
 from .tickets import Refusal, RefusalReason
 
@@ -53,27 +54,41 @@ def _refusal(drawn: Any) -> Optional[Refusal]:
     return drawn if isinstance(drawn, Refusal) else None
 
 
+class Lender(Protocol):
+    """A quota, whose passes are others in a forked child."""
+
+    passes: Passes
+
+
 class ByPass:
     """Draws by a pass that is the retry's own until it is over."""
 
-    __slots__ = ("_passes", "_now", "_kept", "_generation", "__weakref__")
+    __slots__ = ("_lender", "_now", "_passes", "_kept", "__weakref__")
 
-    def __init__(self, passes: Passes, now: Callable[[], int]) -> None:
-        self._passes = passes
+    def __init__(self, lender: Lender, now: Callable[[], int]) -> None:
+        self._lender = lender
         self._now = now
+        self._passes = lender.passes
         self._kept: Optional[Keep] = None
-        self._generation = passes.generation
 
     def draw(self) -> Optional[Refusal]:
         """Draws a ticket: why there is none."""
-        passes = self._passes
-        if self._kept is None or self._generation != passes.generation:  # (in a forked child it has a new one)
-            self._kept, self._generation = passes.keep(passes.lend(), self, is_of_retry=True), passes.generation
-        drawn = self._kept.part.draw(self._now())
+        passes = self._lender.passes
+        kept = self._kept
+        if kept is None or self._passes is not passes:  # (in a forked child it has a new one)
+            kept = passes.keep_for_retry(self)
+            self._passes, self._kept = passes, kept
+        try:
+            drawn = kept.part.draw(self._now())
+        except EngineError:
+            passes.look_again(kept.part)
+            raise
+        if passes is not self._lender.passes:  # (the clock, or the handler of a signal, forked meanwhile)
+            return self.draw()
         return Refusal(RefusalReason.USED_UP) if drawn is None else None
 
     def end(self, hands_back: bool) -> None:
-        """Takes the pass back, where it is not of a process that was forked."""
+        """Takes the pass back."""
         kept, self._kept = self._kept, None
-        if kept is not None and self._generation == self._passes.generation:
-            self._passes.drop(kept, hands_back)
+        if kept is not None:
+            self._passes.end_kept(kept, hands_back)

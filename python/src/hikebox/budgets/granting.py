@@ -2,11 +2,11 @@
 
 from __future__ import annotations
 
-from typing import Any, TypeVar
+from typing import Any, Callable, TypeVar
 
-from .._engine.handles import PolicyHandle
+from .._engine.handles import Pass, PolicyHandle
 from .._engine.machine import Machine
-from .._forks import OfOneProcess
+from .._forks import OfOneProcess, begins_anew_in_a_child
 from ..errors import BudgetInUse
 from .passes import Passes
 
@@ -22,6 +22,15 @@ class Granting(OfOneProcess):
 
     #: The engine's passes, which this package hands out to threads.
     passes: Passes
+
+    def begin_with(self, kind: str, make: Callable[[], Pass]) -> None:
+        """Begins with what makes the first pass."""
+        self.passes = Passes(kind, make)
+        begins_anew_in_a_child(self)
+
+    def begin_anew(self) -> None:
+        """Begins with nothing drawn, as in a forked child."""
+        self.passes = self.passes.of_a_child()
 
     @property
     def granted(self) -> int:
@@ -61,16 +70,11 @@ class Granting(OfOneProcess):
         kind = self.passes.kind
         return f"a {kind} belongs to its process; hikebox.leased has {kind}s that processes share"
 
-    # Retries that draw on it
-
-    def begin_retry(self, machine: Machine, policy: PolicyHandle, deadline: int) -> None:
-        """Begins a retry of the engine in this machine, with a pass of its own."""
-        self.passes.begin(machine, policy, deadline)
-
-    def end_retry(self, machine: Machine, hands_back: bool) -> None:
-        """Takes back the pass of the machine's retry with its tickets. `hands_back` returns the latest ticket of a
-        quota."""
-        self.passes.end(machine, hands_back)
+    def begin_retry(self, machine: Machine, policy: PolicyHandle, deadline: int) -> Passes:
+        """Begins a retry of the engine in this machine, with a pass of its own, and returns what ends it."""
+        passes = self.passes
+        passes.begin(machine, policy, deadline)
+        return passes
 
     def expression(self) -> str:
         """Returns the expression that makes one like it."""

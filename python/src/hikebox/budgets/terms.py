@@ -154,5 +154,5 @@ def duration_of(name: str, duration: Duration) -> int:
 def _period_of(per: Duration) -> int:
     period = duration_of("the window of a quota", per)
     if period < MIN_PERIOD:
-        raise TermsError(f"expected a window of at least {MIN_PERIOD} ms, got {per!r}")
+        raise TermsError(f"expected a window of at least {MIN_PERIOD / 1000} s, got {per!r}")
     return period

@@ -5,11 +5,16 @@ from __future__ import annotations
 import argparse
 import difflib
 import sys
+import textwrap
+from itertools import groupby
 from typing import Any, Callable, Iterable, List, NoReturn, Optional
 
 from .streams import tell
 
-__all__ = ["Once", "Parser"]
+__all__ = ["Layout", "Once", "Parser"]
+
+#: How many columns a line of prose has at most.
+_MAX_COLUMNS = 120
 
 
 class Once(argparse.Action):
@@ -19,6 +24,17 @@ class Once(argparse.Action):
         if getattr(namespace, self.dest) is not None:
             raise argparse.ArgumentError(self, f"expected it once, got {values!r} too")
         setattr(namespace, self.dest, values)
+
+
+class Layout(argparse.RawDescriptionHelpFormatter):
+    """A help whose prose is wrapped for the terminal. Lines that begin with a space stay as they are."""
+
+    def _fill_text(self, text: str, width: int, indent: str) -> str:
+        lines: List[str] = []
+        for is_prose, block in groupby(text.splitlines(), lambda line: line[:1].strip() != ""):
+            columns = min(width, _MAX_COLUMNS)
+            lines += textwrap.wrap(" ".join(block), columns, break_on_hyphens=False) if is_prose else block
+        return "".join(f"{indent}{line}\n" for line in lines)
 
 
 class Parser(argparse.ArgumentParser):

@@ -18,13 +18,13 @@ from ..storms.axes import axes_text
 from ..storms.limits import LIMIT_FORMS
 from ..version import VERSION
 from . import values
-from .arguments import Once, Parser
+from .arguments import Layout, Once, Parser
 from .limits import SPELLINGS, limit
 from .run import MAX_OUTPUT, RunOptions, run_command
 from .seeded import seeded
 from .storm_command import result_of
 from .storm_options import add_storm_options
-from .streams import settle, tell
+from .streams import settle, tell, writes_utf_8
 
 __all__ = ["main"]
 
@@ -121,6 +121,9 @@ def _fails(line: str, status: int) -> int:
     return status
 
 
+#: What is said of a storm that makes too many calls.
+_CUT = "not finished: a storm was cut by --calls"
+
 #: What a policy is on the command line.
 _POLICY = "a JSON file's name, JSON, or an expression"
 
@@ -138,15 +141,14 @@ def _parser() -> Parser:
     return parser
 
 
-def _with_epilog(commands: Any, name: str, does: str, words: str, epilog: str) -> Any:
-    """The parser of a command whose help ends with a text of several lines."""
-    layout = argparse.RawDescriptionHelpFormatter
+def _added(commands: Any, name: str, does: str, words: str, epilog: Optional[str] = None) -> Any:
+    """The parser of a command with options. Its help may end with a text of several lines."""
     usage = f"hikebox {name} [OPTION..] {words}"
-    return commands.add_parser(name, help=does, usage=usage, epilog=epilog, formatter_class=layout)
+    return commands.add_parser(name, help=does, usage=usage, epilog=epilog, formatter_class=Layout)
 
 
 def _add_run(commands: Any) -> None:
-    run = _with_epilog(commands, "run", "run a command until it succeeds", "-- COMMAND [WORD..]", _RUN)
+    run = _added(commands, "run", "run a command until it succeeds", "-- COMMAND [WORD..]", _RUN)
     run.add_argument("--policy", metavar="POLICY", default=DEFAULT, help="when to run it again")
     bounds = run.add_mutually_exclusive_group()
     bounds.add_argument(
@@ -176,7 +178,7 @@ def _add_run(commands: Any) -> None:
 
 
 def _add_plan(commands: Any) -> None:
-    plan = commands.add_parser("plan", help="play a policy and print what it does, in milliseconds")
+    plan = _added(commands, "plan", "play a policy and print what it does, in milliseconds", "[POLICY..]")
     several = f"{_POLICY}; - or nothing reads standard input; with several, a picture shows all of them"
     plan.add_argument("file", nargs="*", metavar="POLICY", help=several)
     plan.add_argument("--steps", type=values.number(4096), default=10, metavar="N", help="how many events at most (10)")
@@ -221,7 +223,7 @@ def _add_check(commands: Any) -> None:
 
 def _add_storm(commands: Any) -> None:
     does = "show what a policy does to a peer that fails for a while"
-    storm = _with_epilog(commands, "storm", does, "[POLICY..]", _STORM)
+    storm = _added(commands, "storm", does, "[POLICY..]", _STORM)
     add_storm_options(storm)
     compare = "play this policy too; you can give it again"
     storm.add_argument("--compare", metavar="POLICY", action="append", default=[], help=compare)
@@ -244,9 +246,8 @@ def _add_storm(commands: Any) -> None:
 
 
 def _add_lab(commands: Any) -> None:
-    lab = commands.add_parser(
-        "lab", help="serve a page on which you try policies and storms, on this machine, until Ctrl-C"
-    )
+    does = "serve a page on which you try policies and storms, on this machine, until Ctrl-C"
+    lab = _added(commands, "lab", does, "[LINK]")
     lab.add_argument(
         "link",
         nargs="?",
@@ -340,7 +341,7 @@ def _plan(given: Any) -> int:
 def _storm(given: Any) -> int:
     result = result_of(given, _policy)
     status = _prints(result.text) if given.svg is None else _writes(given.svg, result.text)
-    return _fails("not finished", NOT_FINISHED) if result.is_cut and status == 0 else status
+    return _fails(_CUT, NOT_FINISHED) if result.is_cut and status == 0 else status
 
 
 def _lab(given: Any) -> int:
@@ -356,6 +357,7 @@ def _lab(given: Any) -> int:
 def _writes(name: str, text: str) -> int:
     """Writes a picture into a file, or onto standard output."""
     if name == "-":
+        writes_utf_8()
         return _prints(text)
     try:
         with open(name, "w", encoding="utf-8") as file:
@@ -404,7 +406,7 @@ def _policy(word: str) -> Policy:
         return Policy.from_json(_read(0))
     if not word:
         _stop("expected a policy, got ''", BAD_COMMAND_LINE)
-    if word.lstrip()[:1] in ("{", '"'):
+    if word.lstrip()[:1] in ("{", "[", '"'):
         return Policy.from_json(word)
     if ("(" in word or word in builders.__all__) and not os.path.exists(word):
         return Policy.parse(word)

@@ -212,11 +212,17 @@ class _Runner:
             status = self._await(group)
         finally:
             self.terminal.take()
+        self.is_stopping = False
         self._heed_all(group)
-        if status != 0 or self.ended_by is not None:
+        if status != 0 or self.ended_by is not None or self._has_too_long_output():
             self._end_rest(group)
+        if self.is_stopping and status != 0 and self.ended_by is None:
+            # (by a signal that came once the command was over)
+            self._stop(None, whole=False)
         if self.ended_by is not None:
             raise _Ended(status)
+        if self._has_too_long_output():
+            raise _OutputTooLong()
         if self.is_late:
             raise _TimedOut()
         if status != 0:
@@ -259,9 +265,12 @@ class _Runner:
             elif group.until is not None and time.monotonic() >= group.until:
                 self.is_late = self.is_late or not group.is_told
                 group.end()
-            elif self.output is not None and os.fstat(self.output).st_size > self.options.max_output:
+            elif self._has_too_long_output():
                 self._end_rest(group)
                 raise _OutputTooLong()
+
+    def _has_too_long_output(self) -> bool:
+        return self.output is not None and os.fstat(self.output).st_size > self.options.max_output
 
     def _until(self, group: Group) -> Optional[float]:
         """The moment up to which hikebox waits for a signal."""

@@ -1,4 +1,4 @@
-"""Scenarios: the storms of a file, or one of the three stories."""
+"""Scenarios: the storms of a file, or one of the three that have a name."""
 
 from __future__ import annotations
 
@@ -44,7 +44,7 @@ class Scenario(NamedTuple):
 
 
 def scenario_of(word: str) -> Scenario:
-    """The story of this name, or the scenario of the file that it names."""
+    """The scenario of this name, or of the file that it names."""
     if word in SCENARIOS:
         return Scenario(SCENARIOS[word])
     try:

@@ -2,12 +2,13 @@
 
 from __future__ import annotations
 
+import io
 import os
 import sys
 from contextlib import contextmanager
 from typing import Iterator
 
-__all__ = ["named", "settle", "tell"]
+__all__ = ["named", "settle", "tell", "writes_utf_8"]
 
 
 @contextmanager
@@ -23,7 +24,8 @@ def settle() -> None:
     """Takes the numbers of standard streams that are closed.
 
     So no file gets one of these numbers, and a command that is run has the same streams closed. Reading such a stream
-    fails, and so does writing to it; what is written to standard error is dropped.
+    fails, and so does writing to it; what is written to standard error is dropped. A character that standard output
+    has no bytes for is written as an escape.
     """
     for number, flags in ((0, os.O_WRONLY), (1, os.O_RDONLY), (2, os.O_WRONLY)):
         try:
@@ -37,6 +39,14 @@ def settle() -> None:
         sys.stdout = open(1, "w", encoding="utf-8", closefd=False)
     if sys.stderr is None:
         sys.stderr = open(2, "w", encoding="utf-8", closefd=False)
+    if isinstance(sys.stdout, io.TextIOWrapper) and sys.stdout.errors == "strict":
+        sys.stdout.reconfigure(errors="backslashreplace")
+
+
+def writes_utf_8() -> None:
+    """Writes to standard output as UTF-8 from here on, whatever the locale."""
+    if isinstance(sys.stdout, io.TextIOWrapper):
+        sys.stdout.reconfigure(encoding="utf-8")
 
 
 def tell(text: str) -> None:

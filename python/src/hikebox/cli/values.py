@@ -111,7 +111,7 @@ def budget(text: Optional[str]) -> Union[Budget, Leased, None]:
         return None
     tickets, at, path = text.partition("@")
     if not (tickets.isascii() and tickets.isdigit()) or (at and not path):
-        raise BudgetError(f"expected N or N@FOLDER, got {text!r}")
+        raise BudgetError(f"--budget: expected N or N@FOLDER, got {text!r}")
     return Leased(folder(path), "run", int(tickets), lease=1) if at else Budget(int(tickets))
 
 
@@ -119,7 +119,7 @@ def quota(text: str) -> LeasedQuota:
     """A quota that all runs with the same folder share: `10/20%/60s@FOLDER`."""
     spelt, at, path = text.partition("@")
     if not (at and path):
-        raise BudgetError(f"expected RESERVE/SHARE%/PERIOD@FOLDER, as 10/20%/60s@FOLDER, got {text!r}")
+        raise BudgetError(f"--quota: expected RESERVE/SHARE%/PERIOD@FOLDER, as 10/20%/60s@FOLDER, got {text!r}")
     reserve, share, per = terms(spelt)
     return LeasedQuota(folder(path), "run", reserve, share, per, lease=1)
 

@@ -3,6 +3,7 @@
 // What is on the page: the story, what was changed of its numbers, and the two sides with a policy and a limit each.
 const state = { story: "quota", storm: {}, sides: [{ text: "", limit: "", limited: false }, { text: "", limit: "", limited: false }], along: "rate" };
 const page = crypto.randomUUID();
+let turns = 0;  // (how many storms and sweeps were asked for: an earlier one may be handled later)
 let known = { stories: {}, ranges: {}, cookbook: [], along: {} };
 
 // Name, label, and the least and the most of the slider; a time is in milliseconds. `part` is one of an outage, a
@@ -273,7 +274,7 @@ async function plan(index) {
     try {
       answer = await ask("plan", { ...side, width: widthOf(figure) });
     } catch (error) {
-      say(part.querySelector(".text-fault"), error.message);
+      if (turn === planTurns[index]) say(part.querySelector(".text-fault"), error.message);
       return;
     }
   }
@@ -312,7 +313,7 @@ async function play() {
   const slow = setTimeout(() => busy("Playing the storm; what you type or move breaks it off."), 1000);
   try {
     const width = widthOf(byId("played"));
-    const answer = await ask("storm", { page, sides: sidesAsked(), storm: stormAsked(), width, is_brief: width < WIDE }, mine.signal);
+    const answer = await ask("storm", { page, turn: ++turns, sides: sidesAsked(), storm: stormAsked(), width, is_brief: width < WIDE }, mine.signal);
     if (playing === mine) { showPlayed(answer); sweepLater(); }
   } catch (error) {
     if (playing === mine && error.name !== "AbortError") showStale(error.message);
@@ -389,7 +390,7 @@ async function sweep() {
   const mine = sweeping = new AbortController();
   byId("swept").setAttribute("aria-busy", "true");
   try {
-    const asked = { page, along: state.along, sides: sidesAsked(), storm: stormAsked(), width: Math.min(640, widthOf(byId("swept"))) };
+    const asked = { page, turn: ++turns, along: state.along, sides: sidesAsked(), storm: stormAsked(), width: Math.min(640, widthOf(byId("swept"))) };
     const answer = await ask("sweep", asked, mine.signal);
     if (sweeping !== mine) return;
     draw(byId("swept"), answer.picture);
@@ -431,9 +432,9 @@ function partsOf(value, count) {
   return parts.length <= count ? parts : [...parts.slice(0, count - 1), parts.slice(count - 1).join("-")];
 }
 
-// Takes what the link carries. What is wrong in it is told at its box, or above the page.
-function readLink() {
-  const told = new URLSearchParams(location.hash.slice(1)), unknown = [];
+// Takes what the part of a link after the # carries. What is wrong in it is told at its box, or above the page.
+function readLink(carried) {
+  const told = new URLSearchParams(carried.slice(1)), unknown = [];
   const named = told.get("story"), along = told.get("along");
   beginWith(Object.hasOwn(known.stories, named) ? named : "quota");
   if (named !== null && named !== state.story) unknown.push(`story=${named}`);
@@ -491,7 +492,7 @@ async function copy(text, what) {
     await navigator.clipboard.writeText(text);
     say(byId("said"), `${what} is copied.`);
   } catch {
-    say(byId("said"), "The browser does not let this page copy.");
+    say(byId("said"), "The browser does not let this page copy. The text is below “Copy as”.");
   }
 }
 
@@ -521,12 +522,13 @@ async function start() {
   for (const [name, title] of Object.entries(known.along)) byId("along").append(new Option(title, name));
   byId("along").addEventListener("change", () => { state.along = byId("along").value; keepLink(); sweep(); });
   byId("copy-link").addEventListener("click", () => { keepLink(); copy(location.href, "The link"); });
-  addEventListener("hashchange", readLink);
+  // (the page may have kept its own link since that one was opened)
+  addEventListener("hashchange", (event) => readLink(new URL(event.newURL).hash));
   let wide = innerWidth;
   addEventListener("resize", later(300, () => {
     if (innerWidth !== wide) { wide = innerWidth; SIDES.forEach((_, index) => sideChanged(index)); }
   }));
-  readLink();
+  readLink(location.hash);
 }
 
 start();

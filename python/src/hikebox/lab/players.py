@@ -8,7 +8,6 @@ import select
 import subprocess
 import sys
 import threading
-import time
 from pathlib import Path
 from typing import Any, Callable, Dict, List
 
@@ -115,21 +114,23 @@ class Players:
 
     def _take_back(self, player: _Player, is_well: bool) -> None:
         with self._lock:
-            self._busy.remove(player)
             if is_well and not self._closed:
+                self._busy.remove(player)
                 self._idle.append(player)
                 return
         player.end()
+        with self._lock:
+            self._busy.remove(player)
 
     def close(self) -> None:
-        """Ends them all."""
+        """Ends them all, and waits until they have ended."""
         with self._lock:
             self._closed = True
             idle, self._idle = self._idle, []
-            for player in self._busy:
-                player.process.kill()
+            busy = list(self._busy)
         for player in idle:
             player.end()
-        begun = time.monotonic()
-        while self._busy and time.monotonic() < begun + 2:
-            time.sleep(0.01)
+        # (who has asked one takes it back; a thread that is slow to do so leaves no process)
+        for player in busy:
+            player.process.kill()
+            player.process.wait()

@@ -70,12 +70,15 @@ class Lab(ThreadingHTTPServer):
         """Where the page is."""
         return f"http://127.0.0.1:{self.port}/{self.token}/"
 
-    def newest(self, page: str) -> Callable[[], bool]:
-        """Notes one more storm of a page: whether it is still the latest one is told by what is answered."""
+    def newest(self, page: str, turn: Optional[int] = None) -> Callable[[], bool]:
+        """Notes a storm of a page, which counts them by turns. What is answered tells whether it is the latest one.
+        (They come by several connections, so a later one may be handled before an earlier one.)"""
         with self._lock:
             if len(self._latest) > 1000:
                 self._latest.clear()
-            number = self._latest[page] = self._latest.get(page, 0) + 1
+            latest = self._latest.get(page, 0)
+            number = latest + 1 if turn is None else turn
+            self._latest[page] = max(latest, number)
         return lambda: self._latest.get(page) == number
 
     def handle_error(self, request: Any, client_address: Any) -> None:
@@ -130,9 +133,14 @@ class _Handler(BaseHTTPRequestHandler):
             page = asked.get("page")
             if not isinstance(page, str) or len(page) > 64:
                 raise BadRequest("page: expected a short text")
+            turn = asked.get("turn")
+            if turn is not None and (isinstance(turn, bool) or not isinstance(turn, int)):
+                raise BadRequest("turn: expected a whole number")
             if (name == "sweep") != ("along" in asked):
                 raise BadRequest("along: expected a parameter of a sweep alone")
-            is_newest = self.server.newest(f"{name} {page}")
+            is_newest = self.server.newest(f"{name} {page}", turn)
+            if not is_newest():
+                raise BrokenOff
             answer = self.server.players.play(asked, lambda: is_newest() and not self._is_gone())
             if "bad" in answer:
                 raise BadRequest(answer["bad"])

@@ -11,6 +11,7 @@ from typing import Callable, Iterator, Optional, TypeVar, Union
 
 from .._engine.leasing import Stored, lease_of_budget, lease_of_quota
 from .._engine.structs import Kept
+from .._forks import no_fork
 from ..budgets.terms import Terms
 from ..errors import StoreError, StoreLost
 from .slots import NO_BOOT, Copy, Slot, make_slot, slot_path, sync_folder, unpack
@@ -231,7 +232,9 @@ _LEFT_ALONE = 60.0
 
 def _prune(folder: str, own: str) -> None:
     """Deletes some files of this folder that no lease needs any more."""
-    names = os.listdir(folder)
+    # (no child keeps the folder open)
+    with no_fork:
+        names = os.listdir(folder)
     begin = secrets.randbelow(len(names) or 1)
     for name in (names[begin:] + names[:begin])[:_LOOKS]:
         if name != own:

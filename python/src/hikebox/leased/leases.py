@@ -6,7 +6,7 @@ import contextlib
 import logging
 import math
 import threading
-from typing import Any, Awaitable, Callable, ClassVar, List, Optional, Union
+from typing import Any, Awaitable, Callable, ClassVar, List, Optional, Tuple, Union
 
 from .._engine.calls import MAX_TICKETS
 from .._engine.leasing import Grant, LeasedPass, LeasedTicket
@@ -101,6 +101,8 @@ class Leases:
         #: Why the store grants nothing, where that is not since all is used up; and what it raised.
         self._reason = RefusalReason.USED_UP
         self._error: Optional[StoreError] = None
+        #: What is to be logged once the lock is given up: what handles the log may draw too, on any thread.
+        self._notes: List[Tuple[Any, ...]] = []
 
     def _take(self) -> Range:
         """A range from the store."""
@@ -126,7 +128,11 @@ class Leases:
         if isinstance(found, Ticket):
             return found
         with self.lock:
-            return self._drawn_anew()
+            drawn = self._drawn_anew()
+            notes, self._notes = self._notes, []
+        for text, *told in notes:
+            logger.warning(text, *told)
+        return drawn
 
     async def draw_async(self) -> Union[Ticket, Refusal]:
         """The same for a coroutine: under asyncio it waits for the store on another thread."""
@@ -238,7 +244,9 @@ class Leases:
             self.leased.leave_alone(self.moments.after(found.until))
             self._granted_none(found)
         if found.lost and not was_lost:
-            logger.warning("%s: the store may have lost its count of this window, and grants nothing of it", self.name)
+            self._notes.append(
+                ("%s: the store may have lost its count of this window, and grants nothing of it", self.name)
+            )
         return found.tickets > 0
 
     def _failed(self, error: StoreError) -> bool:
@@ -247,9 +255,8 @@ class Leases:
         self._reason = RefusalReason.LOST if isinstance(error, StoreLost) else RefusalReason.UNREACHABLE
         self._error = error.with_traceback(None)
         self.leave_alone()
-        # (last, since what handles the log may draw too)
         if not is_told:
-            logger.warning("%s: %s; it grants nothing until it can be reached", self.name, error)
+            self._notes.append(("%s: %s; it grants nothing until it can be reached", self.name, error))
         return False
 
     def _begin_leases_anew(self, grant: Grant, generation: int) -> None:
@@ -259,7 +266,7 @@ class Leases:
         if generation == self.generation:
             self._past.append(self.leased)
             self.leased = leased
-            logger.warning("%s: the store began anew", self.name)
+            self._notes.append(("%s: the store began anew", self.name))
 
     def _spare_one(self) -> Optional[Ticket]:
         """A ticket of those that are drawn while the store can't be reached."""

@@ -159,11 +159,13 @@ class Slot:
         """Locks the file, within so many seconds: False where its name is another file's by then, or nobody's."""
         given_up_at = time.monotonic() + patience
         while True:
+            # (a process that was held up for as long tries once more)
+            is_last = time.monotonic() >= given_up_at
             try:
                 fcntl.flock(self._file.fileno(), fcntl.LOCK_EX | fcntl.LOCK_NB)
                 return self._is_named()
             except BlockingIOError:
-                if time.monotonic() >= given_up_at:
+                if is_last:
                     raise StoreError(f"{self.path}: could not acquire its lock in {patience:g} s") from None
                 time.sleep(_PAUSE)
 

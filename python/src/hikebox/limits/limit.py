@@ -19,7 +19,6 @@ from .._engine.limits import (
 from .._forks import OfOneProcess, begins_anew_in_a_child
 from .._time import moment
 from ..budgets.tickets import Refusal, RefusalReason
-from ..errors import EngineError
 from ..policy.preview import word_of
 from ..storms.limits import LimitTerms
 
@@ -99,13 +98,16 @@ class Limit(OfOneProcess):
             return self._idle.pop()
         except IndexError:
             with self._lock:
+                # (in this order: where the process is forked here, it comes back to those of the parent)
+                idle, split = self._idle, self._split
                 made = self.root.split()
-                self._split.append(made)
+                made.home = idle
+                split.append(made)
                 return made
 
     def give_back(self, lent: LimitHandle) -> None:
         """Takes back a handle that has no request."""
-        self._idle.append(lent)
+        lent.home.append(lent)
 
     def cost_of(self, error: Optional[BaseException]) -> int:
         """What a retry after this error costs, in thousandths."""
@@ -160,11 +162,13 @@ class Request(OfOneProcess):
     def _held(self) -> LimitHandle:
         """Its handle."""
         handle, limit = self._handle, self._limit
-        if handle is None or self._generation != limit.generation:
-            self._generation = limit.generation
-            handle = self._handle = limit.lend()
-            if self._is_admitted:  # by the limit of the process that was forked
-                self._refusal = self._ask(handle)
+        while handle is None or self._generation != limit.generation:
+            generation = limit.generation
+            handle = limit.lend()
+            if generation == limit.generation:  # (else the handler of a signal forked meanwhile)
+                self._handle, self._generation = handle, generation
+                if self._is_admitted:  # by the limit of the process that was forked
+                    self._refusal = self._ask(handle)
         return handle
 
     def _ask(self, handle: LimitHandle) -> Optional[Refusal]:
@@ -217,10 +221,14 @@ class Request(OfOneProcess):
 
     def ended(self) -> None:
         """Tells that the call is over. What it holds comes back, once."""
-        handle, self._handle = self._handle, None
-        self._is_admitted, self._refusal = False, None
+        handle = self._handle
         if handle is not None and self._generation == self._limit.generation:
             handle.ended()
+        # (it is let go only then: an exception of a signal's handler may end this at any step, and `__del__` goes on;
+        # such a handler, or another thread, may have let it go meanwhile)
+        handle, self._handle = self._handle, None
+        self._is_admitted, self._refusal = False, None
+        if handle is not None:
             self._limit.give_back(handle)
 
     def end(self, hands_back: bool) -> None:
@@ -236,12 +244,8 @@ class Request(OfOneProcess):
         self.ended()
 
     def __del__(self) -> None:
-        if self._handle is None:
-            return
-        try:
+        if getattr(self, "_handle", None) is not None:
             self.ended()  # (a limit has only so many handles, so this one serves another request)
-        except EngineError:
-            pass  # its limit was freed with it
 
 
 def look_at_no_limit(called: str, budget: object, client: str) -> None:

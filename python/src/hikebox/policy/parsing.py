@@ -10,7 +10,7 @@ from typing import Any, Dict, Iterable, List, NamedTuple, Union
 from .._time import milliseconds
 from ..errors import Fault, PolicyError
 from . import builders
-from .nodes import NODES
+from .nodes import MAX_DEPTH, NODES
 from .policy import Policy
 
 __all__ = ["Refused", "parse", "read"]
@@ -28,6 +28,8 @@ _METHODS = tuple(
 
 #: How often an expression is parsed at most.
 _MOST_PARSES = 100
+#: How many characters of what was found an error quotes at most.
+_MAX_QUOTED = 60
 
 
 class Refused(NamedTuple):
@@ -67,11 +69,18 @@ def read(text: str) -> Union[Policy, Refused]:
         is_short = not error.offset or "EOF" in error.msg
         offset = (len(spelt) if is_short else int(error.offset or 1)) - 1
         ends = max(offset + 1, (getattr(error, "end_offset", None) or 0) - 1)
-        said = "the expression ends too soon" if is_short else error.msg
-        refused = PolicyError(Fault.NOT_A_PLAN, hint=f"{said} in {text.strip()!r}")
+        if is_short:
+            hint = f"the expression ends too soon in {_quoted(text)}"
+        else:
+            hint = f"expected an expression, as recurs(3) & exponential(0.1, 2), got {_quoted(text)}: {error.msg}"
+        refused = PolicyError(Fault.NOT_A_PLAN, hint=hint)
         return Refused(refused, begins + min(offset, len(spelt)), begins + min(ends, len(spelt)))
     except (RecursionError, MemoryError):
-        return Refused(PolicyError(Fault.TOO_DEEP), begins, begins + len(spelt))
+        hint = f"expected a plan at most {MAX_DEPTH} deep"
+        return Refused(PolicyError(Fault.TOO_DEEP, hint=hint), begins, begins + len(spelt))
+    except UnicodeEncodeError:
+        refused = PolicyError(Fault.NOT_A_PLAN, hint=f"expected an expression in UTF-8, got {_quoted(text)}")
+        return Refused(refused, begins, begins + len(spelt))
     except ValueError as error:
         return Refused(PolicyError(Fault.NOT_A_PLAN, hint=str(error)), begins, begins + len(spelt))
     except _Misplaced as found:
@@ -80,7 +89,7 @@ def read(text: str) -> Union[Policy, Refused]:
         first, last = (_signs(spelt, at or 0) for at in (found.node.col_offset, found.node.end_col_offset))
         return Refused(refused, begins + first, begins + last)
     if not isinstance(built, Policy):
-        refused = PolicyError(Fault.NOT_A_PLAN, hint=f"expected a policy, got {text.strip()!r}")
+        refused = PolicyError(Fault.NOT_A_PLAN, hint=f"expected a policy, got {_quoted(text)}")
         return Refused(refused, begins, begins + len(spelt))
     return built
 
@@ -152,13 +161,23 @@ def _called(node: ast.Call) -> Any:
     return _refuse(node)
 
 
+def _quoted(text: str) -> str:
+    """What was found, cut as the engine cuts it.
+
+    >>> _quoted(" recurs "), _quoted("a" * 61) == repr("a" * 60 + "..")
+    ("'recurs'", True)
+    """
+    found = text.strip()
+    return repr(found if len(found) <= _MAX_QUOTED else found[:_MAX_QUOTED] + "..")
+
+
 def _unknown(kind: str, name: str, known: Iterable[str]) -> PolicyError:
     close = difflib.get_close_matches(name, known, 1)
     hint = f"; did you mean {close[0]!r}?" if close else ""
-    return PolicyError(Fault.NOT_A_PLAN, hint=f"no {kind} is called {name!r}{hint}")
+    return PolicyError(Fault.NOT_A_PLAN, hint=f"no {kind} is called {_quoted(name)}{hint}")
 
 
 def _refuse(node: ast.expr) -> Any:
     text = ast.unparse(node)
     expected = f"{text}(..)" if text in _BUILDERS else "a policy"
-    raise PolicyError(Fault.NOT_A_PLAN, hint=f"expected {expected}, got {text!r}")
+    raise PolicyError(Fault.NOT_A_PLAN, hint=f"expected {expected}, got {_quoted(text)}")

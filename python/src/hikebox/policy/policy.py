@@ -7,7 +7,7 @@ import os
 from typing import Any, Callable, Dict, Iterable, List, Optional, Tuple, Union
 
 from .._time import Duration, seconds
-from ..errors import Fault, PolicyError
+from ..errors import Fault, PolicyError, shown
 from .checks import interval, ratio, whole
 from .nodes import FOLDS, MAX_DEPTH, MAX_NODES
 from .plan import Plan
@@ -81,8 +81,12 @@ class Policy:
         hikebox.errors.PolicyError: number out of range: expected {"fixed":D}, D from 1 to \
 4611686018427387903, got {"fixed":0}
         """
-        encoded = text.encode("utf-8", "surrogatepass") if isinstance(text, str) else bytes(text)
-        return cls._of_plan(Plan.of_text(encoded))
+        if isinstance(text, str):
+            text = text.encode("utf-8", "surrogatepass")
+        elif not isinstance(text, (bytes, bytearray, memoryview)):
+            # (`bytes` of a number is as many zeros)
+            raise TypeError(f"from_json: expected a text of JSON, got {shown(text)}")
+        return cls._of_plan(Plan.of_text(bytes(text)))
 
     @classmethod
     def from_dict(cls, value: Any) -> Policy:
@@ -112,6 +116,8 @@ class Policy:
         """
         from .parsing import parse
 
+        if not isinstance(text, str):
+            raise TypeError(f"parse: expected an expression, got {shown(text)}")
         return parse(text)
 
     @classmethod

@@ -54,7 +54,7 @@ def played(
     the moment `start`, and each other one `took` milliseconds after its planned start. Their inputs are these codes,
     the last one again and again; their words are picked by `random`, or in the middle."""
     most = plan.size()[2]
-    count = whole(max(0, steps), "preview: steps", 0, MAX_STEPS)
+    count = whole(max(0, steps) if isinstance(steps, int) else steps, "preview: steps", 0, MAX_STEPS)
     if most is not None:
         count = min(count, most + 1)
     if count == 0:

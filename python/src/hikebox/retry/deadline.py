@@ -59,7 +59,7 @@ def seconds_left() -> Optional[float]:
     >>> @retry(recurs(3), deadline=30)
     ... def fetch():
     ...     return seconds_left()
-    >>> 29 < fetch() <= 30, seconds_left()
+    >>> 0 < fetch() <= 30, seconds_left()
     (True, None)
     """
     deadline = _deadline.get()

@@ -21,7 +21,7 @@ from typing import (
     Union,
 )
 
-from .._time import Duration, seconds
+from .._time import MAX_NUMBER, Duration, seconds
 from ..budget import Budget
 from ..budgets.drawing import ByCall, Drawing
 from ..budgets.passes import UNLIMITED, Grants
@@ -119,7 +119,7 @@ def _most_wait_follows(settings: Settings) -> None:
     elif isinstance(most, bool) or not isinstance(most, (int, float)) or not most >= 0:
         raise TypeError(f"max_retry_after: expected a number of seconds, or None, got {most!r}")
     else:
-        settings.most_wait = float(most)
+        settings.most_wait = float(min(most, MAX_NUMBER))
 
 
 def _deadline_follows(settings: Settings) -> None:

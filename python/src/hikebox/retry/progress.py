@@ -15,6 +15,7 @@ from .._engine.calls import LOST, NO_DEADLINE, NO_REPORT, OVER, RUN, WAIT
 from .._engine.machine import Machine, give_machine_up, is_crowded, lend_machine, park, resumed, take_machine_back
 from .._time import MAX_NUMBER, FLOAT_ERROR
 from ..budgets.drawing import Drawing, ask
+from ..budgets.passes import Ends
 from ..limits import Request
 from ..errors import ResultRefused
 from ..policy.preview import word_of
@@ -56,7 +57,7 @@ class Progress:
         "_holds_ticket",
         "_drawing",
         "_parked",
-        "_generation",
+        "_ends_at",
         "_logs",
         "_closed",
     )
@@ -98,8 +99,8 @@ class Progress:
         self._drawing: Optional[Drawing] = None
         #: The engine's retry, while its machine serves others.
         self._parked = 0
-        #: How often what it draws on had begun anew when it began.
-        self._generation = 0
+        #: What ends the engine's retry: in a forked child, what it began at in the parent.
+        self._ends_at: Optional[Ends] = None
         #: Whether each attempt that failed is logged.
         self._logs = False
         self._closed = False
@@ -401,13 +402,13 @@ class Progress:
         state = self.state
         won = self.settings.returns_tickets and state.ending is Ending.WON and state.granted > 0
         machine = self._resumed() if self._parked else self._machine
-        drawing, grants, hands_back = self._drawing, self.settings.grants, self._holds_ticket or won
+        drawing, ends_at, hands_back = self._drawing, self._ends_at, self._holds_ticket or won
         self._machine = self._drawing = None
         try:
             if drawing is not None:
                 drawing.end(hands_back)
-            if machine is not None and self._generation == grants.generation:
-                grants.end_retry(machine, hands_back)
+            if machine is not None and ends_at is not None:
+                ends_at.end(machine, hands_back)
         finally:
             if machine is not None:
                 gives_back(machine)
@@ -453,8 +454,7 @@ class Progress:
         grants, plan, most = settings.grants, settings.policy.plan, settings.deadline_millis
         self._origin = grants.moment_of(self.state.start_time)
         deadline = NO_DEADLINE if most is None else min(MAX_NUMBER, self._origin + most)
-        grants.begin_retry(machine, plan, deadline)
-        self._generation = grants.generation
+        self._ends_at = grants.begin_retry(machine, plan, deadline)
         self._machine = machine
         self._logs = logger.isEnabledFor(logging.DEBUG)
         if machine.poll(self._origin, NO_REPORT, 0)[0] != RUN:

@@ -4,6 +4,8 @@ from __future__ import annotations
 
 import enum
 import itertools
+import operator
+import sys
 import threading
 from dataclasses import asdict, dataclass
 from typing import TYPE_CHECKING, Any, Callable, Dict, Mapping, NamedTuple, Optional, Tuple
@@ -313,38 +315,55 @@ class _Lock:
 _lock = _Lock()
 
 
-class Counts:
-    """The counts behind `Statistics`, shared by threads."""
+class _Tally:
+    """A count that goes up in one step, without a lock. Reading it changes nothing."""
 
-    __slots__ = ("add_success", "_looks", "_calls", "_attempts", "_idle_for", "_endings")
+    __slots__ = ("add", "_left")
 
     def __init__(self) -> None:
-        #: Counts a call that succeeded at its first attempt: in one step, without a lock.
-        self.add_success = itertools.count().__next__
-        #: How often that was called to look at the count alone.
-        self._looks = 0
-        #: All other calls, and how they ended.
-        self._calls = 0
+        #: What is still to be counted.
+        self._left = itertools.repeat(None, sys.maxsize)
+        self.add = self._left.__next__
+
+    def seen(self) -> int:
+        """The count as of now."""
+        return sys.maxsize - operator.length_hint(self._left)
+
+
+class Counts:
+    """The counts behind `Statistics`, shared by threads.
+
+    A finalizer, or the handler of a signal, may count a call in the middle of the count of another.
+    """
+
+    __slots__ = ("add_success", "_at_once", "_endings", "_attempts", "_idle_for")
+
+    def __init__(self) -> None:
+        self._at_once = _Tally()
+        #: Counts a call that succeeded at its first attempt.
+        self.add_success = self._at_once.add
+        #: All other calls, by how they ended, and their attempts.
+        self._endings: Dict[Ending, _Tally] = {}
         self._attempts = 0
         self._idle_for = 0.0
-        self._endings: Dict[Ending, int] = {}
 
     def add(self, attempts: int, idle_for: float, ending: Ending) -> None:
         """Counts a call that is over."""
+        tally = self._endings.get(ending)
+        if tally is None:
+            tally = self._endings.setdefault(ending, _Tally())
         with _lock.held:
-            self._calls += 1
+            tally.add()
             self._attempts += attempts
             self._idle_for += idle_for
-            self._endings[ending] = self._endings.get(ending, 0) + 1
 
     def seen(self) -> Statistics:
         """The counts as of now."""
         with _lock.held:
-            counts = self._endings
+            counts = {ending: tally.seen() for ending, tally in list(self._endings.items())}
             named = {ending.name.lower(): counts.get(ending, 0) for ending in Ending if ending not in _BROKEN}
-            at_once = self.add_success() - self._looks
-            self._looks += 1
+            at_once = self._at_once.seen()
             named["won"] += at_once
             broken = sum(counts.get(ending, 0) for ending in _BROKEN)
-            calls, attempts = self._calls + at_once, self._attempts + at_once
+            calls, attempts = sum(counts.values()) + at_once, self._attempts + at_once
             return Statistics(calls, attempts, self._idle_for, broken=broken, **named)

@@ -258,7 +258,8 @@ class _Watch:
         begins_anew_in_a_child(self)
 
     def begin_anew(self) -> None:
-        self._lock = threading.Lock()
+        #: Taken again by the same thread where the collector closes a coroutine that waits.
+        self._lock = threading.RLock()
         #: The futures of coroutines, each with its loop.
         self._waiting: Dict[Any, Any] = {}
         self._is_watched = False

@@ -249,7 +249,7 @@ class Parameters(NamedTuple):
         return made
 
 
-#: What the three stories change.
+#: What the three scenarios change.
 SCENARIOS: Dict[str, Parameters] = {
     "outage": Parameters(),
     "herd": Parameters(10_000, 10_000, 1, 1000, 1000, 500, outage=Span(0, 0)),
