@@ -164,8 +164,8 @@ def looks_at_numbers(program: List[str]) -> List[str]:
     return wrong
 
 
-#: A row of the table of limits in docs/LIMITS.md: a limit, and in each of three stories how many requests succeed and,
-#: but for the last, when the peer is back.
+#: A row of the table of limits in docs/LIMITS.md: a limit, and in each of three scenarios how many requests succeed,
+#: and but for the last when the peer is back.
 ROW = re.compile(r"\| (none|`.*`) \| ([\d,]+).* \| (.*) \| ([\d,]+).* \| (.*) \| ([\d,]+).* \|")
 
 
@@ -177,7 +177,7 @@ def looks_at_page(program: List[str]) -> List[str]:
         limit = row[1].strip("`")
         name, _, terms = limit.rpartition(" ") if limit.startswith("--") else ("--limit", "", limit)
         drawn = {} if limit == "none" else {name[2:]: terms}
-        storms += [(program, FULL, {"scenario": story, **drawn}) for story in ("outage", "brown-out", "herd")]
+        storms += [(program, FULL, {"scenario": scenario, **drawn}) for scenario in ("outage", "brown-out", "herd")]
     with Pool() as pool:
         played = [got["totals"] for got in pool.starmap(told, storms)]
     wrong = [] if len(rows) == 7 else [f"docs/LIMITS.md: expected seven rows of limits, got {len(rows)}"]

@@ -204,18 +204,24 @@ spent() {
   { time "$@" >/dev/null 2>&1 </dev/null; } 2>&1 | awk '{ print int(($1 + $2) * 1000 + 0.5) }'
 }
 
-# bin/zsched takes at most 20 ms of the processor more than the program, in one of a hundred tries on a machine that may be
-# busy: how long it waits there for a processor is not counted.
+# looks_at_files: what bin/zsched has to do beside the program: a shell looks for files that were changed since
+looks_at_files() {
+  bash -c 'find crates \( -name out -o -name must-fail \) -prune -o -cnewer out/zsched-of-dist -print -quit'
+}
+
+# bin/zsched takes at most three times what that takes of the processor more than the program, in one of a hundred tries
+# on a machine that may be busy: how long it waits there for a processor is not counted.
 costs_little() {
-  local own whole
+  local own whole looks
   bin/zsched --version >/dev/null
-  touch -d '10 seconds' out/zsched-of-dist
+  touch -d '1 hour' out/zsched-of-dist
   for _ in $(seq 100); do
     own=$(spent dist/zsched --version)
+    looks=$(spent looks_at_files)
     whole=$(spent bin/zsched --version)
-    [ $((whole - own)) -gt 20 ] || { tried=$((tried + 1)); return 0; }
+    [ $((whole - own)) -gt $((3 * looks)) ] || { tried=$((tried + 1)); return 0; }
   done
-  echo "tests/commands.sh: bin/zsched takes $whole milliseconds of the processor, and the program $own" >&2
+  echo "tests/commands.sh: bin/zsched takes $whole milliseconds of the processor, the program $own, and to look at the files $looks" >&2
   failed=1
 }
 
@@ -307,7 +313,8 @@ runs_tests() {
   wants 2 '' "bin/test: there is no part nope; the parts are $(sed -n 's/^parts=(\(.*\))$/\1/p' bin/test)" bin/test nope blocks
   mkdir "$work/tmp"
   wants 0 $'passed  blocks\n1 passed, 0 failed' '' sh -c 'TMPDIR="$1" bin/test blocks | sed "/^bin.test: /d; s/^passed  blocks .*/passed  blocks/"' sh "$work/tmp"
-  printf '#!/bin/sh\nsetsid sh -c "echo \\$\\$ >%s; exec sleep 1000" &\nsleep 0.2\n' "$work/id" >tests/blocks.sh
+  printf '#!/bin/sh\nsetsid sh -c "echo \\$\\$ >%s; exec sleep 1000" &\nuntil [ -s %s ]; do sleep 0.1; done\n' \
+    "$work/id" "$work/id" >tests/blocks.sh
   # shellcheck disable=SC2065
   TMPDIR=$work/tmp bin/test blocks >"$work/out" 2>&1 && failed=1
   tried=$((tried + 1))

@@ -12,7 +12,7 @@ import subprocess
 import sys
 import time
 from pathlib import Path
-from typing import Iterator, Set
+from typing import Dict, Iterator
 
 import pytest
 
@@ -48,14 +48,25 @@ class Lab:
         assert found is not None
         self.address = found[1]
 
-    def players(self) -> Set[str]:
-        """The processes that play its storms."""
-        found = set()
+    def players(self) -> Dict[str, int]:
+        """The processes that play its storms, and how many hundredths of a second of a processor each has used."""
+        found = {}
         for folder in Path("/proc").glob("[0-9]*"):
             with contextlib.suppress(OSError):
-                if int((folder / "stat").read_text().rpartition(")")[2].split()[1]) == self.process.pid:
-                    found.add(folder.name)
+                words = (folder / "stat").read_text().rpartition(")")[2].split()
+                if int(words[1]) == self.process.pid:
+                    found[folder.name] = int(words[11]) + int(words[12])
         return found
+
+    def at_work(self) -> str:
+        """The process that plays a storm for long: it has used a second of a processor since this was called."""
+        before, ends = self.players(), time.monotonic() + 120
+        while time.monotonic() < ends:
+            for name, used in self.players().items():
+                if used >= before.setdefault(name, used) + 100:
+                    return name
+            time.sleep(0.1)
+        raise AssertionError("no process is at work")
 
     def close(self) -> None:
         self.process.send_signal(signal.SIGINT)
@@ -109,30 +120,47 @@ def comes_to(browser: Browser, said: str, side: str = "a") -> None:
         time.sleep(0.1)
 
 
+def becomes_another(browser: Browser, figure: str, before: str) -> None:
+    """Waits until this figure is another one."""
+    ends = time.monotonic() + 120
+    while browser.run("return document.getElementById(arguments[0]).innerHTML", figure) == before:
+        assert time.monotonic() < ends, f"{figure} stays the same"
+        time.sleep(0.1)
+
+
 def text_of(browser: Browser, identity: str) -> str:
     return str(browser.run("return document.getElementById(arguments[0]).textContent", identity))
 
 
-#: Holds back the first answer that the page is given to a call of this name.
-HOLD = """
-const [name] = arguments, real = ask;
-window.release = null;
-ask = async (...given) => {
-  const answer = await real(...given);
-  if (given[0] === name && !window.release) await new Promise((done) => { window.release = done; });
-  return answer;
+#: Puts a text into a box, as if it was typed at once.
+PUTS = """
+const put = (identity, text) => {
+  const box = document.getElementById(identity);
+  box.value = text;
+  box.dispatchEvent(new Event("input"));
 };
 """
-#: Types a text in a box, and gives the page at once the answer that was held back.
-TYPES_AND_RELEASES = """
-const box = document.getElementById(arguments[0]);
-box.value = arguments[1];
-box.dispatchEvent(new Event("input"));
+#: Puts a text into a box, and holds back the first answer that the page is given then to a call of this name.
+PUTS_AND_HOLDS = f"""
+{PUTS}
+const [identity, text, name] = arguments, real = ask;
+window.release = null;
+ask = async (...given) => {{
+  const answer = await real(...given);
+  if (given[0] === name && !window.release) await new Promise((done) => {{ window.release = done; }});
+  return answer;
+}};
+put(identity, text);
+"""
+#: Puts a text into a box, and gives the page at once the answer that was held back.
+PUTS_AND_RELEASES = f"""
+{PUTS}
+put(arguments[0], arguments[1]);
 window.release();
-return (async () => {
+return (async () => {{
   for (let turn = 0; turn < 100; turn += 1) await null;
   return document.getElementById(arguments[2]).textContent;
-})();
+}})();
 """
 
 
@@ -266,18 +294,13 @@ def test_all_of_it_by_the_keyboard(browser: Browser, lab: Lab) -> None:
     browser.tab_to("capacity-slider")
     browser.keys(RIGHT * 20)
     browser.wait("return Number(document.getElementById('capacity').value) > 1500")
-    ends = time.monotonic() + 120
-    while browser.run("return document.getElementById('played').innerHTML") == before:
-        assert time.monotonic() < ends, "the picture stays the same"
-        time.sleep(0.1)
+    becomes_another(browser, "played", before)
     # along another parameter
     swept = browser.run("return document.getElementById('swept').innerHTML")
     browser.tab_to("along")
     browser.keys(DOWN)
     assert browser.run("return document.getElementById('along').value") == "capacity"
-    while browser.run("return document.getElementById('swept').innerHTML") == swept:
-        assert time.monotonic() < ends, "the sweep stays the same"
-        time.sleep(0.1)
+    becomes_another(browser, "swept", swept)
     # the link
     browser.wait("return location.hash.includes('along=capacity')")
     link, capacity = browser.address, browser.run("return document.getElementById('capacity').value")
@@ -343,17 +366,19 @@ def test_all_stories_and_a_slider_by_touch(browser: Browser, width: int, height:
     browser.wait(DRAWN)
     for element, (name, first, second) in zip(browser.elements("[name=story]"), STORIES):
         browser.run("document.querySelector(`[value=${arguments[0]}]`).scrollIntoView({ block: 'end' })", name)
-        browser.tap(element)
-        browser.wait(f"return document.querySelector('[name=story]:checked').value === '{name}'")
+        browser.tap_until(element, f"return document.querySelector('[name=story]:checked').value === '{name}'")
         comes_to(browser, first)
         comes_to(browser, second, "b")
     shot(browser, f"story-{width}")
     browser.run("document.getElementById('rate-slider').scrollIntoView({ block: 'end' })")
-    browser.drag("rate-slider", 0.5)
     # (half of the way from 1 to 20,000 by ratios is their root, 141)
-    rate = browser.wait("const rate = Number(document.getElementById('rate').value); return rate <= 200 && rate")
-    assert 100 <= rate <= 200
-    comes_to(browser, f"of {rate * 60:,} requests")
+    ends, rate = time.monotonic() + 120, 0
+    while not (100 <= rate <= 200 and f"of {rate * 60:,} requests" in brief(browser)):
+        assert time.monotonic() < ends, (rate, brief(browser))
+        if not 100 <= rate <= 200:
+            browser.drag("rate-slider", 0.5)
+        rate = int(browser.run("return document.getElementById('rate').value"))
+        time.sleep(0.1)
     assert browser.run("return scrollX") == 0
 
 
@@ -396,20 +421,18 @@ def test_numbers_that_are_wrong_together_are_told(browser: Browser) -> None:
 
 
 def test_an_answer_to_what_was_typed_before_marks_nothing(browser: Browser) -> None:
-    browser.run(HOLD, "plan")
-    types(browser, "a-text", "recurs(3) & sp")
+    browser.run(PUTS_AND_HOLDS, "a-text", "recurs(3) & sp", "plan")
     browser.wait("return window.release !== null")
-    assert browser.run(TYPES_AND_RELEASES, "a-text", "recurs(3) & spced(1)", "a-fault") == ""
+    assert browser.run(PUTS_AND_RELEASES, "a-text", "recurs(3) & spced(1)", "a-fault") == ""
     browser.wait("return document.querySelector('#side-a mark')")
     assert browser.run("return document.querySelector('#side-a mark').textContent") == "spced(1)"
 
 
 def test_an_answer_to_a_number_of_before_leaves_the_fault_of_the_box(browser: Browser) -> None:
-    browser.run(HOLD, "storm")
-    types(browser, "outage1", "5")
+    browser.run(PUTS_AND_HOLDS, "outage1", "5", "storm")
     browser.wait("return window.release !== null")
     wanted = "expected a whole number from 0 to 3,600,000, got '5x'"
-    assert browser.run(TYPES_AND_RELEASES, "outage1", "5x", "outage1-fault") == wanted
+    assert browser.run(PUTS_AND_RELEASES, "outage1", "5x", "outage1-fault") == wanted
     assert text_of(browser, "outage0-fault") == "it ends at 5 ms, before it begins at 10000 ms"
 
 
@@ -459,12 +482,27 @@ def test_what_is_wrong_in_a_link_is_told(browser: Browser, lab: Lab) -> None:
     ]
 
 
+def test_a_link_is_opened_though_the_page_keeps_its_own_just_then(browser: Browser) -> None:
+    browser.run("location.hash = 'story=jitter&along=capacity'; keepLink()")
+    browser.wait("return document.getElementById('along').value === 'capacity'")
+    assert browser.run("return document.getElementById('rate').value") == "10000"
+    browser.wait("return location.hash.includes('story=jitter') && location.hash.includes('along=capacity')")
+
+
 def test_a_page_without_a_picture_does_not_speak_of_one(browser: Browser, lab: Lab) -> None:
     browser.open("about:blank")
     browser.open(f"{lab.address}#down=2")
     browser.wait("return document.getElementById('down-fault').textContent === 'expected 1 to 1, got 2'")
     assert text_of(browser, "stale") == "What is wrong is marked."
     assert not browser.run("return document.querySelector('#played svg')")
+
+
+def test_a_browser_that_does_not_copy_shows_where_the_text_is(browser: Browser) -> None:
+    browser.run("navigator.clipboard.writeText = () => Promise.reject(new Error('no'))")
+    browser.run("document.getElementById('copy-link').click()")
+    browser.wait("return document.getElementById('said').textContent.endsWith('The text is below “Copy as”.')")
+    assert text_of(browser, "copied").startswith("http://127.0.0.1:")
+    assert not browser.run("return document.getElementById('copied').hidden")
 
 
 def test_what_is_not_played_is_not_copied(browser: Browser) -> None:
@@ -584,16 +622,16 @@ def test_a_long_storm_shows_that_it_is_played_and_typing_breaks_it_off(browser: 
     browser.wait("return !document.getElementById('busy').hidden")
     assert "breaks it off" in text_of(browser, "busy-said")
     shot(browser, "busy")
-    at_work = lab.players()
+    at_work = lab.at_work()
     browser.run("state.storm = {seconds: 5}; showControls()")
     browser.keys("a", held=CONTROL)
     browser.keys("recurs(0)")
     comes_to(browser, "of 4,000 requests")
     browser.wait("return document.getElementById('busy').hidden")
     ends = time.monotonic() + 120
-    while at_work <= lab.players() and time.monotonic() < ends:
+    while at_work in lab.players():
+        assert time.monotonic() < ends, "the process of the long storm is still there"
         time.sleep(0.1)
-    assert not at_work <= lab.players(), "the process of the long storm is still there"
 
 
 def test_ten_storms_of_a_million_requests_at_once_leave_it_answering(browser: Browser) -> None:
@@ -601,7 +639,8 @@ def test_ten_storms_of_a_million_requests_at_once_leave_it_answering(browser: Br
         """
         const [storm, text] = arguments;
         const asked = { page, sides: [{ text, limit: "" }], storm, width: 500 };
-        const played = (asked) => ask("storm", asked).then(() => "played", (error) => error.message);
+        const said = (answer) => answer.then(() => "played", (error) => error.message);
+        const played = (asked) => said(ask("storm", { ...asked, turn: ++turns }));
         const many = Array.from({ length: 10 }, () => played(asked));
         let over = false;
         const all = Promise.all(many).then((ends) => { over = true; return ends; });

@@ -167,27 +167,35 @@ for word in '' x 80x -1 0 65536 123456; do
 done
 mistakes 2 'connect: expected one port from 1 to 65535, got ""' "$work/poll"
 mistakes 2 'connect: expected one port from 1 to 65535, got "81"' "$work/poll" 80 81
+# The server listens once a connection was refused, and has a second port, on which it never listens.
+cc "${flags[@]}" -shared -fPIC -o "$work/listens.so" "$top/tests/listens.c" -ldl
 printf 'heard a line\nconnected after retries\n' >"$work/want"
-coproc listener { exec python3 -c 'import socket, time
-listener = socket.socket()
-listener.bind(("127.0.0.1", 0))
-print(listener.getsockname()[1], flush=True)
-time.sleep(0.2)
+mkfifo "$work/asks" "$work/says" "$work/input"
+python3 -c 'import socket, sys
+listener, closed = socket.socket(), socket.socket()
+for each in (listener, closed):
+    each.bind(("127.0.0.1", 0))
+print(listener.getsockname()[1], closed.getsockname()[1], flush=True)
+sys.stdin.readline()
 listener.listen()
-listener.accept()'; }
-# shellcheck disable=SC2154
-server=$listener_PID
-read -r port <&"${listener[0]}"
-printf 'a line\n' | "$work/poll" "$port" >"$work/out" && cmp -s "$work/out" "$work/want" || wrong "examples/c/poll.c: $(cat "$work/out")"
-wait "$server" || true
+print("listens", flush=True)
+sys.stdin.read()' <"$work/asks" >"$work/says" &
+server=$!
+exec 7<>"$work/input" 8>"$work/asks" 9<"$work/says"
+read -r port closed <&9
+printf 'a line\n' >&7
+LD_PRELOAD=$work/listens.so "$work/poll" "$port" <&7 >"$work/out" && cmp -s "$work/out" "$work/want" ||
+  wrong "examples/c/poll.c: $(cat "$work/out")"
 status=0
-"$work/poll" "$port" </dev/null >"$work/out" || status=$?
+"$work/poll" "$closed" </dev/null >"$work/out" || status=$?
 [ "$status" = 1 ] && [ "$(cat "$work/out")" = 'Connection refused after retries' ] || wrong "examples/c/poll.c: $status, $(cat "$work/out")"
 cc "${flags[@]}" -shared -fPIC -o "$work/refused.so" "$top/tests/refused.c" -ldl
 status=0
-LD_PRELOAD=$work/refused.so "$work/poll" "$port" </dev/null >"$work/out" || status=$?
+LD_PRELOAD=$work/refused.so "$work/poll" "$closed" </dev/null >"$work/out" || status=$?
 [ "$status" = 1 ] && [ "$(cat "$work/out")" = 'Connection refused after retries' ] ||
   wrong "examples/c/poll.c, refused by connect(): $status, $(cat "$work/out")"
+exec 7>&- 8>&- 9<&-
+wait "$server"
 
 # Policies along their courses: each event as the others, and each with an input and words of its own.
 python3 "$top/tests/random_policies.py" 300 18 >"$work/policies"

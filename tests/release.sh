@@ -19,7 +19,7 @@ fails() {
 
 # A checkout whose dist/ is of its sources, and crates in the place of crates.io.
 mkdir -p "$clone" "$work/cargo"
-tar -C "$top" --exclude=./.git --exclude=./out --exclude=out --exclude=./dist -cf - . | tar -C "$clone" -xf -
+tar -C "$top" --exclude=./.git --exclude=./out --exclude=out --exclude=./dist --exclude=__pycache__ -cf - . | tar -C "$clone" -xf -
 mkdir -p "$clone/dist/aarch64"
 for file in zsched libhikebox.a libhikebox.so hikebox.h aarch64/libhikebox.a aarch64/libhikebox.so; do
   cp "$dist/$file" "$clone/dist/$file"

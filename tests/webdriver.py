@@ -3,6 +3,7 @@
 from __future__ import annotations
 
 import base64
+import contextlib
 import json
 import re
 import shutil
@@ -48,9 +49,14 @@ class Browser:
         # (the protocol gives a script 30 seconds where none are named)
         wanted["timeouts"] = {"script": 240_000}
         self.session = ""
-        self.session = (
-            "/session/" + self.call("POST", "/session", {"capabilities": {"alwaysMatch": wanted}})["sessionId"]
-        )
+        self.session = "/session/" + self._begun({"capabilities": {"alwaysMatch": wanted}})["sessionId"]
+
+    def _begun(self, wanted: Dict[str, Any]) -> Any:
+        """A session. (Its driver gives Chromium a minute to start, which a busy machine may take up.)"""
+        for _ in range(2):
+            with contextlib.suppress(AssertionError):
+                return self.call("POST", "/session", wanted)
+        return self.call("POST", "/session", wanted)
 
     def call(self, method: str, path: str, given: Optional[Dict[str, Any]] = None) -> Any:
         body = json.dumps(given or {}).encode() if method == "POST" else None
@@ -120,6 +126,18 @@ class Browser:
         ]
         finger = {"type": "pointer", "id": "finger", "parameters": {"pointerType": "touch"}, "actions": pressed}
         self.call("POST", "/actions", {"actions": [finger]})
+
+    def tap_until(self, element: str, script: str) -> None:
+        """Taps until the script gives something: if the machine is busy meanwhile, a tap becomes a long one."""
+        ends = time.monotonic() + 120
+        while True:
+            self.tap(element)
+            try:
+                self.wait(script, 5)
+                return
+            except AssertionError:
+                if time.monotonic() > ends:
+                    raise
 
     def tab_to(self, identity: str) -> None:
         """Presses Tab until the element of this name has the focus."""
