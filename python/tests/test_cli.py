@@ -120,6 +120,16 @@ def test_an_attempt_that_takes_too_long(tmp_path: Path) -> None:
     assert time.monotonic() - began < 300
 
 
+def test_an_attempt_that_takes_too_long_while_hikebox_is_stopped(start: Any) -> None:
+    process = start("run", "--timeout", "2", "--policy", "recurs(0)", "--", "sh", "-c", "echo up; exec sleep 600")
+    assert process.stdout.readline() == "up\n"
+    process.send_signal(signal.SIGSTOP)
+    time.sleep(2.5)
+    process.send_signal(signal.SIGCONT)
+    process.communicate(timeout=60)
+    assert process.returncode == 124
+
+
 def test_a_deadline_of_all_attempts() -> None:
     tells = ["--", "sh", "-c", 'echo "$HIKEBOX_SECONDS_LEFT"; exit 3']
     status, output, _ = hikebox("run", "--deadline", "3600", "--policy", "recurs(2)", *tells)

@@ -57,11 +57,13 @@ def is_of_os_stat(error: BaseException) -> bool:
     If a second signal comes meanwhile, its handler finds the exception of the first, and the first thing that it calls
     is a SystemError. No other call of the package does this.
     """
-    *_, caller, handler = traceback.extract_tb(error.__traceback__)
+    *callers, handler = traceback.extract_tb(error.__traceback__)
+    while callers[-1].name == "handler":  # (whose first step a third signal has interrupted)
+        callers.pop()
     cause: Optional[BaseException] = error
     while isinstance(cause, SystemError):
         cause = cause.__cause__
-    is_stat = re.search(r"\bos\.f?stat\(", caller.line or "") is not None
+    is_stat = re.search(r"\bos\.f?stat\(", callers[-1].line or "") is not None
     return isinstance(cause, Interrupt) and handler.name == "handler" and is_stat
 
 

@@ -414,7 +414,8 @@ class _Runner:
             if left <= 0:
                 return None
             came = signal.sigtimedwait(self.watched, min(left, 1e6))
-            if came is not None:
+            # (where hikebox was stopped up to that moment, Python returns what no signal has filled)
+            if came is not None and came.si_signo in self.watched:
                 return came
 
     def let_out(self) -> None:
