@@ -1,6 +1,6 @@
-"""Previews and expressions while another thread uses Python's parser. Before 3.13 a parse raises a SystemError if
-another thread parses in the middle of it, as it may where the garbage collector frees an object (CPython's issue
-106905)."""
+"""Previews and expressions while another thread uses Python's parser. In some Pythons, as 3.11.2, a parse raises a
+SystemError if another thread parses in the middle of it, as it may when the garbage collector frees an object
+(CPython's issue 106905)."""
 
 from __future__ import annotations
 

@@ -414,7 +414,7 @@ class _Runner:
             if left <= 0:
                 return None
             came = signal.sigtimedwait(self.watched, min(left, 1e6))
-            # (where hikebox was stopped up to that moment, Python returns what no signal has filled)
+            # (if hikebox was stopped until then, Python returns a result that no signal filled)
             if came is not None and came.si_signo in self.watched:
                 return came
 

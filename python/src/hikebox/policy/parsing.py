@@ -95,8 +95,8 @@ def read(text: str) -> Union[Policy, Refused]:
 
 
 def _tree(spelt: str) -> ast.expr:
-    """The tree of an expression. Before 3.13, Python raises a SystemError now and then where another thread parses too
-    (CPython's issue 106905). The text is not at fault, so it is parsed again."""
+    """The tree of an expression. Some Pythons, 3.11.2 and 3.11.7 among them, raise a SystemError now and then if
+    another thread parses too (CPython's issue 106905). The text is not at fault, so it is parsed again."""
     for _ in range(_MOST_PARSES - 1):
         try:
             return ast.parse(spelt, mode="eval").body
