@@ -3,7 +3,7 @@
 # poll, and `zsched pool` over 4,096 jobs. Started by hand at the top of the repository: bench/board.sh. It needs rt and a
 # machine with nothing else to do.
 cd "$(dirname "$0")/.." && source bench/least.sh
-programs bench_board
+programs bench
 zsched
 
 machine
@@ -11,7 +11,7 @@ few=10
 many=210
 alone=
 for workers in 1 2 "$(nproc)"; do
-    poll=$(per_unit $((64 * (many - few))) "$(least "$work/bench_board" "$workers" "$few")" "$(least "$work/bench_board" "$workers" "$many")")
+    poll=$(per_unit $((64 * (many - few))) "$(least "$work/bench" board "$workers" "$few")" "$(least "$work/bench" board "$workers" "$many")")
     alone=${alone:-$poll}
     awk -v w="$workers" -v p="$poll" -v a="$alone" \
         'BEGIN { printf "board, %d workers: a run each %s ns, %.2f of linear\n", w, p, a / p / w }'

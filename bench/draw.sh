@@ -5,7 +5,7 @@
 # mutex too.
 # Started by hand at the top of the repository: bench/draw.sh. It needs rt, rustc and a machine with nothing else to do.
 cd "$(dirname "$0")/.." && source bench/least.sh
-programs bench_draw bench_quota
+programs bench
 for program in bare locked_quota; do
     rustc -O -C target-cpu=x86-64 -o "$work/$program" "bench/$program.rs"
 done
@@ -25,22 +25,22 @@ ratio() {
 
 # rising_draws THREADS DRAWS
 rising_draws() {
-    "$work/bench_draw" "$1" "$2" rising
+    "$work/bench" draw "$1" "$2" rising
 }
 
 # parted_draws THREADS DRAWS
 parted_draws() {
-    "$work/bench_draw" "$1" "$2" parts
+    "$work/bench" draw "$1" "$2" parts
 }
 
 # rising_parted_draws THREADS DRAWS
 rising_parted_draws() {
-    "$work/bench_draw" "$1" "$2" rising parts
+    "$work/bench" draw "$1" "$2" rising parts
 }
 
 machine
 for threads in 1 "$(nproc)"; do
-    draw=$(per_call "$threads" "$work/bench_draw")
+    draw=$(per_call "$threads" "$work/bench" draw)
     bare=$(per_call "$threads" "$work/bare")
     echo "threads $threads: draw $draw ns, bare fetch_add $bare ns, ratio $(ratio "$draw" "$bare")"
     rising=$(per_call "$threads" rising_draws)
@@ -52,7 +52,7 @@ done
 for threads in 1 2 4; do
     bare=$(per_call "$threads" "$work/bare")
     for call in granted refused deposit; do
-        quota=$(per_call "$threads" "$work/bench_quota" "$call")
+        quota=$(per_call "$threads" "$work/bench" quota "$call")
         locked=$(per_call "$threads" "$work/locked_quota" "$call")
         echo "threads $threads: quota $call $quota ns, bare fetch_add $bare ns, ratio $(ratio "$quota" "$bare"), mutex $locked ns"
     done

@@ -51,7 +51,7 @@ per_call() {
     per_unit 10000 "$(instructions "$@" 1000)" "$(instructions "$@" 11000)"
 }
 
-# calls_by NAME COMMAND..: the rows of bench_call's words by this command: what a call alone takes, and then, by what its retries
+# calls_by NAME COMMAND..: the rows of the words of `bench call` by this command: what a call alone takes, and then, by what its retries
 # draw on, what a success takes more, what a granted retry does, and what a call that is refused does
 calls_by() {
     local name=$1 on alone

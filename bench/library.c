@@ -1,4 +1,4 @@
-// Does through the library what bench_draw and bench_retry do inside:
+// Does through the library what `bench draw` and `bench retry` do inside:
 //   draw DRAWS            draws of one budget
 //   retry PLAN ROUNDS     a round is a retry whose run fails each time and is granted again, a thousand times: a call each
 //   step PLAN ROUNDS      a round is a course of the plan, of a thousand events
@@ -7,7 +7,7 @@
 //   success ON CALLS      calls that succeed at once
 //   granted ON CALLS      one call whose retries are granted, with no wait
 //   refused ON CALLS      calls that fail, and are refused a retry
-// PLAN is spaced or pair, as theirs; ON is nothing, budget or quota, as bench_call's. It prints a count and no time; a script measures it from outside.
+// PLAN is spaced or pair, as theirs; ON is nothing, budget or quota, as `bench call`'s. It prints a count and no time; a script measures it from outside.
 #include <hikebox.h>
 #include <stdio.h>
 #include <stdlib.h>

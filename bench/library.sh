@@ -1,6 +1,6 @@
 #!/usr/bin/env bash
 # What a draw of a budget, a granted retry, a step and a poll that waits take through the C library, beside the same inside
-# (bench_draw, bench_retry): instructions, which other work does not change, and nanoseconds. Then, in instructions, what
+# (bench): instructions, which other work does not change, and nanoseconds. Then, in instructions, what
 # calls take in C that succeed at once, are retried and are refused a retry, and what a retry of ten million failures holds.
 # Then what an attempt takes by the Python package beside tenacity, and by the Rust crate beside the crates retry and
 # backoff.
@@ -12,10 +12,8 @@ if [ -z "${HIKEBOX_LIB_DIR:-}" ]; then
     export HIKEBOX_LIB_DIR=$work/dist
     bin/dist "$HIKEBOX_LIB_DIR"
 fi
-for program in bench_draw bench_retry; do
-    bin/build "$program"
-    cp "crates/$program/out/$program" "$work/$program"
-done
+bin/build bench
+cp crates/bench/out/bench "$work/bench"
 cc -O2 -Wall -Wextra -Werror "-I$HIKEBOX_LIB_DIR" -o "$work/library" bench/library.c "$HIKEBOX_LIB_DIR/libhikebox.a"
 
 # counted UNITS FEW MANY COMMAND..: instructions of one of the UNITS that the command does for each of FEW and of MANY
@@ -51,11 +49,11 @@ row() {
 machine
 # (many short runs: the least of them is less disturbed by other work than that of a few long ones)
 RUNS=60
-row draw 1 2000 2000000 "$work/bench_draw" 1
+row draw 1 2000 2000000 "$work/bench" draw 1
 for plan in spaced pair; do
-    row "retry $plan" 1000 2 200 "$work/bench_retry" retry "$plan"
-    row "step $plan" 1000 2 200 "$work/bench_retry" step "$plan"
-    row "wait $plan" 1000 2 2000 "$work/bench_retry" wait "$plan"
+    row "retry $plan" 1000 2 200 "$work/bench" retry retry "$plan"
+    row "step $plan" 1000 2 200 "$work/bench" retry step "$plan"
+    row "wait $plan" 1000 2 2000 "$work/bench" retry wait "$plan"
 done
 calls_by "in C" "$work/library"
 for failures in 1000 10000000; do

@@ -3,11 +3,10 @@
 # bench/loop.sh. It needs rt and a machine with nothing else to do.
 cd "$(dirname "$0")/.." && source bench/least.sh
 
-programs bench_loop
-loop=$work/bench_loop
+programs bench
 
 machine
 for tasks in 10 100 1000 4096; do
-    turn=$(per_unit 4000000 "$(least "$loop" "$tasks" 100000)" "$(least "$loop" "$tasks" 4100000)")
+    turn=$(per_unit 4000000 "$(least "$work/bench" tasks "$tasks" 100000)" "$(least "$work/bench" tasks "$tasks" 4100000)")
     echo "tasks $tasks: a turn $turn ns"
 done

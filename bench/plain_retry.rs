@@ -1,5 +1,5 @@
 // Retries as a Rust programmer would write them by hand, to hold Hikebox's against: plain_retry WHAT ON CALLS, with the
-// words of bench_call. A budget is a counter, a quota a window under a mutex.
+// words of `bench call`. A budget is a counter, a quota a window under a mutex.
 use std::hint::black_box;
 use std::sync::atomic::{AtomicU64, Ordering};
 use std::sync::Mutex;

@@ -23,7 +23,7 @@ from typing import Any, Callable, List
 import tenacity
 
 import hikebox
-from hikebox import Budget, Quota, exponential, recurs, spaced
+from hikebox import Breaker, Bucket, Budget, InFlight, Quota, both, exponential, recurs, spaced
 
 ATTEMPTS = 11
 RUNS = 100
@@ -142,6 +142,18 @@ def imports(name: str) -> int:
     return min(int(subprocess.check_output([sys.executable, "-c", text])) for _ in range(20))
 
 
+def started(*words: str) -> int:
+    """The least nanoseconds of processor time that a new interpreter takes for this."""
+    best = 2**63
+    for _ in range(20):
+        before = resource.getrusage(resource.RUSAGE_CHILDREN)
+        subprocess.run([sys.executable, *words], stdout=subprocess.DEVNULL, check=True)
+        after = resource.getrusage(resource.RUSAGE_CHILDREN)
+        took = after.ru_utime + after.ru_stime - before.ru_utime - before.ru_stime
+        best = min(best, int(took * 1e9))
+    return best
+
+
 def crowd(retrying: Any, count: int = 10_000) -> str:
     """What so many coroutines take that fail three times and wait 50 ms after each: in a process of their own."""
 
@@ -179,15 +191,23 @@ def main() -> None:
     ours = hikebox.Retrying(policy).wraps(nothing)
     theirs = tenacity.Retrying(**their).wraps(nothing)
     tell("a call that succeeds", calls(ours), calls(theirs), 1)
-    ours = hikebox.Retrying(policy, budget=Quota(reserve=10, share=0.1, per=60)).wraps(nothing)
+    ours = hikebox.Retrying(policy, limit=Quota(reserve=10, share=0.1, per=60)).wraps(nothing)
     tell("a call that succeeds on a quota", calls(ours), calls(theirs), 1)
+
+    limits = [Bucket(2**20), Breaker(5, spaced(30)), InFlight.envoy(), both(Bucket(2**20), Breaker(5, spaced(30)))]
+    for limit in limits:
+        ours = hikebox.Retrying(policy, limit=limit).wraps(nothing)
+        tell(f"a call that succeeds on a limit, {type(limit).__name__}", calls(ours), calls(theirs), 1)
 
     ours = hikebox.Retrying(policy, sleep=nothing).wraps(Fails())
     theirs = tenacity.Retrying(sleep=nothing, **their).wraps(Fails())
     tell("ten failures", calls(ours), calls(theirs), ATTEMPTS)
 
+    ours = hikebox.Retrying(policy, sleep=nothing, limit=Bucket(2**20)).wraps(Fails())
+    tell("ten failures on a limit, Bucket", calls(ours), calls(theirs), ATTEMPTS)
+
     with Budget(2**32) as budget:
-        ours = hikebox.Retrying(policy, sleep=nothing, budget=budget).wraps(Fails())
+        ours = hikebox.Retrying(policy, sleep=nothing, limit=budget).wraps(Fails())
         tell("ten failures under a budget", calls(ours), calls(theirs), ATTEMPTS)
 
     ours = hikebox.Retrying(policy.jittered(), sleep=nothing).wraps(Fails())
@@ -212,6 +232,8 @@ def main() -> None:
     made(policy)
     own, other = imports("hikebox"), imports("tenacity")
     print(f"the import: {own / 1e6:.1f} ms, of tenacity {other / 1e6:.1f} ms")
+    own, other = started("-m", "hikebox", "plan", "recurs(3)"), started("-c", "pass")
+    print(f"`hikebox plan`: {own / 1e6:.0f} ms, of which Python's own start takes {other / 1e6:.0f} ms")
 
 
 if __name__ == "__main__":

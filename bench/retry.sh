@@ -5,13 +5,13 @@
 # Started by hand at the top of the repository: bench/retry.sh. It needs rt, rustc, valgrind, /usr/bin/time and what
 # bench/crates.sh does; for the times a machine with nothing else to do.
 cd "$(dirname "$0")/.." && source bench/least.sh
-programs bench_retry
+programs bench
 
 # nanoseconds that one of a thousand in a round takes
 per_one() {
     local what=$1 plan=$2 few=$3 many=$4
-    per_unit "$((1000 * (many - few)))" "$(least "$work/bench_retry" "$what" "$plan" "$few")" \
-        "$(least "$work/bench_retry" "$what" "$plan" "$many")"
+    per_unit "$((1000 * (many - few)))" "$(least "$work/bench" retry "$what" "$plan" "$few")" \
+        "$(least "$work/bench" retry "$what" "$plan" "$many")"
 }
 
 machine
@@ -23,9 +23,7 @@ for plan in spaced pair; do
         'BEGIN { printf "%s: a retry %s ns, a step %s ns, ratio %.2f; a poll that waits %s ns\n", p, r, s, r / s, w }'
 done
 
-bin/build bench_call > /dev/null
-cp crates/bench_call/out/bench_call "$work/call"
 rustc -O -C target-cpu=x86-64 -o "$work/plain" bench/plain_retry.rs
-calls_by retry_call "$work/call"
+calls_by retry_call "$work/bench" call
 calls_by "by hand" "$work/plain"
 bench/crates.sh | grep -E '^(hikebox|backoff):'

@@ -3,15 +3,20 @@
 # on the same machine. Started by hand at the top of the repository: bench/steps.sh. It needs rt, rustc and a machine with
 # nothing else to do. Where valgrind is there it also counts the instructions of a step, which other work does not change.
 cd "$(dirname "$0")/.." && source bench/least.sh
-programs bench_steps
+programs bench
 zsched
 rustc -O -C target-cpu=x86-64 -o "$work/plain" bench/plain_steps.rs
+# (named by what measures them)
+# shellcheck disable=SC2034
+inside=("$work/bench" steps) by_hand=("$work/plain")
 
 # nanoseconds that one step takes, with what else the program is told
 per_step() {
-    local program=$1 plan=$2 few=$3 many=$4
+    local -n program=$1
+    local plan=$2 few=$3 many=$4
     shift 4
-    per_unit "$((many - few))" "$(least "$program" "$plan" "$few" "$@")" "$(least "$program" "$plan" "$many" "$@")"
+    per_unit "$((many - few))" "$(least "${program[@]}" "$plan" "$few" "$@")" \
+        "$(least "${program[@]}" "$plan" "$many" "$@")"
 }
 
 # allocations of a whole run
@@ -21,17 +26,21 @@ allocations() {
 
 # allocations that one step takes
 per_step_allocated() {
+    local -n program=$1
     local few many
-    few=$(allocations "$1" "$2" 160)
-    many=$(allocations "$1" "$2" 960)
+    few=$(allocations "${program[@]}" "$2" 160)
+    many=$(allocations "${program[@]}" "$2" 960)
     awk -v a="$few" -v b="$many" 'BEGIN { printf "%.2f", (b - a) / 800 }'
 }
 
 # instructions that one step takes; the lengths are whole rounds of sixteen events
 per_step_counted() {
-    local program=$1 plan=$2
+    local -n program=$1
+    local plan=$2 few many
     shift 2
-    echo "$((($(instructions "$program" "$plan" 960 "$@") - $(instructions "$program" "$plan" 160 "$@")) / 800))"
+    few=$(instructions "${program[@]}" "$plan" 160 "$@")
+    many=$(instructions "${program[@]}" "$plan" 960 "$@")
+    echo $(((many - few) / 800))
 }
 
 # kilobytes that a whole run holds at most
@@ -47,25 +56,25 @@ machine
 for row in "pair 100000 5000000" "fixed 100000 10000000" "tree 1000 50000" "crossed 100000 10000000" \
     "exponential 100000 10000000" "retry 100000 3000000" "rounds 10000 1000000"; do
     read -r plan few many <<< "$row"
-    step=$(per_step "$work/bench_steps" "$plan" "$few" "$many")
-    plain=$(per_step "$work/plain" "$plan" "$few" "$many")
+    step=$(per_step inside "$plan" "$few" "$many")
+    plain=$(per_step by_hand "$plan" "$few" "$many")
     awk -v p="$plan" -v s="$step" -v b="$plain" \
         'BEGIN { printf "%s: a step %s ns, by hand %s ns, ratio %.2f\n", p, s, b, s / b }'
     if command -v valgrind > /dev/null; then
-        echo "$plan: instructions of a step $(per_step_counted "$work/bench_steps" "$plan"), by hand $(per_step_counted "$work/plain" "$plan")"
-        echo "$plan: allocations of a step $(per_step_allocated "$work/bench_steps" "$plan"), by hand $(per_step_allocated "$work/plain" "$plan")"
+        echo "$plan: instructions of a step $(per_step_counted inside "$plan"), by hand $(per_step_counted by_hand "$plan")"
+        echo "$plan: allocations of a step $(per_step_allocated inside "$plan"), by hand $(per_step_allocated by_hand "$plan")"
     fi
-    next=$(per_step "$work/bench_steps" "$plan" "$few" "$many" driver)
-    plain=$(per_step "$work/plain" "$plan" "$few" "$many" driver)
+    next=$(per_step inside "$plan" "$few" "$many" driver)
+    plain=$(per_step by_hand "$plan" "$few" "$many" driver)
     awk -v p="$plan" -v s="$next" -v b="$plain" \
         'BEGIN { printf "%s: by a driver with its journal %s ns, by hand with a journal %s ns, ratio %.2f\n", p, s, b, s / b }'
-    echo "$plan: by a driver without a journal $(per_step "$work/bench_steps" "$plan" "$few" "$many" stepper) ns"
+    echo "$plan: by a driver without a journal $(per_step inside "$plan" "$few" "$many" stepper) ns"
     if command -v valgrind > /dev/null; then
-        echo "$plan: instructions of an event with a journal $(per_step_counted "$work/bench_steps" "$plan" driver), without $(per_step_counted "$work/bench_steps" "$plan" stepper)"
+        echo "$plan: instructions of an event with a journal $(per_step_counted inside "$plan" driver), without $(per_step_counted inside "$plan" stepper)"
     fi
 done
 for plan in fixed retry; do
-    echo "$plan: without a journal $(resident "$work/bench_steps" "$plan" 1000 stepper) KB at 1,000 events, $(resident "$work/bench_steps" "$plan" 10000000 stepper) KB at 10,000,000"
+    echo "$plan: without a journal $(resident "${inside[@]}" "$plan" 1000 stepper) KB at 1,000 events, $(resident "${inside[@]}" "$plan" 10000000 stepper) KB at 10,000,000"
 done
 
 echo '{"meet":[{"recurs":4611686018427387903},{"spaced":1}]}' > "$work/pair.json"

@@ -2,12 +2,11 @@
 use Rattle.std.specs.Prelude.{◌≡◌, ◌⊎◌, ℕ, ◌==◌, nat_lt, true, if◌then◌else◌, Option, Some, None, Result, Ok, Err}
 use Rattle.sched_limit.specs.declared.breaker.Breaker.{Breaker}
 use Rattle.sched_limit.specs.declared.breaker_machine.TheConstants.{LAST_MOMENT}
-use Rattle.sched_limit_request.specs.Requests.{Rules}
-use Rattle.sched_limit_request.specs.declared.request.Request.{Request}
-use Rattle.sched_limit_kept.specs.Kept.{answer_of, request_after, word_after}
-use Rattle.sched_limit_kept.specs.Laws.{breaker_rules}
-use Rattle.sched_limit_kept.specs.declared.told.Told.{Told}
-use Rattle.sched_limit_kept.specs.declared.told.Told.TheVariants.{Admit, Draw, Failed, Succeeded, Cancelled, Ended}
+use Rattle.sched_limit.specs.Step.{Rules, step}
+use Rattle.sched_limit.specs.Kinds.{breaker_rules}
+use Rattle.sched_limit.specs.declared.request.Request.{Request}
+use Rattle.sched_limit.specs.declared.request.Told.{Told}
+use Rattle.sched_limit.specs.declared.request.Told.TheVariants.{Admit, Draw, Failed, Succeeded, Cancelled, Ended}
 use Rattle.sched_limit_handle.specs.Status.{code_of}
 use Rattle.sched_limit_handle.specs.declared.status.Status.{Status}
 use Rattle.sched_limit_handle.specs.declared.status.Status.TheVariants.{OutOfRange, TooLarge}
@@ -57,9 +56,9 @@ IsUnmoved why code found left = (code ≡ code_of why) × (left ≡ found)
 -- a step of this machine
 pub record Steps (m : Rules) (first : ℕ) (told : Told) (code : ℕ) (found left : Found) : Type 0 where
   pub known : left.0.known ≡ true
-  pub word : left.0.word ≡ word_after m told (request_of found.1) (word_in first found.0)
-  pub request : request_of left.1 ≡ request_after m told (request_of found.1) (word_in first found.0)
-  pub told_as : TellsRefusal code found.2 left.2 (answer_of m told (request_of found.1) (word_in first found.0))
+  pub word : left.0.word ≡ (step m told 0 (request_of found.1) (word_in first found.0)).word
+  pub request : request_of left.1 ≡ (step m told 0 (request_of found.1) (word_in first found.0)).request
+  pub told_as : TellsRefusal code found.2 left.2 (step m told 0 (request_of found.1) (word_in first found.0)).answer
 
 -- the same of what a request tells, or the refusal of what was given
 abbrev pub Does : Rules → ℕ → Result Told Status → ℕ → Found → Found → Type 0

@@ -2,8 +2,8 @@
 ghost use Rattle.std.specs.Prelude.{◌≡◌, ◌≢◌, ◌<◌, ◌≤◌, length, IfSome, IfNone};
 ghost use Rattle.sched_time.specs.declared.numbers.TheConstants.{FAR};
 ghost use Rattle.sched_limit.specs.Bucket.{AreTerms};
-ghost use Rattle.sched_limit_request.specs.Requests.{rules};
-ghost use Rattle.sched_limit_kept.specs.Laws.{bucket_rules};
+ghost use Rattle.sched_limit.specs.Step.{rules};
+ghost use Rattle.sched_limit.specs.Kinds.{bucket_rules};
 ghost use Rattle.sched_limit_handle.specs.declared.status.Status.TheVariants as status;
 ghost use Rattle.hikebox_c.specs.LimitTerms.{bucket_of, IsBreakerOf};
 ghost use Rattle.hikebox_c.specs.Kept.{Steps, Does, BreakerDoes, IsUnmoved};
@@ -12,10 +12,8 @@ ghost use Rattle.hikebox_c.specs.Kept.{told_of, told_by, request_of, drawn_of, w
 use crate::limits::{
     BREAKER_SIZE, BUCKET_SIZE, BreakerGiven, BucketGiven, breaker_of, bucket_of, tell_refusal,
 };
-use sched_limit::{Breaker, LAST_MOMENT, Refuses};
+use sched_limit::{Breaker, LAST_MOMENT, Refuses, Request, Told, tell};
 use sched_limit_handle::Status;
-use sched_limit_kept::{Told, tell};
-use sched_limit_request::Request;
 use sched_time::{FAR, Moment};
 
 /// What a store keeps of a limit: its word, if it knows the limit.
@@ -214,7 +212,7 @@ fn does<M: Refuses>(
         (kept.old, held.old, number.old) (kept.new, held.new, number.new) }
 {
     match told {
-        Ok(told) => step(machine, told, kept, held, number),
+        Ok(told) => step(machine, &told, kept, held, number),
         Err(why) => why.code(),
     }
 }
@@ -222,18 +220,18 @@ fn does<M: Refuses>(
 // Makes a request's call on the word that is kept, or on the first one, and tells what comes of it.
 fn step<M: Refuses>(
     machine: &M,
-    told: Told,
+    told: &Told,
     kept: &mut KeptGiven,
     held: &mut HeldGiven,
     number: &mut u64,
 ) -> u32
     ensures { let m = rules M.next M.refusal M.generation M.worth machine.now in
-        Steps m (M.first machine.now) told result
+        Steps m (M.first machine.now) told.now result
         (kept.old, held.old, number.old) (kept.new, held.new, number.new) }
 {
     let mut word = kept.word(machine);
     let mut request = held.request();
-    let answer = tell(machine, told, &mut request, &mut word);
+    let answer = tell(machine, told, 0, &mut request, &mut word);
     *kept = KeptGiven { known: true, word };
     *held = HeldGiven::of(request);
     tell_refusal(answer, number)

@@ -1,17 +1,21 @@
 //! Limits: what a request asks before each run, and tells after it.
-ghost use Rattle.std.specs.Prelude.{◌≡◌, ◌≢◌, ◌<◌, ◌≤◌, length, IfSome};
+ghost use Rattle.std.specs.Prelude.{◌≡◌, ◌≢◌, ◌<◌, ◌≤◌, None, length, IfSome};
 ghost use Rattle.sched_time.specs.declared.numbers.TheConstants.{FAR};
-ghost use Rattle.sched_limit_handle.specs.Fills.{Frees};
-ghost use Rattle.sched_limit_handle.specs.Held.{MakesBucket, MakesFlight, HeldAdmits, HeldDraws, HeldFails};
-ghost use Rattle.sched_limit_handle.specs.Held.{HeldSucceeds, HeldCancels, HeldEnds};
-ghost use Rattle.sched_limit_handle.specs.Status.{code_of};
-ghost use Rattle.sched_limit_handle.specs.declared.status.Status.TheVariants as status;
-ghost use Rattle.hikebox_c.specs.Limits.{MakesLimit, AsksHeld, TellsHeld, PartsHeld, JoinsHeld, TellsRefusal};
+ghost use Rattle.sched_limit.specs.declared.request.Told.TheVariants as told_as;
+ghost use Rattle.sched_limit_handle.specs.Held.{MakesBucket, MakesFlight, HeldTells};
+ghost use Rattle.sched_handle.specs.Fills.{Frees};
+ghost use Rattle.sched_handle.specs.Limits.{OnLimits};
+ghost use Rattle.sched_handle.specs.Status.{code_of};
+ghost use Rattle.sched_handle.specs.declared.held.Kind.TheVariants as kind;
+ghost use Rattle.sched_handle.specs.declared.status.Status.TheVariants as status;
+ghost use Rattle.hikebox_c.specs.Calls.{OnHeld};
+ghost use Rattle.hikebox_c.specs.Limits.{MakesLimit, PutsLimits, PartsHeld, JoinsHeld, TellsRefusal, TellsAsked};
+ghost use Rattle.hikebox_c.specs.Limits.{TellsHeld};
 ghost use Rattle.hikebox_c.specs.LimitTerms.{bucket_of, flight_of, IsBreakerOf, BreakerMade, ThrottleMade};
 
+use sched_handle::{Handle, Held, Kind, Status};
 use sched_limit::{Breaker, Bucket, InFlight, MAX_TRIPS, Refusal, Throttle};
-use sched_limit_handle::{Handle, Held, Status, number_of, refused};
-use sched_limit_request::Asks;
+use sched_limit_handle::{Held as Limits, Status as Reason, number_of, refused};
 use sched_time::{Millis, Moment};
 use std::alloc::Global;
 
@@ -59,8 +63,8 @@ pub extern "C" fn hikebox_bucket_new(alloc: Global, terms: &BucketGiven, limit: 
     if limit.is_full(alloc) {
         return Status::Full.code();
     }
-    let made = Held::bucket(alloc, bucket_of(terms));
-    limit.fill(made)
+    let made = Limits::bucket(alloc, bucket_of(terms));
+    fill(alloc, limit, made)
 }
 
 // A bucket of these terms.
@@ -88,8 +92,8 @@ pub extern "C" fn hikebox_in_flight_new(
     if limit.is_full(alloc) {
         return Status::Full.code();
     }
-    let made = Held::in_flight(alloc, InFlight { least, share });
-    limit.fill(made)
+    let made = Limits::in_flight(alloc, InFlight { least, share });
+    fill(alloc, limit, made)
 }
 
 #[unsafe(no_mangle)]
@@ -117,7 +121,7 @@ pub extern "C" fn hikebox_breaker_new(
         return Status::Full.code();
     }
     let made = breaker(alloc, now, terms, times);
-    limit.fill(made)
+    fill(alloc, limit, made)
 }
 
 // A breaker of these terms and open times, if there is one.
@@ -126,12 +130,12 @@ fn breaker(
     now: Moment,
     terms: &BreakerGiven,
     times: &[u64],
-) -> Result<Box<Held>, Status>
+) -> Result<Box<Limits>, Reason>
     ensures { BreakerMade now terms.now (length times.now) result }
 {
     match breaker_of(now, terms, times) {
-        Some(breaker) => Held::breaker(alloc, breaker),
-        None => Err(Status::OutOfRange),
+        Some(breaker) => Limits::breaker(alloc, breaker),
+        None => Err(Reason::OutOfRange),
     }
 }
 
@@ -190,19 +194,19 @@ pub extern "C" fn hikebox_throttle_new(
         return Status::Full.code();
     }
     let made = throttle(alloc, now, ratio, period);
-    limit.fill(made)
+    fill(alloc, limit, made)
 }
 
 // A throttle of these terms, if there is one.
-fn throttle(alloc: Global, now: Moment, ratio: u32, period: u64) -> Result<Box<Held>, Status>
+fn throttle(alloc: Global, now: Moment, ratio: u32, period: u64) -> Result<Box<Limits>, Reason>
     ensures { ThrottleMade now ratio period result }
 {
     let Some(period) = Millis::new(period) else {
-        return Err(Status::OutOfRange);
+        return Err(Reason::OutOfRange);
     };
     match Throttle::new(now, ratio, period) {
-        Some(throttle) => Held::throttle(alloc, throttle),
-        None => Err(Status::OutOfRange),
+        Some(throttle) => Limits::throttle(alloc, throttle),
+        None => Err(Reason::OutOfRange),
     }
 }
 
@@ -217,12 +221,22 @@ pub extern "C" fn hikebox_limit_both(alloc: Global, limit: &mut Handle, second: 
         limit.put(first);
         return Status::Empty.code();
     };
-    if first.count() + other.count() > MOST {
+    let Ok(these) = first.limits_count() else {
+        limit.put(first);
+        second.put(other);
+        return Status::WrongKind.code();
+    };
+    let Ok(others) = other.limits_count() else {
+        limit.put(first);
+        second.put(other);
+        return Status::WrongKind.code();
+    };
+    if these + others > MOST {
         limit.put(first);
         second.put(other);
         return Status::OutOfRange.code();
     }
-    first.join(Box::into_inner(other));
+    first.limits_join(other);
     limit.put(first);
     0
 }
@@ -235,11 +249,14 @@ pub extern "C" fn hikebox_limit_split(alloc: Global, limit: &mut Handle, part: &
         return Status::Full.code();
     }
     let Some(mut held) = limit.take(alloc) else {
-        return part.fill(Err(Status::Empty));
+        return Status::Empty.code();
     };
-    let made = held.parted(alloc);
+    let made = held.limits_split(alloc);
     limit.put(held);
-    part.fill(made)
+    match made {
+        Ok(made) => fill(alloc, part, made),
+        Err(status) => status.code(),
+    }
 }
 
 #[unsafe(no_mangle)]
@@ -251,7 +268,8 @@ pub extern "C" fn hikebox_limit_admit(
     number: &mut u64,
 ) -> u32
     ensures admit { now ≤ FAR →
-        AsksHeld (λ u r v. HeldAdmits u now random r v) limit.old.held limit.new.held result number.old number.new }
+        OnHeld (OnLimits (λ u r v. HeldTells u (told_as.Admit now) random r v)) limit.old.held limit.new.held
+        (TellsAsked result number.old number.new) }
     ensures too_large { FAR < now → (limit.new.held ≡ limit.old.held) × (number.new ≡ number.old)
         × (result ≡ code_of status.TooLarge) }
 {
@@ -261,9 +279,9 @@ pub extern "C" fn hikebox_limit_admit(
     let Some(mut held) = limit.take(alloc) else {
         return Status::Empty.code();
     };
-    let answer = held.admit(now, random);
+    let answer = held.limits_admit(now, random);
     limit.put(held);
-    tell_refusal(answer, number)
+    tell_asked(answer, number)
 }
 
 #[unsafe(no_mangle)]
@@ -276,7 +294,8 @@ pub extern "C" fn hikebox_limit_draw(
     number: &mut u64,
 ) -> u32
     ensures draw { now ≤ FAR →
-        AsksHeld (λ u r v. HeldDraws u now cost random r v) limit.old.held limit.new.held result number.old number.new }
+        OnHeld (OnLimits (λ u r v. HeldTells u (told_as.Draw now cost) random r v)) limit.old.held limit.new.held
+        (TellsAsked result number.old number.new) }
     ensures too_large { FAR < now → (limit.new.held ≡ limit.old.held) × (number.new ≡ number.old)
         × (result ≡ code_of status.TooLarge) }
 {
@@ -286,14 +305,15 @@ pub extern "C" fn hikebox_limit_draw(
     let Some(mut held) = limit.take(alloc) else {
         return Status::Empty.code();
     };
-    let answer = held.draw(now, cost, random);
+    let answer = held.limits_draw(now, cost, random);
     limit.put(held);
-    tell_refusal(answer, number)
+    tell_asked(answer, number)
 }
 
 #[unsafe(no_mangle)]
 pub extern "C" fn hikebox_limit_failed(alloc: Global, limit: &mut Handle, now: u64) -> u32
-    ensures failed { now ≤ FAR → TellsHeld (λ u v. HeldFails u now v) limit.old.held limit.new.held result }
+    ensures failed { now ≤ FAR →
+        TellsHeld (told_as.Failed now) limit.old.held limit.new.held result }
     ensures too_large { FAR < now → (limit.new.held ≡ limit.old.held) × (result ≡ code_of status.TooLarge) }
 {
     let Some(now) = Moment::new(now) else {
@@ -302,14 +322,18 @@ pub extern "C" fn hikebox_limit_failed(alloc: Global, limit: &mut Handle, now: u
     let Some(mut held) = limit.take(alloc) else {
         return Status::Empty.code();
     };
-    held.failed(now);
+    let answer = held.limits_failed(now);
     limit.put(held);
-    0
+    match answer {
+        Ok(()) => 0,
+        Err(status) => status.code(),
+    }
 }
 
 #[unsafe(no_mangle)]
 pub extern "C" fn hikebox_limit_succeeded(alloc: Global, limit: &mut Handle, now: u64) -> u32
-    ensures succeeded { now ≤ FAR → TellsHeld (λ u v. HeldSucceeds u now v) limit.old.held limit.new.held result }
+    ensures succeeded { now ≤ FAR →
+        TellsHeld (told_as.Succeeded now) limit.old.held limit.new.held result }
     ensures too_large { FAR < now → (limit.new.held ≡ limit.old.held) × (result ≡ code_of status.TooLarge) }
 {
     let Some(now) = Moment::new(now) else {
@@ -318,40 +342,73 @@ pub extern "C" fn hikebox_limit_succeeded(alloc: Global, limit: &mut Handle, now
     let Some(mut held) = limit.take(alloc) else {
         return Status::Empty.code();
     };
-    held.succeeded(now);
+    let answer = held.limits_succeeded(now);
     limit.put(held);
-    0
+    match answer {
+        Ok(()) => 0,
+        Err(status) => status.code(),
+    }
 }
 
 #[unsafe(no_mangle)]
 pub extern "C" fn hikebox_limit_cancelled(alloc: Global, limit: &mut Handle) -> u32
-    ensures { TellsHeld HeldCancels limit.old.held limit.new.held result }
+    ensures { TellsHeld told_as.Cancelled limit.old.held limit.new.held result }
 {
     let Some(mut held) = limit.take(alloc) else {
         return Status::Empty.code();
     };
-    held.cancelled();
+    let answer = held.limits_cancelled();
     limit.put(held);
-    0
+    match answer {
+        Ok(()) => 0,
+        Err(status) => status.code(),
+    }
 }
 
 #[unsafe(no_mangle)]
 pub extern "C" fn hikebox_limit_ended(alloc: Global, limit: &mut Handle) -> u32
-    ensures { TellsHeld HeldEnds limit.old.held limit.new.held result }
+    ensures { TellsHeld told_as.Ended limit.old.held limit.new.held result }
 {
     let Some(mut held) = limit.take(alloc) else {
         return Status::Empty.code();
     };
-    held.ended();
+    let answer = held.limits_ended();
     limit.put(held);
-    0
+    match answer {
+        Ok(()) => 0,
+        Err(status) => status.code(),
+    }
 }
 
 #[unsafe(no_mangle)]
 pub extern "C" fn hikebox_limit_free(alloc: Global, limit: &mut Handle) -> u32
-    ensures { Frees limit.old.held result limit.new.held }
+    ensures { Frees kind.Limits limit.old.held result limit.new.held }
 {
-    limit.free(alloc)
+    limit.free(alloc, Kind::Limits)
+}
+
+// Puts limits that were made into a handle that holds nothing.
+fn fill(alloc: Global, limit: &mut Handle, made: Result<Box<Limits>, Reason>) -> u32
+    requires { limit.old.held ≡ None }
+    ensures { PutsLimits made limit.old.held result limit.new.held }
+{
+    match made {
+        Ok(limits) => {
+            let made = Held::of_limits(alloc, limits);
+            limit.fill(made)
+        }
+        Err(reason) => reason.code(),
+    }
+}
+
+// The number of a status, where a call is refused, and what the refusal says.
+fn tell_asked(answer: Result<Result<(), Refusal>, Status>, number: &mut u64) -> u32
+    ensures { TellsAsked result number.old number.new answer }
+{
+    match answer {
+        Ok(answer) => tell_refusal(answer, number),
+        Err(status) => status.code(),
+    }
 }
 
 // The number of a status, where a call is refused, and what the refusal says.

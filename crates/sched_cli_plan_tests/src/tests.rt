@@ -2,7 +2,6 @@
 mod courses;
 mod fakes;
 mod fault_lines;
-mod printed_nodes;
 mod printed_plans;
 mod printings;
 mod texts;

@@ -89,8 +89,7 @@ module _ (Runs : List Job → List Past → List ℕ → Type 0) (may : Type 0) 
       IsJobsInput left left' (λ jobs. (ends : List Past) × (text : List ℕ) × Runs jobs ends text × P ends text)
 
   -- The printing of jobs: at Ok and at `Unfinished` the whole text was written of the jobs that were read, and run; at
-  -- a
-  -- fault of reading nothing was written, and the input is at fault as the answer says; nothing was written where a
+  -- a fault of reading nothing was written, and the input is at fault as the answer says; nothing was written where a
   -- worker was not started or the jobs were mixed up; at a failed write a front of the text was written; and so too
   -- where memory was refused, unless nothing was written.
   abbrev pub PrintsJobs : Option (List ℕ) → Option (List ℕ) → Option (List ℕ) → Option (List ℕ) →

@@ -1,5 +1,6 @@
 //! A line for each window: the share of its requests that were won, what happened in it, and a bar of its calls.
 use crate::lines::{digits, push_right};
+use crate::totals::share_of;
 use sched_cli_plan::push_count;
 use sched_storm::{Report, Window};
 use sched_time::NoMemory;
@@ -78,15 +79,10 @@ fn length_of(widths: &[usize]) -> usize {
     length
 }
 
-// Adds how many in 100 of the requests that began in a window were won, rounded down.
+// Adds how many in 100 of the requests that began in a window were won.
 fn push_share(alloc: Global, text: &mut String, window: &Window) -> Result<(), NoMemory> {
     let mut word = String::new(alloc);
-    match window
-        .counts
-        .won
-        .saturating_mul(100)
-        .checked_div(window.counts.requests)
-    {
+    match share_of(100, &window.counts) {
         Some(share) => write!(word, "{share}")?,
         None => word.push('-')?,
     }

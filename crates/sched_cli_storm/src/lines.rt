@@ -75,3 +75,16 @@ fn push_numbers(
     }
     Ok(())
 }
+
+/// Adds a number where there is one, and else this word.
+pub(crate) fn push_known(
+    text: &mut String,
+    number: Option<u64>,
+    other: &str,
+) -> Result<(), NoMemory> {
+    match number {
+        Some(number) => write!(text, "{number}")?,
+        None => text.push_str(other)?,
+    }
+    Ok(())
+}

@@ -1,6 +1,6 @@
 //! The totals of several storms, side by side.
-use crate::lines::push_right;
-use crate::totals::push_hundredths;
+use crate::lines::{push_known, push_right};
+use crate::totals::{push_hundredths, push_recovered};
 use sched_storm::Totals;
 use sched_time::NoMemory;
 use std::alloc::Global;
@@ -112,20 +112,7 @@ fn cell(alloc: Global, totals: &Totals, place: usize) -> Result<String, NoMemory
         9 => push_known(&mut cell, totals.p50, "-")?,
         10 => push_known(&mut cell, totals.p99, "-")?,
         11 => push_known(&mut cell, totals.slowest, "-")?,
-        _ => push_known(&mut cell, totals.recovered, "never")?,
+        _ => push_recovered(&mut cell, totals)?,
     }
     Ok(cell)
-}
-
-/// Adds a number where there is one, and else this word.
-pub(crate) fn push_known(
-    text: &mut String,
-    number: Option<u64>,
-    other: &str,
-) -> Result<(), NoMemory> {
-    match number {
-        Some(number) => write!(text, "{number}")?,
-        None => text.push_str(other)?,
-    }
-    Ok(())
 }

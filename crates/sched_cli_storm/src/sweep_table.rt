@@ -1,8 +1,7 @@
 //! Storms along a parameter, a line for each: the share of its requests that were won, its other totals, and a bar.
-use crate::lines::push_right;
-use crate::side_by_side::push_known;
+use crate::lines::{push_known, push_right};
 use crate::sweep_rows::push_value;
-use crate::totals::push_hundredths;
+use crate::totals::{push_hundredths, push_recovered, share_of};
 use sched_cli_storm_words::Sweep;
 use sched_storm::Totals;
 use sched_time::NoMemory;
@@ -34,7 +33,7 @@ pub(crate) fn push_sweep(
     }
     text.push('\n')?;
     for (swept, totals) in sweep.storms.iter().zip(all) {
-        let tenths = won_tenths(totals);
+        let tenths = share_of(1000, &totals.counts).unwrap_or(0);
         let mut value = String::new(alloc);
         push_value(&mut value, sweep.axis, swept.value)?;
         push_share(alloc, text, tenths)?;
@@ -67,16 +66,6 @@ fn width_before(column: usize) -> usize {
     width
 }
 
-// How many in 1,000 of the requests were won, rounded down: 1,000 where all were, and 0 where none was.
-fn won_tenths(totals: &Totals) -> u64 {
-    let won = totals.counts.won;
-    match won.saturating_mul(1000).checked_div(totals.counts.requests) {
-        Some(0) if won > 0 => 1,
-        Some(tenths) => tenths,
-        None => 0,
-    }
-}
-
 // Adds a share in per cent.
 fn push_share(alloc: Global, text: &mut String, tenths: u64) -> Result<(), NoMemory> {
     let mut word = String::new(alloc);
@@ -93,7 +82,7 @@ fn push_numbers(alloc: Global, text: &mut String, totals: &Totals) -> Result<(),
     push_known(&mut word, totals.slowest, "-")?;
     push_right(text, word.as_str(), NAMES[1].len())?;
     word.clear();
-    push_known(&mut word, totals.recovered, "never")?;
+    push_recovered(&mut word, totals)?;
     push_right(text, word.as_str(), NAMES[2].len())
 }
 

@@ -1,6 +1,7 @@
 //! The totals of a storm, in words.
+use crate::lines::push_known;
 use sched_cli_plan::push_count;
-use sched_storm::{Draws, Storm, Totals};
+use sched_storm::{Counts, Draws, Storm, Totals};
 use sched_time::NoMemory;
 use std::fmt::Write;
 
@@ -26,6 +27,7 @@ pub(crate) fn push_words(
     push_times(text, totals)?;
     match totals.recovered {
         Some(from) => write!(text, "recovered from {from} ms on\n")?,
+        None if is_unharmed(totals) => {}
         None => text.push_str("never recovered\n")?,
     }
     if totals.is_cut {
@@ -34,6 +36,29 @@ pub(crate) fn push_words(
         text.push('\n')?;
     }
     Ok(())
+}
+
+// Whether no request was harmed, so that there was nothing to recover from.
+fn is_unharmed(totals: &Totals) -> bool {
+    totals.counts.won == totals.counts.requests
+}
+
+/// Adds the moment from which on a storm has recovered.
+pub(crate) fn push_recovered(text: &mut String, totals: &Totals) -> Result<(), NoMemory> {
+    let other = if is_unharmed(totals) { "-" } else { "never" };
+    push_known(text, totals.recovered, other)
+}
+
+/// The share of the requests that were won, in so many parts of the whole, to the nearest: all parts only where all
+/// were won, and none only where none was; `None` where there are no requests.
+pub(crate) fn share_of(parts: u64, counts: &Counts) -> Option<u64> {
+    let (won, all) = (counts.won, counts.requests);
+    let halves = won.saturating_mul(parts).saturating_mul(2);
+    let nearest = halves.saturating_add(all).checked_div(all.saturating_mul(2))?;
+    if won == 0 || won == all {
+        return Some(nearest);
+    }
+    Some(nearest.max(1).min(parts.saturating_sub(1)))
 }
 
 // How the requests ended. A limit denies first calls too.

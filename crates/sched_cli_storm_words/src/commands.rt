@@ -14,9 +14,10 @@ const MAX_WIDTH: u64 = 1000;
 const STORM_EXAMPLES: &str = "Examples:
   zsched storm plans/back-off.json
   zsched storm --quota 10/10%/1s plans/back-off.json
-  zsched storm --scenario herd --compare plans/three-times.json plans/back-off.json
-  zsched storm --quota 10/10%/1s --beside 30@2000=plans/three-times.json plans/back-off.json
-  zsched storm --limit aws --limit grpc:100/100 --compare plans/three-times.json plans/back-off.json
+  zsched storm --scenario herd plans/back-off.json
+  zsched storm --beside 30@2000=plans/three-times.json plans/back-off.json
+  zsched storm --limit aws --limit grpc:100/100 --compare plans/three-times.json \\
+    plans/back-off.json
   zsched storm --sweep rate=200..1600/8 plans/back-off.json";
 
 const STORIES: [Row; 4] = [
@@ -179,7 +180,7 @@ const REPORT: [Row; 7] = [
         takes: Takes::Number("M", 0, MAX_UNTIL),
         excludes: &[],
         help: "The moment at which the simulation stops, in milliseconds from 0 to 7200000 \
-               [default: a minute after the last request]",
+               [default: 60 s after the end of --seconds]",
     },
     Row {
         name: "calls",

@@ -3,6 +3,9 @@ use clap::builder::ValueParser;
 use clap::{Arg, ArgAction, Command, value_parser};
 use std::alloc::{AllocError, Global};
 
+// A help that is longer begins on a line of its own, and so do those beside it.
+const LONG: usize = 240;
+
 /// An option of a command.
 #[derive(Clone, Copy)]
 pub struct Row {
@@ -122,5 +125,6 @@ fn option<'a>(alloc: Global, row: &Row) -> Result<Arg<'a>, AllocError> {
         .value_parser(row.takes.parser())
         .default_values(row.takes.default())
         .help(row.help)
+        .next_line_help(row.help.len() > LONG)
         .conflicts_with_all(row.excludes)
 }

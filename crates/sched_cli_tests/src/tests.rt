@@ -7,8 +7,6 @@ mod command_lines;
 mod courses;
 mod fakes;
 mod fault_lines;
-mod origins;
-mod pool_lines;
 mod printed_pools;
 mod quotas;
 mod stops;

@@ -2,6 +2,7 @@
 //! stands on `sched_cli_storm_words` and the kit's `clap`.
 #![tactic(auto)]
 
+mod columns;
 mod commands;
 mod faults;
 mod options;

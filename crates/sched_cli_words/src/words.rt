@@ -1,6 +1,7 @@
 ghost use Rattle.std.specs.Prelude.{IfOk, IfSome};
 ghost use Rattle.sched_cli_words.specs.Options.{AreInRange, AreInputs, AreWordsFor, PoolIsInRange, IsAskedInRange};
 
+use crate::columns::within_columns;
 use crate::commands::zsched_command;
 use crate::faults::WordsFault;
 use crate::options::{Asked, MAX_TICKETS, MAX_TURNS, MAX_WORKERS, Origin, PoolOptions};
@@ -186,7 +187,7 @@ fn pool_options(options: &ArgMatches<'_>) -> Option<PoolOptions>
 fn refused(alloc: Global, error: &Error) -> WordsFault {
     match error.kind() {
         ErrorKind::OutOfMemory => WordsFault::NoMemory,
-        ErrorKind::DisplayHelp | ErrorKind::DisplayVersion => match error.to_string(alloc) {
+        ErrorKind::DisplayHelp | ErrorKind::DisplayVersion => match help(alloc, error) {
             Ok(text) => WordsFault::Help(text),
             Err(_) => WordsFault::NoMemory,
         },
@@ -195,4 +196,10 @@ fn refused(alloc: Global, error: &Error) -> WordsFault {
             Err(_) => WordsFault::NoMemory,
         },
     }
+}
+
+// What clap tells where help or the version is asked for.
+fn help(alloc: Global, error: &Error) -> Result<String, AllocError> {
+    let text = error.to_string(alloc)?;
+    within_columns(alloc, text.as_str())
 }

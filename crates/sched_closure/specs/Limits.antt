@@ -1,5 +1,5 @@
 -- A retry whose first call a limit admits, or does not.
-use Rattle.std.specs.Prelude.{◌≡◌, ℕ, Option, Some, None, is_some, IfSome, IfNone, Result}
+use Rattle.std.specs.Prelude.{◌≡◌, ℕ, true, Option, Some, None, is_some, IfSome, IfNone, Result}
 use Rattle.rand_core.specs.Stream.{Stream}
 use Rattle.sched_ticket_draws.specs.Grants.{Grants}
 use Rattle.sched_task_law.specs.Kind.{a_retry}
@@ -9,6 +9,11 @@ use Rattle.sched_closure.specs.Turns.{calling}
 use Rattle.sched_closure.specs.Begins.{Goes}
 use Rattle.sched_closure.specs.Endings.{how_of, gave}
 use Rattle.sched_closure.specs.declared.endings.CallEnding.{CallEnding}
+
+-- what holds where the limit admits at a moment that the clock tells, and may not hold elsewhere
+abbrev pub WhereAdmitted : {D K : Type 0} → Grants D → (K → ℕ → K → Type 0) → D → K → Type 0 → Type 0
+WhereAdmitted {D} {K} grants tells limit clock P = (moment : ℕ) (between : K) (asked : D) → tells clock moment between →
+    grants.admitted limit moment true asked → P
 
 -- The limit was asked at the moment that the clock told. Where it admitted the first call, a retry with that limit
 -- took its turns; where it did not, the retry did not begin, and nothing else was asked.

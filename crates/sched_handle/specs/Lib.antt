@@ -9,3 +9,4 @@ pub mod Drawing
 pub mod Passes
 pub mod Retries
 pub mod Leases
+pub mod Limits

@@ -6,6 +6,7 @@ ghost use Rattle.sched_handle.specs.declared.status.Status.TheVariants as status
 
 use crate::status::Status;
 use sched_driver_stepper::{Compiled, Stepper};
+use sched_limit_handle::Held as Limits;
 use sched_run_machine::{Machine, Until};
 use sched_ticket_draws::Drawing;
 use sched_ticket_lease::Leased;
@@ -25,6 +26,8 @@ pub enum Held {
     Retry(Machine<Until<Stepper>, Drawing>),
     /// A leased pass.
     Leased(Leased),
+    /// One limit or several at once, in a block of their own: they are larger than all else.
+    Limits(Box<Limits>),
 }
 
 /// Which kind of thing a handle holds, by the names that `Held` has for them.
@@ -35,6 +38,7 @@ pub enum Kind {
     Pass,
     Retry,
     Leased,
+    Limits,
 }
 
 impl Held {
@@ -48,6 +52,7 @@ impl Held {
             Held::Pass(_) => Kind::Pass,
             Held::Retry(_) => Kind::Retry,
             Held::Leased(_) => Kind::Leased,
+            Held::Limits(_) => Kind::Limits,
         }
     }
 
@@ -75,6 +80,7 @@ impl Held {
             Held::Pass(_) => unreachable!(),
             Held::Retry(_) => unreachable!(),
             Held::Leased(_) => unreachable!(),
+            Held::Limits(_) => unreachable!(),
         }
         room
     }

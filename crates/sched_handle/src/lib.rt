@@ -1,12 +1,14 @@
 //! Handles: what a host that isn't written in Rattle holds of the engine, each a pointer to a policy, a pass, a leased
-//! pass or a retry. Each call does and replies what its clause says of what the handle holds, and refuses an empty
-//! handle and one of another kind. It stands on plans, on the machine of retries and on what retries draw on.
+//! pass, a retry or limits. Each call does and replies what its clause says of what the handle holds, and refuses an
+//! empty handle and one of another kind. It stands on plans, on the machine of retries, on what retries draw on, and on
+//! limits.
 #![tactic(auto)]
 
 mod drawing;
 mod handle;
 mod held;
 mod leases;
+mod limits;
 mod passes;
 mod policies;
 mod replies;

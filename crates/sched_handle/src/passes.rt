@@ -217,6 +217,7 @@ impl Held {
             Held::Room => None,
             Held::Policy(_) => None,
             Held::Leased(_) => None,
+            Held::Limits(_) => None,
         }
     }
 
@@ -235,6 +236,7 @@ impl Held {
             Held::Room => unreachable!(),
             Held::Policy(_) => unreachable!(),
             Held::Leased(_) => unreachable!(),
+            Held::Limits(_) => unreachable!(),
         }
     }
 

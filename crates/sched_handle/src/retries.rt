@@ -57,6 +57,7 @@ impl Held {
             Held::Policy(_) => Err(Status::WrongKind),
             Held::Pass(_) => Err(Status::WrongKind),
             Held::Leased(_) => Err(Status::WrongKind),
+            Held::Limits(_) => Err(Status::WrongKind),
         }
     }
 
@@ -83,6 +84,7 @@ impl Held {
             Held::Policy(_) => Err(Status::WrongKind),
             Held::Pass(_) => Err(Status::WrongKind),
             Held::Leased(_) => Err(Status::WrongKind),
+            Held::Limits(_) => Err(Status::WrongKind),
         }
     }
 
@@ -99,6 +101,7 @@ impl Held {
             Held::Policy(_) => Err(Status::WrongKind),
             Held::Pass(_) => Err(Status::WrongKind),
             Held::Leased(_) => Err(Status::WrongKind),
+            Held::Limits(_) => Err(Status::WrongKind),
         }
     }
 }

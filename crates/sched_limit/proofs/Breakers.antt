@@ -1,8 +1,8 @@
 -- The laws of a breaker.
-use Rattle.std.proofs.Common.{◌≡◌, ◌≢◌, ℕ, ◌+◌, ◌-◌, ◌*◌, ◌/◌, ◌%◌, ◌<◌, ◌≤◌, min, Bool, true, false, not, cond, ltb}
-use Rattle.std.proofs.Common.{leb, ◌==◌, ◌&&◌, ◌||◌, refl, sym, ap, ◌∙◌, subst, arith, le-leb, leb-true, ltb-true}
+use Rattle.std.proofs.Common.{◌≡◌, ℕ, ◌+◌, ◌%◌, ◌<◌, ◌≤◌, min, Bool, true, false, not, cond, ltb}
+use Rattle.std.proofs.Common.{leb, ◌==◌, ◌&&◌, ◌||◌, refl, ap, arith, le-leb, leb-true, ltb-true}
 use Rattle.std.proofs.Common.{ltb-false, eq-eqb, ne_eqb}
-use Rattle.sched_limit_word.specs.Laws.{IsKeptBy, word_of}
+use Rattle.sched_limit_word.specs.Laws.{IsKeptBy}
 use Rattle.sched_limit_word.specs.declared.call.Call.{Call}
 use Rattle.sched_limit_word.specs.declared.call.Call.TheVariants.{Admit, Draw, Failed, Succeeded, Ended, Returned}
 use Rattle.sched_limit_word.specs.declared.call.Call.TheVariants.{Closed}
@@ -13,10 +13,10 @@ use Rattle.sched_limit.specs.Breaker.{since_start, open_for, begins, joins, open
 use Rattle.sched_limit.specs.Breaker.{probes_in, probed, asked, failed_closed, failed_tripped, failed, won}
 use Rattle.sched_limit.specs.Breaker.{succeeded_tripped, succeeded, breaker_next}
 use Rattle.sched_limit.specs.Laws.{ProbesAreFew, OpenIsKept, LateResultsChangeNothing, OpensAfterFailures}
-use Rattle.sched_limit.specs.Laws.{has_few_probes, stays_open, is_kept_open, is_of_now, is_last, trips_late}
+use Rattle.sched_limit.specs.Laws.{has_few_probes, is_kept_open, is_of_now, trips_late}
 use Rattle.sched_limit.specs.declared.breaker.Breaker.{Breaker}
-use Rattle.sched_limit.proofs.Cases.{by_lt, by_eq, by_bool, or_left, or_right, or_rest, either_bool, or_false, and_both}
-use Rattle.sched_limit.proofs.Cases.{and_left, and_right, and_false, and_no_left, and_no_right, no_demand, some_demand}
+use Rattle.sched_limit.proofs.Cases.{by_lt, by_eq, by_bool, or_left, or_right, or_rest, either_bool, or_false}
+use Rattle.sched_limit.proofs.Cases.{and_right, and_false, and_no_left, and_no_right, no_demand, some_demand}
 use Rattle.sched_limit.proofs.Cases.{not_false, each_is}
 
 -- what a word says that was laid out
@@ -105,7 +105,7 @@ module _ (b : Breaker) where
   few_next (Returned cost slots) w h = h
   few_next (Closed now) w h = h
 
-  kept_few : IsKeptBy (breaker_next b) 0 (has_few_probes b)
+  pub kept_few : IsKeptBy (breaker_next b) 0 (has_few_probes b)
   kept_few = (refl, few_next)
 
   -- what an open breaker keeps, where it is left as it is; z is whether it may be left otherwise

@@ -1,7 +1,6 @@
 -- The laws of a bucket.
-use Rattle.std.proofs.Common.{◌≡◌, ℕ, ◌+◌, ◌-◌, ◌≤◌, Bool, true, ◌==◌, ◌||◌, ◌&&◌, leb, List, [], ◌∷◌, refl, arith}
+use Rattle.std.proofs.Common.{◌≡◌, ℕ, ◌+◌, ◌-◌, ◌≤◌, true, ◌==◌, ◌||◌, ◌&&◌, leb, List, [], ◌∷◌, refl, arith}
 use Rattle.std.proofs.Common.{le-leb, leb-true, eq-eqb}
-use Rattle.sched_ticket.specs.Lists.{total}
 use Rattle.sched_ticket.proofs.Sums.{total-plus}
 use Rattle.sched_limit_word.specs.Rule.{moves_of}
 use Rattle.sched_limit_word.specs.Laws.{IsKeptBy, word_of}
@@ -28,14 +27,14 @@ module _ (b : Bucket) where
   next_le (Returned cost slots) w h = omega arith
   next_le (Closed now) w h = h
 
-  kept_within : IsKeptBy (bucket_next b) b.capacity (λ (w : ℕ). leb w b.capacity)
+  pub kept_within : IsKeptBy (bucket_next b) b.capacity (λ (w : ℕ). leb w b.capacity)
   kept_within = (
     le-leb b.capacity b.capacity (omega arith),
     λ c w h. le-leb (bucket_next b c w) b.capacity (next_le c w (leb-true w b.capacity h)),
   )
 
   -- what one call takes and what it gives
-  balanced : (c : Call) (w : ℕ) → w ≤ b.capacity
+  pub balanced : (c : Call) (w : ℕ) → w ≤ b.capacity
       → bucket_next b c w + (granted c w (bucket_next b c w) + debited c w (bucket_next b c w))
       ≡ w + credited c w (bucket_next b c w)
   balanced (Admit now random before) w h = omega arith

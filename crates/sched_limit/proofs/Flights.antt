@@ -1,7 +1,6 @@
 -- The laws of what is in flight.
-use Rattle.std.proofs.Common.{◌≡◌, ℕ, ◌+◌, ◌-◌, ◌*◌, ◌/◌, ◌%◌, ◌<◌, ◌≤◌, min, max, Bool, true, ◌==◌, ◌||◌, leb, refl}
-use Rattle.std.proofs.Common.{ap, subst, sym, arith, le-leb, eq-eqb}
-use Rattle.sched_limit_word.specs.Laws.{IsKeptBy, word_of}
+use Rattle.std.proofs.Common.{◌≡◌, ℕ, ◌+◌, ◌-◌, ◌*◌, ◌/◌, ◌%◌, ◌<◌, ◌≤◌, min, max, true, ◌==◌, ◌||◌, leb, refl}
+use Rattle.std.proofs.Common.{subst, sym, arith, le-leb, eq-eqb}
 use Rattle.sched_limit_word.specs.declared.call.Call.{Call}
 use Rattle.sched_limit_word.specs.declared.call.Call.TheVariants.{Admit, Draw, Failed, Succeeded, Ended, Returned}
 use Rattle.sched_limit_word.specs.declared.call.Call.TheVariants.{Closed}

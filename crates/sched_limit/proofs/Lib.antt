@@ -4,3 +4,4 @@ pub mod Buckets
 pub mod Flights
 pub mod Breakers
 pub mod Throttles
+mod Rows

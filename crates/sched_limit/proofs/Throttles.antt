@@ -1,5 +1,6 @@
 -- The laws of a throttle.
-use Rattle.std.proofs.Common.{◌≡◌, ℕ, ◌+◌, ◌-◌, ◌*◌, ◌/◌, ◌<◌, ◌≤◌, min, Bool, true, not, ltb, ◌==◌, ◌&&◌, ◌||◌, refl}
+use Rattle.std.proofs.Common.{◌≡◌, ℕ, ◌+◌, ◌-◌, ◌*◌, ◌/◌, ◌<◌, ◌≤◌, min, Bool, true, false, not, ltb, ◌==◌}
+use Rattle.std.proofs.Common.{◌%◌, ◌&&◌, ◌||◌, refl, le-ltb, eqb-true}
 use Rattle.std.proofs.Common.{◌∙◌, subst, arith, eq-eqb, sym, ap, zero, suc}
 use Rattle.std.proofs.lemmas.Nat.{div-mul-add}
 use Rattle.sched_limit_word.specs.declared.call.Call.{Call}
@@ -8,9 +9,12 @@ use Rattle.sched_limit_word.specs.declared.call.Call.TheVariants.{Closed}
 use Rattle.sched_limit.specs.Window.{window_of, is_closed, requests_in, accepts_in, counted, requests_at, accepts_at}
 use Rattle.sched_limit.specs.Window.{is_open_to}
 use Rattle.sched_limit.specs.Throttle.{throttle_next, window_at, asks_in, accepted_in, closed_in}
-use Rattle.sched_limit.specs.Laws.{ClosedIsFinal, EachIsCounted, is_forward, is_counted, counts_as, accepts_as}
+use Rattle.sched_limit.specs.Laws.{ClosedIsFinal, ClosedIsShut, EachIsCounted, is_forward, is_counted, counts_as}
+use Rattle.sched_limit.specs.Laws.{accepts_as}
+use Rattle.sched_limit.specs.Turns.{has_closed}
 use Rattle.sched_limit.specs.declared.throttle.Throttle.{Throttle}
-use Rattle.sched_limit.proofs.Cases.{by_eq, by_bool, or_left, or_right, and_both, each_is}
+use Rattle.sched_limit.proofs.Cases.{by_eq, by_bool, or_left, or_right, and_both, and_left, and_right, and_no_right}
+use Rattle.sched_limit.proofs.Cases.{each_is}
 
 -- a moment is in the window whose borders lie around it
 between : (p s g : ℕ) → s < g * p → g * p - s ≤ p → s / p + 1 ≡ g
@@ -151,6 +155,27 @@ module _ (t : Throttle) where
       let u : ℕ = window_at t now - 1 in
       by_bool (λ (x : ℕ). is_counted k w x ≡ true) (is_open_to u w) (closed_in u w) w
       (λ _. lays k u 1 (requests_at u w) (accepts_at u w) w (fits_closed u w) refl refl) (λ _. same k w)
+
+-- a word that is closed takes no counts of its window, nor of one before
+shut : (u w : ℕ) → u ≤ window_of w → is_closed w ≡ true → is_open_to u w ≡ false
+shut u w late closed = subst (λ (c : Bool). (c || ((window_of w == u) && not (is_closed w))) ≡ false)
+    (sym (le-ltb (window_of w) u late)) (and_no_right (window_of w == u) (not (is_closed w)) (ap not closed))
+
+pub has_closed_shut : (t : Throttle) (now w : ℕ) → has_closed t now w ≡ true →
+    is_open_to (window_at t now - 1) w ≡ false
+has_closed_shut t now w e =
+    let next : window_at t now ≡ window_of w + 1 = eqb-true (window_at t now) (window_of w + 1)
+    (and_right (is_closed w) (window_at t now == window_of w + 1) e) in
+    shut (window_at t now - 1) w (omega (arith, next)) (and_left (is_closed w) (window_at t now == window_of w + 1) e)
+
+pub closed_is_shut : ClosedIsShut
+closed_is_shut t at w =
+    let u : ℕ = window_at t at - 1 in
+    let f = fits_closed u w in
+    by_bool (λ (x : ℕ). is_open_to u x ≡ false) (is_open_to u w) (closed_in u w) w
+    (λ _. shut u (closed_in u w) (omega (arith, window_laid u 1 (requests_at u w) (accepts_at u w) f))
+    (eq-eqb (closed_in u w / 1099511627776 % 2) 1 (omega (arith, f.bit, f.few_requests, f.few_accepts))))
+    (λ same. same)
 
 pub closed_is_final : ClosedIsFinal
 closed_is_final t =

@@ -8,7 +8,7 @@ use Rattle.sched_ticket.specs.Lists.{Each}
 use Rattle.sched_limit_word.specs.Rule.{Next, moves_of, IsKept}
 use Rattle.sched_limit_word.specs.Laws.{word_of}
 use Rattle.sched_limit_word.specs.declared.call.Call.{Call}
-use Rattle.sched_limit_word.specs.declared.call.Call.TheVariants.{Admit, Draw, Failed, Succeeded, Ended, Returned}
+use Rattle.sched_limit_word.specs.declared.call.Call.TheVariants.{Admit, Draw, Failed, Succeeded, Returned}
 use Rattle.sched_limit_word.specs.declared.call.Call.TheVariants.{Closed}
 use Rattle.sched_limit_word.specs.declared.view.Move.{Move}
 use Rattle.sched_limit_word.specs.declared.view.View.{View}
@@ -19,7 +19,8 @@ use Rattle.sched_limit.specs.Breaker.{breaker_next, since_start}
 use Rattle.sched_limit.specs.declared.bucket.Bucket.{Bucket}
 use Rattle.sched_limit.specs.declared.in_flight.InFlight.{InFlight}
 use Rattle.sched_limit.specs.Window.{window_of, is_closed, requests_in, accepts_in, requests_at, accepts_at}
-use Rattle.sched_limit.specs.Throttle.{throttle_next}
+use Rattle.sched_limit.specs.Window.{is_open_to}
+use Rattle.sched_limit.specs.Throttle.{throttle_next, window_at}
 use Rattle.sched_limit.specs.declared.breaker.Breaker.{Breaker}
 use Rattle.sched_limit.specs.declared.throttle.Throttle.{Throttle}
 
@@ -129,6 +130,10 @@ is_forward call found left =
 
 abbrev pub ClosedIsFinal : Type 0
 ClosedIsFinal = (t : Throttle) → EachMove (throttle_next t) 0 is_forward
+
+-- what closes the window before that of its moment leaves it shut: it takes no more counts
+abbrev pub ClosedIsShut : Type 0
+ClosedIsShut = (t : Throttle) (at word : ℕ) → is_open_to (window_at t at - 1) (throttle_next t (Closed at) word) ≡ false
 
 -- one that asks is one more request of its window, and a success one more accept, up to the most that are counted; and
 -- what closes a window changes neither

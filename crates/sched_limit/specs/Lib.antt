@@ -6,3 +6,6 @@ pub mod Breaker
 pub mod Laws
 pub mod Window
 pub mod Throttle
+pub mod Step
+pub mod Turns
+pub mod Kinds

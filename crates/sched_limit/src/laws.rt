@@ -3,7 +3,7 @@
 ghost use Rattle.sched_limit.specs.Laws.{LevelStaysWithin, TokensAreCounted, GrantsLeaveTheFloor};
 ghost use Rattle.sched_limit.specs.Laws.{GrantsAreWithinTheBound, RequestsAreCounted};
 ghost use Rattle.sched_limit.specs.Laws.{ProbesAreFew, OpenIsKept, LateResultsChangeNothing, OpensAfterFailures};
-ghost use Rattle.sched_limit.specs.Laws.{ClosedIsFinal, EachIsCounted};
+ghost use Rattle.sched_limit.specs.Laws.{ClosedIsFinal, ClosedIsShut, EachIsCounted};
 
 /// A bucket's level is at most its capacity; what it was and what came in is what went out and what is left; and each
 /// draw left at least the floor.
@@ -32,5 +32,6 @@ pub fn breakers_hold()
 /// A throttle counts each request and each accept once, in its window, and what a closed window counted is final.
 pub fn windows_are_counted()
     ensures closed { ClosedIsFinal }
+    ensures shut { ClosedIsShut }
     ensures counted { EachIsCounted }
 {}

@@ -1,8 +1,9 @@
 //! The throttle as a machine: first runs and retries are refused with a probability that grows as fewer requests are
 //! accepted. Its word counts one window; a call has the word that the window before was closed with.
-ghost use Rattle.std.specs.Prelude.{◌≡◌, ◌<◌, ◌≤◌, not};
+ghost use Rattle.std.specs.Prelude.{◌≡◌, ◌-◌, ◌<◌, ◌≤◌, not, true, false};
 ghost use Rattle.sched_limit.specs.Window.{is_open_to};
 ghost use Rattle.sched_limit.specs.Throttle.{window_at, is_throttled, asks_in, accepted_in, closed_in, asks_throttle};
+ghost use Rattle.sched_limit.specs.Turns.{has_closed, moment_in};
 
 use crate::refusal::Refusal;
 use crate::refuses::Refuses;
@@ -49,13 +50,19 @@ impl Throttle {
 
     /// Whether the window before that of this moment is closed, by this word of it.
     #[inline(always)]
-    pub fn has_closed(&self, now: Moment, word: u64) -> bool {
+    #[tactic(auto, using(crate::proofs::Throttles::has_closed_shut))]
+    pub fn has_closed(&self, now: Moment, word: u64) -> bool
+        ensures closed { result ≡ has_closed self.now now word }
+        ensures shut { result ≡ true → is_open_to (window_at self.now now - 1) word ≡ false }
+    {
         let next = window_of(word) + 1;
         window::is_closed(word) && self.window_near(now, next) == next
     }
 
     /// A moment of the window that this word counts, or of the one after it where that is closed.
-    pub fn moment_of(&self, word: u64) -> Moment {
+    pub fn moment_of(&self, word: u64) -> Moment
+        ensures { result ≡ moment_in self.now word }
+    {
         let ahead = if window::is_closed(word) {
             window_of(word)
         } else {

@@ -10,8 +10,7 @@ use sched_ticket_draws::Draws;
 use sched_time::{Millis, Moment};
 use std::marker::Model;
 
-/// A limit, with the generator of the words that it is asked with, and what its draws cost. Contracts see it without
-/// the generator.
+/// A limit, with the generator of the words that it is asked with, and what its draws cost. Contracts see all of it.
 ///
 /// A draw costs what the failure before it says. What a request holds of the limit is given back once it is over, and
 /// where the value is dropped.
@@ -28,10 +27,11 @@ pub struct OnAsks<L: Asks, G: Rng + Drop> {
 impl<L: Asks, G: Rng + Drop> Model for OnAsks<L, G> {
     ghost use Rattle.sched_limit_draws.specs.Limits.{OfAsks};
 
-    ghost Value = { OfAsks L };
+    ghost Value = { OfAsks L G };
 
     ghost view = { λ d. record {
       limit = d.limit;
+      words = d.words;
       costs = d.costs;
       cost = d.cost;
       granted = d.granted;
@@ -44,6 +44,7 @@ impl<L: Asks, G: Rng + Drop> OnAsks<L, G> {
     pub fn new(limit: L, words: G, costs: Costs) -> OnAsks<L, G>
         ensures { result ≡ record {
           limit = limit;
+          words = words;
           costs = costs;
           cost = costs.each;
           granted = 0;
@@ -77,7 +78,10 @@ impl<L: Asks, G: Rng + Drop> OnAsks<L, G> {
     /// What draws on the same limit at the same costs, for another thread's requests, with words of this generator.
     pub fn split(&mut self, words: G) -> Result<OnAsks<L, G>, SplitFault>
         ensures limit { IfOk result (λ part. L.asked.splits self.old.limit part.limit self.new.limit) }
+        ensures spared { L.asked.spares self.old.limit self.new.limit }
+        ensures rest { self.new ≡ record self.old { limit = self.new.limit } }
         ensures fresh { IfOk result (λ part. (part.costs ≡ self.old.costs) × (part.granted ≡ 0)) }
+        ensures words { IfOk result (λ part. part.words ≡ words) }
     {
         let limit = self.limit.split()?;
         Ok(OnAsks::new(limit, words, self.costs))
@@ -85,7 +89,8 @@ impl<L: Asks, G: Rng + Drop> OnAsks<L, G> {
 
     /// The limit and the generator.
     pub fn into_parts(self) -> (L, G)
-        ensures { result.0 ≡ self.limit }
+        ensures limit { result.0 ≡ self.limit }
+        ensures words { result.1 ≡ self.words }
     {
         let OnAsks {
             limit,
@@ -102,9 +107,9 @@ impl<L: Asks, G: Rng + Drop> OnAsks<L, G> {
 impl<L: Asks, G: Rng + Drop> Draws for OnAsks<L, G> {
     ghost use Rattle.sched_limit_draws.specs.Limits.{asks_grants, asks_lawful};
 
-    ghost grants = { asks_grants L.asked };
+    ghost grants = { asks_grants L.asked G.stream };
 
-    ghost lawful = { asks_lawful L.asked };
+    ghost lawful = { asks_lawful L.asked G.stream };
 
     fn admit(&mut self, now: Moment) -> bool {
         match self.limit.admit(now, self.words.next_u32()) {

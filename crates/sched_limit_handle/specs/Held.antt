@@ -1,5 +1,5 @@
 -- What a handle holds, one limit or up to four at once, how it is made, split and joined.
-use Rattle.std.specs.Prelude.{◌≡◌, ◌⊎◌, ℕ, Result, Ok, Err}
+use Rattle.std.specs.Prelude.{◌≡◌, ◌⊎◌, ℕ, false, Result, Ok, Err}
 use Rattle.std.specs.Global.{Global}
 use Rattle.std_alloc.specs.declared.boxed.Box.{Box}
 use Rattle.sched_limit.specs.Bucket.{AreTerms}
@@ -7,7 +7,10 @@ use Rattle.sched_limit.specs.declared.bucket.Bucket.{Bucket}
 use Rattle.sched_limit.specs.declared.in_flight.InFlight.{InFlight}
 use Rattle.sched_limit.specs.declared.breaker.Breaker.{Breaker}
 use Rattle.sched_limit.specs.declared.throttle.Throttle.{Throttle}
-use Rattle.sched_limit_request.specs.Asks.{Answer, Asked}
+use Rattle.sched_limit.specs.declared.request.Told.{Told}
+use Rattle.sched_limit.specs.Step.{Answer, nothing}
+use Rattle.sched_limit_word.specs.View.{first_view}
+use Rattle.sched_limit_request.specs.Asks.{Asked}
 use Rattle.sched_limit_request.specs.Pairs.{both_asked}
 use Rattle.sched_limit_request.specs.declared.both.Both.{Both}
 use Rattle.sched_limit_handle.specs.AnyLimit.{any_asked}
@@ -31,47 +34,12 @@ four_asked = both_asked three_asked any_asked
 abbrev pub AsMany : {D : Type 0} → (D → Held) → Held → (D → Type 0) → Type 0
 AsMany {D} held v P = (e : D) × (v ≡ held e) × P e
 
-abbrev pub HeldAdmits : Held → ℕ → ℕ → Answer → Held → Type 0
-HeldAdmits Unlimited now random r v = (r ≡ Ok tt) × (v ≡ Unlimited)
-HeldAdmits (One d) now random r v = AsMany One v (any_asked.admits d now random r)
-HeldAdmits (Two d) now random r v = AsMany Two v (two_asked.admits d now random r)
-HeldAdmits (Three d) now random r v = AsMany Three v (three_asked.admits d now random r)
-HeldAdmits (Four d) now random r v = AsMany Four v (four_asked.admits d now random r)
-
-abbrev pub HeldDraws : Held → ℕ → ℕ → ℕ → Answer → Held → Type 0
-HeldDraws Unlimited now cost random r v = (r ≡ Ok tt) × (v ≡ Unlimited)
-HeldDraws (One d) now cost random r v = AsMany One v (any_asked.draws d now cost random r)
-HeldDraws (Two d) now cost random r v = AsMany Two v (two_asked.draws d now cost random r)
-HeldDraws (Three d) now cost random r v = AsMany Three v (three_asked.draws d now cost random r)
-HeldDraws (Four d) now cost random r v = AsMany Four v (four_asked.draws d now cost random r)
-
-abbrev pub HeldFails : Held → ℕ → Held → Type 0
-HeldFails Unlimited now v = v ≡ Unlimited
-HeldFails (One d) now v = AsMany One v (any_asked.fails d now)
-HeldFails (Two d) now v = AsMany Two v (two_asked.fails d now)
-HeldFails (Three d) now v = AsMany Three v (three_asked.fails d now)
-HeldFails (Four d) now v = AsMany Four v (four_asked.fails d now)
-
-abbrev pub HeldSucceeds : Held → ℕ → Held → Type 0
-HeldSucceeds Unlimited now v = v ≡ Unlimited
-HeldSucceeds (One d) now v = AsMany One v (any_asked.succeeds d now)
-HeldSucceeds (Two d) now v = AsMany Two v (two_asked.succeeds d now)
-HeldSucceeds (Three d) now v = AsMany Three v (three_asked.succeeds d now)
-HeldSucceeds (Four d) now v = AsMany Four v (four_asked.succeeds d now)
-
-abbrev pub HeldCancels : Held → Held → Type 0
-HeldCancels Unlimited v = v ≡ Unlimited
-HeldCancels (One d) v = AsMany One v (any_asked.cancels d)
-HeldCancels (Two d) v = AsMany Two v (two_asked.cancels d)
-HeldCancels (Three d) v = AsMany Three v (three_asked.cancels d)
-HeldCancels (Four d) v = AsMany Four v (four_asked.cancels d)
-
-abbrev pub HeldEnds : Held → Held → Type 0
-HeldEnds Unlimited v = v ≡ Unlimited
-HeldEnds (One d) v = AsMany One v (any_asked.ends d)
-HeldEnds (Two d) v = AsMany Two v (two_asked.ends d)
-HeldEnds (Three d) v = AsMany Three v (three_asked.ends d)
-HeldEnds (Four d) v = AsMany Four v (four_asked.ends d)
+abbrev pub HeldTells : Held → Told → ℕ → Answer → Held → Type 0
+HeldTells Unlimited told random r v = (r ≡ Ok tt) × (v ≡ Unlimited)
+HeldTells (One d) told random r v = AsMany One v (any_asked.tells d told random r)
+HeldTells (Two d) told random r v = AsMany Two v (two_asked.tells d told random r)
+HeldTells (Three d) told random r v = AsMany Three v (three_asked.tells d told random r)
+HeldTells (Four d) told random r v = AsMany Four v (four_asked.tells d told random r)
 
 abbrev pub HeldSplits : Held → Held → Held → Type 0
 HeldSplits Unlimited part v = (part ≡ Unlimited) × (v ≡ Unlimited)
@@ -80,54 +48,60 @@ HeldSplits (Two d) part v = AsMany Two part (λ p. AsMany Two v (two_asked.split
 HeldSplits (Three d) part v = AsMany Three part (λ p. AsMany Three v (three_asked.splits d p))
 HeldSplits (Four d) part v = AsMany Four part (λ p. AsMany Four v (four_asked.splits d p))
 
-abbrev pub held_asked : Asked Held
-held_asked = record {
-  admits = HeldAdmits;
-  draws = HeldDraws;
-  fails = HeldFails;
-  succeeds = HeldSucceeds;
-  cancels = HeldCancels;
-  ends = HeldEnds;
-  splits = HeldSplits;
-}
+abbrev pub HeldSpares : Held → Held → Type 0
+HeldSpares Unlimited v = v ≡ Unlimited
+HeldSpares (One d) v = AsMany One v (any_asked.spares d)
+HeldSpares (Two d) v = AsMany Two v (two_asked.spares d)
+HeldSpares (Three d) v = AsMany Three v (three_asked.spares d)
+HeldSpares (Four d) v = AsMany Four v (four_asked.spares d)
 
--- what is made is a limit with these terms; or there was no memory
+abbrev pub held_asked : Asked Held
+held_asked = record { tells = HeldTells; splits = HeldSplits; spares = HeldSpares }
+
+-- what is made is a new limit with these terms, which no request has asked; or there was no memory
 abbrev pub Makes : (AnyLimit → Type 0) → Result (Box Held Global) Status → Type 0
 Makes P (Ok b) = (l : AnyLimit) × (b.value ≡ One l) × P l
 Makes P (Err s) = s ≡ NoMemory
 
 abbrev pub IsBucket : Bucket → AnyLimit → Type 0
-IsBucket terms (any.Bucket d) = d.limit.machine ≡ terms
+IsBucket terms (any.Bucket d) =
+    (d.limit.machine ≡ terms) × (d.pass.has ≡ first_view terms.capacity) × (d.request ≡ nothing)
 IsBucket terms l = ⊥
 
 abbrev pub MakesBucket : Bucket → Result (Box Held Global) Status → Type 0
 MakesBucket terms r = (AreTerms terms × Makes (IsBucket terms) r) ⊎ ((¬ AreTerms terms) × (r ≡ Err OutOfRange))
 
 abbrev pub IsFlight : InFlight → AnyLimit → Type 0
-IsFlight terms (any.InFlight d) = d.limit.machine ≡ terms
+IsFlight terms (any.InFlight d) = (d.limit.machine ≡ terms) × (d.pass.has ≡ first_view 0) × (d.request ≡ nothing)
 IsFlight terms l = ⊥
 
 abbrev pub MakesFlight : InFlight → Result (Box Held Global) Status → Type 0
 MakesFlight terms r = Makes (IsFlight terms) r
 
 abbrev pub IsBreaker : Breaker → AnyLimit → Type 0
-IsBreaker terms (any.Breaker d) = d.limit.machine ≡ terms
+IsBreaker terms (any.Breaker d) = (d.limit.machine ≡ terms) × (d.pass.has ≡ first_view 0) × (d.request ≡ nothing)
 IsBreaker terms l = ⊥
 
 abbrev pub MakesBreaker : Breaker → Result (Box Held Global) Status → Type 0
 MakesBreaker terms r = Makes (IsBreaker terms) r
 
 abbrev pub IsThrottle : Throttle → AnyLimit → Type 0
-IsThrottle terms (any.Throttle d) = d.throttle ≡ terms
+IsThrottle terms (any.Throttle d) =
+    (d.throttle ≡ terms) × (d.even.has ≡ first_view 0) × (d.odd.has ≡ first_view 0) × (d.counted ≡ false)
 IsThrottle terms l = ⊥
 
 abbrev pub MakesThrottle : Throttle → Result (Box Held Global) Status → Type 0
 MakesThrottle terms r = Makes (IsThrottle terms) r
 
 -- a part is split off, in a block of its own; or there is none, for this reason
-abbrev pub SplitsHeld : Held → Result (Box Held Global) Status → Held → Type 0
-SplitsHeld u (Ok b) v = held_asked.splits u b.value v
-SplitsHeld u (Err s) v = (s ≡ NoMemory) ⊎ (s ≡ TooManyPasses)
+abbrev pub PartsOff : Held → Result (Box Held Global) Status → Held → Type 0
+PartsOff u (Ok b) v = held_asked.splits u b.value v
+PartsOff u (Err s) v = (s ≡ NoMemory) ⊎ (s ≡ TooManyPasses)
+
+-- and in either case the limits and their requests are as they were
+pub record SplitsHeld (u : Held) (r : Result (Box Held Global) Status) (v : Held) : Type 0 where
+  pub part : PartsOff u r v
+  pub spared : HeldSpares u v
 
 -- how many limits it is
 abbrev pub count : Held → ℕ

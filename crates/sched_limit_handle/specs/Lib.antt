@@ -2,5 +2,3 @@
 pub mod Status
 pub mod AnyLimit
 pub mod Held
-pub mod Handle
-pub mod Fills

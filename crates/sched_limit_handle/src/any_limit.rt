@@ -1,8 +1,7 @@
 //! A limit of a kind that is chosen while the program runs.
 
-use sched_limit::{Breaker, Bucket, InFlight, Refusal};
+use sched_limit::{Breaker, Bucket, InFlight, Refusal, Told};
 use sched_limit_request::{Asks, OnLimit, OnThrottle, SplitFault};
-use sched_time::Moment;
 
 /// A limit, as one request after another asks it.
 #[derive(Drop)]
@@ -18,57 +17,12 @@ impl Asks for AnyLimit {
 
     ghost asked = { any_asked };
 
-    fn admit(&mut self, now: Moment, random: u32) -> Result<(), Refusal> {
+    fn tell(&mut self, told: &Told, random: u32) -> Result<(), Refusal> {
         match self {
-            AnyLimit::Bucket(limit) => limit.admit(now, random),
-            AnyLimit::InFlight(limit) => limit.admit(now, random),
-            AnyLimit::Breaker(limit) => limit.admit(now, random),
-            AnyLimit::Throttle(limit) => limit.admit(now, random),
-        }
-    }
-
-    fn draw(&mut self, now: Moment, cost: u64, random: u32) -> Result<(), Refusal> {
-        match self {
-            AnyLimit::Bucket(limit) => limit.draw(now, cost, random),
-            AnyLimit::InFlight(limit) => limit.draw(now, cost, random),
-            AnyLimit::Breaker(limit) => limit.draw(now, cost, random),
-            AnyLimit::Throttle(limit) => limit.draw(now, cost, random),
-        }
-    }
-
-    fn failed(&mut self, now: Moment) {
-        match self {
-            AnyLimit::Bucket(limit) => limit.failed(now),
-            AnyLimit::InFlight(limit) => limit.failed(now),
-            AnyLimit::Breaker(limit) => limit.failed(now),
-            AnyLimit::Throttle(limit) => limit.failed(now),
-        }
-    }
-
-    fn succeeded(&mut self, now: Moment) {
-        match self {
-            AnyLimit::Bucket(limit) => limit.succeeded(now),
-            AnyLimit::InFlight(limit) => limit.succeeded(now),
-            AnyLimit::Breaker(limit) => limit.succeeded(now),
-            AnyLimit::Throttle(limit) => limit.succeeded(now),
-        }
-    }
-
-    fn cancelled(&mut self) {
-        match self {
-            AnyLimit::Bucket(limit) => limit.cancelled(),
-            AnyLimit::InFlight(limit) => limit.cancelled(),
-            AnyLimit::Breaker(limit) => limit.cancelled(),
-            AnyLimit::Throttle(limit) => limit.cancelled(),
-        }
-    }
-
-    fn ended(&mut self) {
-        match self {
-            AnyLimit::Bucket(limit) => limit.ended(),
-            AnyLimit::InFlight(limit) => limit.ended(),
-            AnyLimit::Breaker(limit) => limit.ended(),
-            AnyLimit::Throttle(limit) => limit.ended(),
+            AnyLimit::Bucket(limit) => limit.tell(told, random),
+            AnyLimit::InFlight(limit) => limit.tell(told, random),
+            AnyLimit::Breaker(limit) => limit.tell(told, random),
+            AnyLimit::Throttle(limit) => limit.tell(told, random),
         }
     }
 

@@ -6,9 +6,8 @@ ghost use Rattle.sched_limit_handle.specs.declared.status.Status.TheVariants as 
 
 use crate::any_limit::AnyLimit;
 use crate::status::Status;
-use sched_limit::{Breaker, Bucket, InFlight, Refusal, Throttle};
+use sched_limit::{Breaker, Bucket, InFlight, Refusal, Throttle, Told};
 use sched_limit_request::{Asks, Both, OnLimit, OnThrottle, SplitFault};
-use sched_time::Moment;
 use std::alloc::Global;
 use std::mem;
 
@@ -38,63 +37,13 @@ impl Asks for Held {
 
     ghost asked = { held_asked };
 
-    fn admit(&mut self, now: Moment, random: u32) -> Result<(), Refusal> {
+    fn tell(&mut self, told: &Told, random: u32) -> Result<(), Refusal> {
         match self {
             Held::Unlimited => Ok(()),
-            Held::One(limit) => limit.admit(now, random),
-            Held::Two(all) => all.admit(now, random),
-            Held::Three(all) => all.admit(now, random),
-            Held::Four(all) => all.admit(now, random),
-        }
-    }
-
-    fn draw(&mut self, now: Moment, cost: u64, random: u32) -> Result<(), Refusal> {
-        match self {
-            Held::Unlimited => Ok(()),
-            Held::One(limit) => limit.draw(now, cost, random),
-            Held::Two(all) => all.draw(now, cost, random),
-            Held::Three(all) => all.draw(now, cost, random),
-            Held::Four(all) => all.draw(now, cost, random),
-        }
-    }
-
-    fn failed(&mut self, now: Moment) {
-        match self {
-            Held::Unlimited => {},
-            Held::One(limit) => limit.failed(now),
-            Held::Two(all) => all.failed(now),
-            Held::Three(all) => all.failed(now),
-            Held::Four(all) => all.failed(now),
-        }
-    }
-
-    fn succeeded(&mut self, now: Moment) {
-        match self {
-            Held::Unlimited => {},
-            Held::One(limit) => limit.succeeded(now),
-            Held::Two(all) => all.succeeded(now),
-            Held::Three(all) => all.succeeded(now),
-            Held::Four(all) => all.succeeded(now),
-        }
-    }
-
-    fn cancelled(&mut self) {
-        match self {
-            Held::Unlimited => {},
-            Held::One(limit) => limit.cancelled(),
-            Held::Two(all) => all.cancelled(),
-            Held::Three(all) => all.cancelled(),
-            Held::Four(all) => all.cancelled(),
-        }
-    }
-
-    fn ended(&mut self) {
-        match self {
-            Held::Unlimited => {},
-            Held::One(limit) => limit.ended(),
-            Held::Two(all) => all.ended(),
-            Held::Three(all) => all.ended(),
-            Held::Four(all) => all.ended(),
+            Held::One(limit) => limit.tell(told, random),
+            Held::Two(all) => all.tell(told, random),
+            Held::Three(all) => all.tell(told, random),
+            Held::Four(all) => all.tell(told, random),
         }
     }
 

@@ -1,89 +1,61 @@
--- The calls of all requests on a word that a store keeps are one run of its machine, as those on a limit in memory are.
-use Rattle.std.proofs.Common.{◌≡◌, ℕ, zero, suc, ◌+◌, ◌≤◌, List, [], ◌∷◌, refl, sym, subst, arith}
-use Rattle.std.specs.Prelude.{Option as Maybe, None, Some}
-use mathlib.Core.Option.{Option, some, some-injective, some-ne-none}
-use lib.ListN.{get_elem?}
-use Rattle.atomic_table.specs.Table.{State}
-use Rattle.sched_ticket.specs.Lists.{total}
-use Rattle.sched_ticket.specs.Parts.{all_parts}
-use Rattle.sched_limit_word.specs.Rule.{Next, IsRun, IsKept, Fits}
+-- The calls of all requests on a word that a store keeps are one run of its machine, and what each call keeps holds.
+use Rattle.std.proofs.Common.{◌≡◌, ℕ, ◌+◌, ◌≤◌, Bool, true, List, [], ◌∷◌, refl, arith, leb, leb-true}
+use Rattle.std.specs.Prelude.{Option, None, Some}
+use Rattle.sched_limit_word.specs.Rule.{IsRun}
+use Rattle.sched_limit_word.specs.Laws.{IsKeptBy}
 use Rattle.sched_limit_word.specs.declared.call.Call.{Call}
 use Rattle.sched_limit_word.specs.declared.view.Move.{Move}
-use Rattle.sched_limit_word.specs.declared.view.View.{View}
-use Rattle.sched_limit_word.proofs.Runs.{was_now}
-use Rattle.sched_limit_request.specs.Requests.{Rules}
-use Rattle.sched_limit.specs.Bucket.{bucket_next}
+use Rattle.sched_limit.specs.Step.{Rules, call_of, made}
+use Rattle.sched_limit.specs.Kinds.{bucket_rules, breaker_rules}
+use Rattle.sched_limit.specs.Laws.{has_few_probes}
 use Rattle.sched_limit.specs.declared.bucket.Bucket.{Bucket}
-use Rattle.sched_limit.specs.Breaker.{breaker_next}
-use Rattle.sched_limit.proofs.Buckets.{level_stays_within, tokens_are_counted}
-use Rattle.sched_limit.proofs.Breakers.{probes_are_few}
-use Rattle.sched_limit_kept.specs.Kept.{call_of, made}
+use Rattle.sched_limit.proofs.Buckets.{kept_within, balanced}
+use Rattle.sched_limit.proofs.Breakers.{kept_few}
 use Rattle.sched_limit_kept.specs.Laws.{Tellings, KeptIsOneRun, TokensAreKept, ProbesAreKept, moved, moves_made}
-use Rattle.sched_limit_kept.specs.Laws.{word_kept, bucket_rules, breaker_rules, granted_by, debited_by, credited_by}
+use Rattle.sched_limit_kept.specs.Laws.{word_kept, granted_by, debited_by, credited_by}
 
 -- one call more, if there is one, goes on with a run
-goes_on : (m : Rules) (first : ℕ) (c : Maybe Call) (moves : List Move) (word : ℕ) → IsRun m.next first moves word
-    → IsRun m.next first (moved m c word moves) (made m c word)
+goes_on : (m : Rules) (first : ℕ) (c : Option Call) (moves : List Move) (word : ℕ) → IsRun m.next first moves word
+    → IsRun m.next first (moved m c word moves) (made m.next c word)
 goes_on m first None moves word run = run
 goes_on m first (Some c) moves word run = (refl, refl, run)
 
 pub kept_is_one_run : KeptIsOneRun
 kept_is_one_run m first [] = refl
-kept_is_one_run m first (t ∷ ts) = goes_on m first (call_of m t.1 t.0) (moves_made m first ts) (word_kept m first ts)
-    (kept_is_one_run m first ts)
+kept_is_one_run m first (t ∷ ts) = goes_on m first (call_of m.worth t.told t.random t.holds) (moves_made m first ts)
+    (word_kept m first ts) (kept_is_one_run m first ts)
 
--- a limit in memory with this word, whose one pass made these moves
-module _ (moves : List Move) (word : ℕ) where
-  abbrev one_pass : View
-  one_pass = record { moves = moves; seen = word; weight = all_parts; looks = 0; losses = 0 }
+-- what is true of the first word, and kept by each call, is true of the word that the store has
+module _ (m : Rules) (first : ℕ) (Q : ℕ → Bool) (keeps : IsKeptBy m.next first Q) where
+  made_keeps : (c : Option Call) (word : ℕ) → Q word ≡ true → Q (made m.next c word) ≡ true
+  made_keeps None word is = is
+  made_keeps (Some c) word is = keeps.1 c word is
 
-  abbrev in_memory : State Call View
-  in_memory = record {
-    words = 0 ∷ 0 ∷ 0 ∷ 0 ∷ 0 ∷ 0 ∷ 0 ∷ 0 ∷ word ∷ 0 ∷ 0 ∷ 0 ∷ 0 ∷ 0 ∷ 0 ∷ 0 ∷ [];
-    homes = [];
-    views = one_pass ∷ [];
-  }
+  holds_still : (ts : Tellings) → Q (word_kept m first ts) ≡ true
+  holds_still [] = keeps.0
+  holds_still (t ∷ ts) = made_keeps (call_of m.worth t.told t.random t.holds) (word_kept m first ts) (holds_still ts)
 
-  only_one : (by : ℕ) (v : View) → get_elem? (one_pass ∷ []) by ≡ some v → one_pass ≡ v
-  only_one zero v at = some-injective one_pass v at
-  only_one (suc by) v at = absurd (some-ne-none v (sym at))
+module _ (b : Bucket) where
+  within : (ts : Tellings) → word_kept (bucket_rules b) b.capacity ts ≤ b.capacity
+  within ts = leb-true (word_kept (bucket_rules b) b.capacity ts) b.capacity
+      (holds_still (bucket_rules b) b.capacity (λ (w : ℕ). leb w b.capacity) (kept_within b) ts)
 
-  -- the rule of a limit holds of it, where the moves are a run
-  kept_in_memory : (next : Next) (first : ℕ) → IsRun next first moves word → IsKept next first in_memory
-  kept_in_memory next first run = record {
-    run = moves;
-    long = refl;
-    is_run = run;
-    shared = λ h. omega arith;
-    parts = omega arith;
-    each = λ by v at. subst (Fits first moves) (only_one by v at) (record {
-      seen = λ _. was_now next first moves word run;
-      spent = λ none. absurd (omega (arith, none));
-    });
-  }
+  -- one call more, if there is one, keeps the balance
+  balances : (c : Option Call) (word : ℕ) (moves : List Move) → word ≤ b.capacity
+      → word + granted_by moves + debited_by moves ≡ b.capacity + credited_by moves
+      → let after = moved (bucket_rules b) c word moves in
+      made (bucket_rules b).next c word + granted_by after + debited_by after ≡ b.capacity + credited_by after
+  balances None word moves le so = so
+  balances (Some c) word moves le so = omega (arith, so, balanced b c word le)
 
-module _ (b : Bucket) (ts : Tellings) where
-  abbrev level : ℕ
-  level = word_kept (bucket_rules b) b.capacity ts
-
-  abbrev run : List Move
-  run = moves_made (bucket_rules b) b.capacity ts
-
-  full : IsKept (bucket_next b) b.capacity (in_memory run level)
-  full = kept_in_memory run level (bucket_next b) b.capacity (kept_is_one_run (bucket_rules b) b.capacity ts)
-
-  tokens : (level ≤ b.capacity) × (level + granted_by run + debited_by run ≡ b.capacity + credited_by run)
-  tokens = (
-    level_stays_within b (in_memory run level) full,
-    omega (arith, tokens_are_counted b (in_memory run level) full),
-  )
+  counted : (ts : Tellings) → let moves = moves_made (bucket_rules b) b.capacity ts in
+      word_kept (bucket_rules b) b.capacity ts + granted_by moves + debited_by moves ≡ b.capacity + credited_by moves
+  counted [] = omega arith
+  counted (t ∷ ts) = balances (call_of (bucket_rules b).worth t.told t.random t.holds)
+      (word_kept (bucket_rules b) b.capacity ts) (moves_made (bucket_rules b) b.capacity ts) (within ts) (counted ts)
 
 pub tokens_are_kept : TokensAreKept
-tokens_are_kept b ts = tokens b ts
+tokens_are_kept b ts = (within b ts, counted b ts)
 
 pub probes_are_kept : ProbesAreKept
-probes_are_kept b ts =
-    let m = breaker_rules b in
-    let word = word_kept m 0 ts in
-    let moves = moves_made m 0 ts in
-    probes_are_few b (in_memory moves word) (kept_in_memory moves word (breaker_next b) 0 (kept_is_one_run m 0 ts))
+probes_are_kept b ts = holds_still (breaker_rules b) 0 (has_few_probes b) (kept_few b) ts

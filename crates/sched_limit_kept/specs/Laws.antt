@@ -5,25 +5,28 @@ use Rattle.sched_limit_word.specs.Rule.{IsRun}
 use Rattle.sched_limit_word.specs.View.{move}
 use Rattle.sched_limit_word.specs.declared.call.Call.{Call}
 use Rattle.sched_limit_word.specs.declared.view.Move.{Move}
-use Rattle.sched_limit.specs.Word.{stamp_of}
-use Rattle.sched_limit.specs.Bucket.{bucket_next, bucket_refusal, bucket_worth}
-use Rattle.sched_limit.specs.Breaker.{breaker_next, breaker_refusal}
+use Rattle.sched_limit.specs.Step.{Rules, call_of, step}
+use Rattle.sched_limit.specs.Kinds.{bucket_rules, breaker_rules}
 use Rattle.sched_limit.specs.Laws.{granted, debited, credited, has_few_probes}
 use Rattle.sched_limit.specs.declared.bucket.Bucket.{Bucket}
 use Rattle.sched_limit.specs.declared.breaker.Breaker.{Breaker}
-use Rattle.sched_limit_request.specs.Requests.{Rules, rules}
-use Rattle.sched_limit_request.specs.declared.request.Request.{Request}
-use Rattle.sched_limit_kept.specs.Kept.{call_of, made, word_after}
-use Rattle.sched_limit_kept.specs.declared.told.Told.{Told}
+use Rattle.sched_limit.specs.declared.request.Request.{Request}
+use Rattle.sched_limit.specs.declared.request.Told.{Told}
 
--- what requests tell, the latest first, each with what its request held
+-- what a request tells, with what it holds and a random word
+pub record Telling : Type 0 where
+  pub holds : Request
+  pub told : Told
+  pub random : ℕ
+
+-- what requests tell, the latest first
 abbrev pub Tellings : Type 0
-Tellings = List (Request × Told)
+Tellings = List Telling
 
 -- the word that a store has after them, which was `first` before
 abbrev pub word_kept : Rules → ℕ → Tellings → ℕ
 word_kept m first [] = first
-word_kept m first (t ∷ ts) = word_after m t.1 t.0 (word_kept m first ts)
+word_kept m first (t ∷ ts) = (step m t.told t.random t.holds (word_kept m first ts)).word
 
 -- what a call, if there is one, moved
 abbrev pub moved : Rules → Option Call → ℕ → List Move → List Move
@@ -33,19 +36,13 @@ moved m (Some c) word moves = move c word (m.next c word) ∷ moves
 -- the moves that they made
 abbrev pub moves_made : Rules → ℕ → Tellings → List Move
 moves_made m first [] = []
-moves_made m first (t ∷ ts) = moved m (call_of m t.1 t.0) (word_kept m first ts) (moves_made m first ts)
+moves_made m first (t ∷ ts) =
+    moved m (call_of m.worth t.told t.random t.holds) (word_kept m first ts) (moves_made m first ts)
 
 -- they are one run of the machine: each call found the word that the one before left, and left what it makes of it
 abbrev pub KeptIsOneRun : Type 0
 KeptIsOneRun = (m : Rules) (first : ℕ) (ts : Tellings) →
     IsRun m.next first (moves_made m first ts) (word_kept m first ts)
-
--- a bucket and a breaker, as what calls make of their words
-abbrev pub bucket_rules : Bucket → Rules
-bucket_rules b = rules bucket_next bucket_refusal (λ _ _. 0) bucket_worth b
-
-abbrev pub breaker_rules : Breaker → Rules
-breaker_rules b = rules breaker_next breaker_refusal (λ _ word. stamp_of word) (λ _ _. 0) b
 
 -- what moves of a bucket granted, took for failures, and gave
 abbrev pub granted_by : List Move → ℕ

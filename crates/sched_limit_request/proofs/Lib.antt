@@ -1,3 +1,2 @@
--- What the proofs of a throttle's calls cite.
-pub mod Turns
-pub mod Windows
+-- What the proofs cite.
+pub mod Undisturbed

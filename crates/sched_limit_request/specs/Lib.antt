@@ -1,8 +1,9 @@
 -- The definitions that the contracts of `sched_limit_request` cite: what each call does, on each kind of limit.
 pub mod Fault
-pub mod Requests
 pub mod Asks
+pub mod Tells
 pub mod Limits
 pub mod Sides
 pub mod Windows
 pub mod Pairs
+pub mod Laws

@@ -1,39 +1,51 @@
 -- Two limits at once: both admit, or neither is charged.
-use Rattle.std.specs.Prelude.{◌≡◌, ℕ, ◌⊎◌, Ok, Err}
-use Rattle.sched_limit_request.specs.Asks.{Answer, Asked}
+use Rattle.std.specs.Prelude.{◌≡◌, ◌⊎◌, ℕ, Option, Some, None, Ok, Err}
+use Rattle.sched_limit.specs.Step.{Answer}
+use Rattle.sched_limit.specs.declared.refusal.Refusal.{Refusal}
+use Rattle.sched_limit.specs.declared.request.Told.{Told}
+use Rattle.sched_limit.specs.declared.request.Told.TheVariants.{Admit, Draw, Cancelled, Ended}
+use Rattle.sched_limit_request.specs.Asks.{Asked}
 use Rattle.sched_limit_request.specs.declared.both.Both.{Both}
 
-module _ {A B : Type 0} (a : Asked A) (b : Asked B) where
-  -- both admit the request; or the first one refuses, and the second is as it was; or the second one refuses, and the
-  -- request of the first has ended, which gives back what it held
-  abbrev pub BothAdmit : Both A B → ℕ → ℕ → Answer → Both A B → Type 0
-  BothAdmit d now random (Ok x) e =
-      a.admits d.first now random (Ok x) e.first × b.admits d.second now random (Ok x) e.second
-  BothAdmit d now random (Err why) e =
-      (a.admits d.first now random (Err why) e.first × (e.second ≡ d.second))
-      ⊎ ((x : A) × a.admits d.first now random (Ok tt) x × a.ends x e.first
-      × b.admits d.second now random (Err why) e.second)
+-- what takes back what was asked and granted, if anything is to be: an admission ends, and a draw is cancelled
+abbrev pub undo_of : Told → Option Told
+undo_of (Admit now) = Some Ended
+undo_of (Draw now cost) = Some Cancelled
+undo_of _ = None
 
-  -- both grant the draw; or the first one refuses, and the second is as it was; or the second one refuses, and the draw
-  -- of the first is cancelled, which gives back what it cost and its slot
-  abbrev pub BothDraw : Both A B → ℕ → ℕ → ℕ → Answer → Both A B → Type 0
-  BothDraw d now cost random (Ok x) e =
-      a.draws d.first now cost random (Ok x) e.first × b.draws d.second now cost random (Ok x) e.second
-  BothDraw d now cost random (Err why) e =
-      (a.draws d.first now cost random (Err why) e.first × (e.second ≡ d.second))
-      ⊎ ((x : A) × a.draws d.first now cost random (Ok tt) x × a.cancels x e.first
-      × b.draws d.second now cost random (Err why) e.second)
+module _ {A B : Type 0} (a : Asked A) (b : Asked B) where
+  -- the second one refused what the first one granted, and the first one took that back
+  pub record Undone (d : Both A B) (told undo : Told) (random : ℕ) (why : Refusal) (e : Both A B) : Type 0 where
+    pub first : A
+    pub back : Answer
+    pub grants : a.tells d.first told random (Ok tt) first
+    pub undoes : a.tells first undo 0 back e.first
+    pub refuses : b.tells d.second told random (Err why) e.second
+
+  -- both grant it; or the first one refuses, and the second is as it was; or the second one refuses
+  abbrev pub BothAsk : Both A B → Told → Told → ℕ → Answer → Both A B → Type 0
+  BothAsk d told undo random (Ok x) e =
+      a.tells d.first told random (Ok x) e.first × b.tells d.second told random (Ok x) e.second
+  BothAsk d told undo random (Err why) e =
+      (a.tells d.first told random (Err why) e.first × (e.second ≡ d.second)) ⊎ Undone d told undo random why e
+
+  -- what takes nothing back is told to both
+  abbrev pub BothTell : Option Told → Both A B → Told → ℕ → Answer → Both A B → Type 0
+  BothTell None d told random answer e =
+      (x : Answer) × a.tells d.first told random x e.first × b.tells d.second told random answer e.second
+  BothTell (Some undo) d told random answer e = BothAsk d told undo random answer e
 
   abbrev pub BothSplit : Both A B → Both A B → Both A B → Type 0
   BothSplit d part e = a.splits d.first part.first e.first × b.splits d.second part.second e.second
 
+  -- where the first one is not split, the second is as it was
+  pub record BothSpared (d e : Both A B) : Type 0 where
+    pub first : a.spares d.first e.first
+    pub second : b.spares d.second e.second ⊎ (e.second ≡ d.second)
+
   abbrev pub both_asked : Asked (Both A B)
   both_asked = record {
-    admits = BothAdmit;
-    draws = BothDraw;
-    fails = λ d now e. a.fails d.first now e.first × b.fails d.second now e.second;
-    succeeds = λ d now e. a.succeeds d.first now e.first × b.succeeds d.second now e.second;
-    cancels = λ d e. a.cancels d.first e.first × b.cancels d.second e.second;
-    ends = λ d e. a.ends d.first e.first × b.ends d.second e.second;
+    tells = λ d told random answer e. BothTell (undo_of told) d told random answer e;
     splits = BothSplit;
+    spares = BothSpared;
   }

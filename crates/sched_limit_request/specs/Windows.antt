@@ -1,17 +1,91 @@
 -- A throttle's two windows, and what each call does to these.
-use Rattle.std.specs.Prelude.{◌≡◌, ℕ, ◌-◌, ◌%◌, ◌⊎◌, ◌==◌, Bool, true, false, Some, None, Option, Ok, Err}
-use Rattle.std.specs.Prelude.{if◌then◌else◌}
+use Rattle.std.specs.Prelude.{◌≡◌, ◌⊎◌, ℕ, zero, suc, ◌-◌, ◌<◌, ◌%◌, ◌==◌, ◌||◌, Bool, false, if◌then◌else◌}
+use Rattle.std.specs.Prelude.{Option, Some, None, is_ok}
 use Rattle.sched_limit_word.specs.Held.{Held}
-use Rattle.sched_limit_word.specs.View.{part_of}
-use Rattle.sched_limit_word.specs.declared.call.Call.TheVariants.{Admit}
-use Rattle.sched_limit.specs.Throttle.{window_at}
-use Rattle.sched_limit.specs.declared.refusal.Refusal.{Refusal}
-use Rattle.sched_limit.specs.declared.refusal.Refusal.TheVariants.{RacesLost, OutOfTurn}
+use Rattle.sched_limit_word.specs.View.{part_of, without_part}
+use Rattle.sched_limit_word.specs.Calls.{Called, LostRaces}
+use Rattle.sched_limit_word.specs.declared.call.Call.TheVariants as call
+use Rattle.sched_limit_word.specs.declared.view.View.{View}
+use Rattle.sched_limit.specs.Step.{Answer, tries_of, lost_answer}
+use Rattle.sched_limit.specs.Throttle.{window_at, throttle_next}
+use Rattle.sched_limit.specs.Turns.{counts_at, uncounted, count_of, turn_of}
+use Rattle.sched_limit.specs.Window.{is_open_to}
+use Rattle.sched_limit.specs.declared.request.Told.{Told}
+use Rattle.sched_limit.specs.declared.request.Told.TheVariants.{Admit, Ended}
 use Rattle.sched_limit.specs.declared.throttle.Throttle.{Throttle}
-use Rattle.sched_limit_request.specs.Asks.{Answer, Asked}
-use Rattle.sched_limit_request.specs.Sides.{CountedHere}
-use Rattle.sched_limit_request.specs.declared.side.Turn.{Turn}
-use Rattle.sched_limit_request.specs.declared.side.Turn.TheVariants.{Done, Later}
+use Rattle.sched_limit.specs.declared.turns.Turn.{Turn}
+use Rattle.sched_limit.specs.declared.turns.Turn.TheVariants.{Done, Later}
+use Rattle.sched_limit_request.specs.Asks.{Asked}
+use Rattle.sched_limit_request.specs.Limits.{IsSpared}
+
+-- ---- one turn, on the pass of its window and that of the window before, the other one
+
+-- the window before is closed by the word `before`: the pass has seen that it takes no counts, or the pass closes it
+abbrev pub Closes : Throttle → ℕ → ℕ → View → View → Type 0
+Closes t at before v u =
+    ((u ≡ v) × (v.seen ≡ before) × (is_open_to (window_at t at - 1) before ≡ false))
+    ⊎ ((w : ℕ) × Called (throttle_next t) (call.Closed at) w v u × (before ≡ throttle_next t (call.Closed at) w))
+
+-- what a request tells is counted on the word that is found, and that says what comes of it; or the races are lost
+pub record Tried (t : Throttle) (told : Told) (random at before : ℕ) (turn : Turn) (v u : View) : Type 0 where
+  pub word : ℕ
+  pub called : Called (throttle_next t) (count_of told random at before) word v u
+  pub turn_is : turn ≡ turn_of t told random at before word
+
+abbrev pub TriesOn : Throttle → Told → ℕ → ℕ → ℕ → Turn → View → View → Type 0
+TriesOn t told random at before turn v u = Tried t told random at before turn v u
+    ⊎ (LostRaces (tries_of told) v u × (turn ≡ Done (lost_answer told)))
+
+-- the window before is closed, and this one counts
+pub record Turned (t : Throttle) (told : Told) (random at : ℕ) (turn : Turn) (own other own' other' : View)
+    : Type 0 where
+  pub before : ℕ
+  pub closes : Closes t at before other other'
+  pub tries : TriesOn t told random at before turn own own'
+
+-- the closing lost its races, and this window is as it was
+pub record Unclosed (told : Told) (turn : Turn) (own other own' other' : View) : Type 0 where
+  pub lost : LostRaces (tries_of told) other other'
+  pub same : own' ≡ own
+  pub turn_is : turn ≡ Done (lost_answer told)
+
+pub record Turns (t : Throttle) (told : Told) (random at : ℕ) (turn : Turn) (own other own' other' : View)
+    : Type 0 where
+  pub turns : Turned t told random at turn own other own' other' ⊎ Unclosed told turn own other own' other'
+
+-- ---- the turns of a call, on the passes of even windows and of odd ones
+
+pub record Views : Type 0 where
+  pub even : View
+  pub odd : View
+
+-- the pass of the window of a moment, and the other one
+abbrev pub own : Throttle → ℕ → Views → View
+own t at d = if window_at t at % 2 == 0 then d.even else d.odd
+
+abbrev pub other : Throttle → ℕ → Views → View
+other t at d = if window_at t at % 2 == 0 then d.odd else d.even
+
+abbrev pub IsTurn : Throttle → Told → ℕ → ℕ → Turn → Views → Views → Type 0
+IsTurn t told random at turn d e =
+    Turns t told random at turn (own t at d) (other t at d) (own t at e) (other t at e)
+
+-- so many turns, each of which found that a later window had begun, lead from a moment and views to others
+abbrev pub Leads : Throttle → Told → ℕ → ℕ → Views → ℕ → ℕ → Views → Type 0
+Leads t told random now d zero at m = (at ≡ now) × (m ≡ d)
+Leads t told random now d (suc turns) at m =
+    (a : ℕ) × (n : Views) × Leads t told random now d turns a n × IsTurn t told random a (Later at) n m
+
+-- the last turn is done, one of 64; or there were 64, and the races are lost
+pub record Counts (t : Throttle) (told : Told) (random now : ℕ) (answer : Answer) (d e : Views) : Type 0 where
+  pub turns : ℕ
+  pub at : ℕ
+  pub from : Views
+  pub leads : Leads t told random now d turns at from
+  pub ends : ((turns < 64) × IsTurn t told random at (Done answer) from e)
+      ⊎ ((turns ≡ 64) × (e ≡ from) × (answer ≡ lost_answer told))
+
+-- ---- a throttle that requests ask
 
 -- a throttle, its pass of even windows and that of odd ones, and whether it has a request
 pub record OfThrottle : Type 0 where
@@ -20,9 +94,8 @@ pub record OfThrottle : Type 0 where
   pub throttle : Throttle
   pub counted : Bool
 
--- the pass of a window, of that of even windows and that of odd ones
-abbrev pub pass_of : Held → Held → ℕ → Held
-pass_of even odd window = if window % 2 == 0 then even else odd
+abbrev pub views : Held → Held → Views
+views even odd = record { even = even.has; odd = odd.has }
 
 -- the same throttle, on the same limits
 pub record IsSame (d e : OfThrottle) : Type 0 where
@@ -30,58 +103,37 @@ pub record IsSame (d e : OfThrottle) : Type 0 where
   pub odd : e.odd.table ≡ d.odd.table
   pub throttle : e.throttle ≡ d.throttle
 
--- a request was counted in the window of the moment `at`, by what the window before was closed with, and refused for
--- this reason, or not
-pub record CountedAt (t : Throttle) (at random : ℕ) (why : Option Refusal) (even odd : Held) : Type 0 where
-  pub before : ℕ
-  pub closed : (pass_of even odd (window_at t at - 1)).has.seen ≡ before
-  pub counted : CountedHere t (Admit at random before) why (pass_of even odd (window_at t at))
+-- whether a request is under way after what it tells
+abbrev pub counted_after : Told → Answer → Bool → Bool
+counted_after (Admit now) answer counted = counted || is_ok answer
+counted_after Ended answer counted = false
+counted_after _ answer counted = counted
 
-abbrev pub IsCounted : Throttle → ℕ → Option Refusal → Held → Held → Type 0
-IsCounted t random why even odd = (at : ℕ) × CountedAt t at random why even odd
+-- what is counted at a moment, and what is not
+abbrev pub WindowCounts : Option ℕ → OfThrottle → Told → ℕ → Answer → OfThrottle → Type 0
+WindowCounts None d told random answer e =
+    (answer ≡ uncounted told) × (e ≡ record d { counted = counted_after told answer d.counted })
+WindowCounts (Some now) d told random answer e =
+    IsSame d e × (e.counted ≡ counted_after told answer d.counted)
+    × Counts d.throttle told random now answer (views d.even d.odd) (views e.even e.odd)
 
--- what asks is counted and admitted, or counted and refused, or it lost its races
-abbrev pub Counts : Throttle → ℕ → Answer → Held → Held → Type 0
-Counts t random (Ok x) even odd = IsCounted t random None even odd
-Counts t random (Err why) even odd = IsCounted t random (Some why) even odd ⊎ (why ≡ RacesLost)
-
--- of a try that is done
-abbrev pub IsTurn : Throttle → ℕ → Turn → Held → Held → Type 0
-IsTurn t random (Done answer) even odd = Counts t random answer even odd
-IsTurn t random (Later moment) even odd = Unit {0}
-
-abbrev pub WindowAdmits : OfThrottle → ℕ → ℕ → Answer → OfThrottle → Type 0
-WindowAdmits d now random (Ok x) e =
-    (d.counted ≡ false) × IsSame d e × (e.counted ≡ true) × Counts e.throttle random (Ok x) e.even e.odd
-WindowAdmits d now random (Err why) e =
-    ((why ≡ OutOfTurn) × (d.counted ≡ true) × (e ≡ d))
-    ⊎ ((d.counted ≡ false) × IsSame d e × (e.counted ≡ false) × Counts e.throttle random (Err why) e.even e.odd)
-
--- a draw asks as a first run does
-abbrev pub WindowDraws : OfThrottle → ℕ → ℕ → ℕ → Answer → OfThrottle → Type 0
-WindowDraws d now cost random (Ok x) e =
-    (d.counted ≡ true) × IsSame d e × (e.counted ≡ true) × Counts e.throttle random (Ok x) e.even e.odd
-WindowDraws d now cost random (Err why) e =
-    ((why ≡ OutOfTurn) × (d.counted ≡ false) × (e ≡ d))
-    ⊎ ((d.counted ≡ true) × IsSame d e × (e.counted ≡ true) × Counts e.throttle random (Err why) e.even e.odd)
-
--- a success is counted, unless it lost its races
-abbrev pub WindowSucceeds : OfThrottle → ℕ → OfThrottle → Type 0
-WindowSucceeds d now e = IsSame d e × (e.counted ≡ d.counted)
+abbrev pub WindowTells : OfThrottle → Told → ℕ → Answer → OfThrottle → Type 0
+WindowTells d told random answer e = WindowCounts (counts_at told d.counted) d told random answer e
 
 -- the part has no request
-abbrev pub WindowSplits : OfThrottle → OfThrottle → OfThrottle → Type 0
-WindowSplits d part e =
-    IsSame d e × IsSame d part × (e.counted ≡ d.counted) × (part.counted ≡ false)
-    × (part.even.has ≡ part_of d.even.has) × (part.odd.has ≡ part_of d.odd.has)
+pub record WindowSplits (d part e : OfThrottle) : Type 0 where
+  pub same : IsSame d part
+  pub counted : part.counted ≡ false
+  pub even : part.even.has ≡ part_of d.even.has
+  pub odd : part.odd.has ≡ part_of d.odd.has
+  pub even_left : e.even.has ≡ without_part d.even.has
+  pub odd_left : e.odd.has ≡ without_part d.odd.has
+
+pub record WindowSpares (d e : OfThrottle) : Type 0 where
+  pub throttle : e.throttle ≡ d.throttle
+  pub counted : e.counted ≡ d.counted
+  pub even : IsSpared d.even e.even
+  pub odd : IsSpared d.odd e.odd
 
 abbrev pub window_asked : Asked OfThrottle
-window_asked = record {
-  admits = WindowAdmits;
-  draws = WindowDraws;
-  fails = λ d now e. e ≡ d;
-  succeeds = WindowSucceeds;
-  cancels = λ d e. e ≡ d;
-  ends = λ d e. e ≡ record d { counted = false };
-  splits = WindowSplits;
-}
+window_asked = record { tells = WindowTells; splits = WindowSplits; spares = WindowSpares }

@@ -1,9 +1,10 @@
 //! What a request asks of a limit and tells it.
 ghost use Rattle.std.specs.Prelude.{IfOk};
-ghost use Rattle.sched_limit_request.specs.Asks.{Asked};
+ghost use Rattle.sched_limit.specs.declared.request.Told.TheVariants as told_as;
+ghost use Rattle.sched_limit_request.specs.Asks.{Asked, Hears};
 
 use crate::fault::SplitFault;
-use sched_limit::Refusal;
+use sched_limit::{Refusal, Told};
 use sched_time::Moment;
 
 /// A limit, as one request after another asks it.
@@ -11,33 +12,62 @@ pub trait Asks: Drop {
     // What each call does.
     ghost asked: { Asked Self };
 
+    /// Asks the limit, or tells it, with a random word: `admit` and the others say what.
+    fn tell(&mut self, told: &Told, random: u32) -> Result<(), Refusal>
+        ensures { asked.tells self.old told.now random result self.new };
+
     /// Asks before the first run of a request, with a random word. `OutOfTurn` where one is under way.
+    #[inline(always)]
     fn admit(&mut self, now: Moment, random: u32) -> Result<(), Refusal>
-        ensures { asked.admits self.old now random result self.new };
+        ensures { asked.tells self.old (told_as.Admit now) random result self.new }
+    {
+        self.tell(&Told::Admit(now), random)
+    }
 
     /// Asks for a retry, at a cost and with a random word, after its run failed and before it waits. The slot that an
     /// earlier retry held is given back. `OutOfTurn` where no request is under way.
+    #[inline(always)]
     fn draw(&mut self, now: Moment, cost: u64, random: u32) -> Result<(), Refusal>
-        ensures { asked.draws self.old now cost random result self.new };
+        ensures { asked.tells self.old (told_as.Draw now cost) random result self.new }
+    {
+        self.tell(&Told::Draw(now, cost), random)
+    }
 
     /// Tells that a run of the request failed, whether it is retried or not.
+    #[inline(always)]
     fn failed(&mut self, now: Moment)
-        ensures { asked.fails self.old now self.new };
+        ensures { Hears asked (told_as.Failed now) self.old self.new }
+    {
+        let _ = self.tell(&Told::Failed(now), 0);
+    }
 
     /// Tells that a run of the request succeeded.
+    #[inline(always)]
     fn succeeded(&mut self, now: Moment)
-        ensures { asked.succeeds self.old now self.new };
+        ensures { Hears asked (told_as.Succeeded now) self.old self.new }
+    {
+        let _ = self.tell(&Told::Succeeded(now), 0);
+    }
 
     /// Tells that the retry that was drawn last is cancelled while it waits: what it cost comes back, once, and so does
     /// its slot.
+    #[inline(always)]
     fn cancelled(&mut self)
-        ensures { asked.cancels self.old self.new };
+        ensures { Hears asked told_as.Cancelled self.old self.new }
+    {
+        let _ = self.tell(&Told::Cancelled, 0);
+    }
 
     /// Tells that the request is over, however: what it holds is given back, once.
+    #[inline(always)]
     fn ended(&mut self)
-        ensures { asked.ends self.old self.new };
+        ensures { Hears asked told_as.Ended self.old self.new }
+    {
+        let _ = self.tell(&Told::Ended, 0);
+    }
 
-    /// The same limit for another thread's requests.
+    /// The same limit for another thread's requests. Where there is none, a part may have been given away.
     fn split(&mut self) -> Result<Self, SplitFault>
-        ensures { IfOk result (λ part. asked.splits self.old part self.new) };
+        ensures part { IfOk result (λ part. asked.splits self.old part self.new) }
+        ensures spared { asked.spares self.old self.new };
 }

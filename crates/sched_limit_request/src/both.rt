@@ -1,9 +1,10 @@
 //! Two limits at once.
+ghost use Rattle.std.specs.Prelude.{◌≡◌};
+ghost use Rattle.sched_limit_request.specs.Pairs.{undo_of};
 
 use crate::asks::Asks;
 use crate::fault::SplitFault;
-use sched_limit::Refusal;
-use sched_time::Moment;
+use sched_limit::{Refusal, Told};
 
 /// Two limits that one request asks, the first one first: both grant, or what the first one granted is given back. A
 /// breaker stands second, since a probe that it admitted is not given back.
@@ -18,57 +19,39 @@ impl<A: Asks, B: Asks> Asks for Both<A, B> {
 
     ghost asked = { both_asked A.asked B.asked };
 
-    fn admit(&mut self, now: Moment, random: u32) -> Result<(), Refusal> {
-        match self.first.admit(now, random) {
+    fn tell(&mut self, told: &Told, random: u32) -> Result<(), Refusal> {
+        let Some(undo) = undo_of(told) else {
+            let _ = self.first.tell(told, random);
+            return self.second.tell(told, random);
+        };
+        match self.first.tell(told, random) {
             Ok(()) => {}
             Err(why) => return Err(why),
         }
-        match self.second.admit(now, random) {
+        match self.second.tell(told, random) {
             Ok(()) => Ok(()),
             Err(why) => {
-                self.first.ended();
+                let _ = self.first.tell(&undo, 0);
                 Err(why)
             }
         }
-    }
-
-    fn draw(&mut self, now: Moment, cost: u64, random: u32) -> Result<(), Refusal> {
-        match self.first.draw(now, cost, random) {
-            Ok(()) => {}
-            Err(why) => return Err(why),
-        }
-        match self.second.draw(now, cost, random) {
-            Ok(()) => Ok(()),
-            Err(why) => {
-                self.first.cancelled();
-                Err(why)
-            }
-        }
-    }
-
-    fn failed(&mut self, now: Moment) {
-        self.first.failed(now);
-        self.second.failed(now);
-    }
-
-    fn succeeded(&mut self, now: Moment) {
-        self.first.succeeded(now);
-        self.second.succeeded(now);
-    }
-
-    fn cancelled(&mut self) {
-        self.first.cancelled();
-        self.second.cancelled();
-    }
-
-    fn ended(&mut self) {
-        self.first.ended();
-        self.second.ended();
     }
 
     fn split(&mut self) -> Result<Both<A, B>, SplitFault> {
         let first = self.first.split()?;
         let second = self.second.split()?;
         Ok(Both { first, second })
+    }
+}
+
+// What takes back what was asked and granted, if anything is to be.
+#[inline(always)]
+fn undo_of(told: &Told) -> Option<Told>
+    ensures { result ≡ undo_of told.now }
+{
+    match told {
+        Told::Admit(_) => Some(Told::Ended),
+        Told::Draw(_, _) => Some(Told::Cancelled),
+        _ => None,
     }
 }

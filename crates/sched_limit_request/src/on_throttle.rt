@@ -1,19 +1,20 @@
 //! A throttle, and whether a request is under way.
 ghost use Rattle.std.specs.Prelude.{◌≡◌, false, IfOk};
+ghost use Rattle.sched_limit_word.specs.View.{first_view};
 ghost use Rattle.sched_limit_request.specs.Sides.{IsSameSide};
-ghost use Rattle.sched_limit_request.specs.Windows.{Counts, IsTurn};
+ghost use Rattle.sched_limit_request.specs.Windows.{Counts, IsTurn, counted_after, views};
 
 use crate::asks::Asks;
 use crate::fault::SplitFault;
-use crate::side::{Side, Turn};
-use sched_limit::{Refusal, Throttle};
-use sched_limit_word::{MAX_TRIES, RacesLost};
+use crate::side::Side;
+use sched_limit::{Refusal, Throttle, Told, Turn, counts_at, lost_answer, uncounted};
+use sched_limit_word::MAX_TRIES;
 use sched_time::{Moment, NoMemory};
 use std::alloc::Global;
 use std::marker::Model;
 
-/// A pass of a throttle, and whether a request is under way. Even windows have one word and odd ones another. What asks
-/// in a window closes the one before first, so that what that one counted is final. Contracts see it as these.
+/// A pass of a throttle, and whether a request is under way. Even windows have one word and odd ones another. What
+/// counts in a window closes the one before first, so that what that one counted is final. Contracts see it as these.
 #[derive(Drop)]
 pub struct OnThrottle {
     even: Side,
@@ -44,6 +45,8 @@ impl OnThrottle {
     pub fn new(alloc: Global, throttle: Throttle) -> Result<OnThrottle, NoMemory>
         ensures throttle { IfOk result (λ d. d.throttle ≡ throttle) }
         ensures counted { IfOk result (λ d. d.counted ≡ false) }
+        ensures even { IfOk result (λ d. d.even.has ≡ first_view 0) }
+        ensures odd { IfOk result (λ d. d.odd.has ≡ first_view 0) }
     {
         let even = Side::new(alloc, throttle)?;
         let odd = Side::new(alloc, throttle)?;
@@ -68,39 +71,24 @@ impl Asks for OnThrottle {
 
     ghost asked = { window_asked };
 
-    fn admit(&mut self, now: Moment, random: u32) -> Result<(), Refusal> {
-        if self.counted {
-            return Err(Refusal::OutOfTurn);
-        }
+    #[inline(always)]
+    fn tell(&mut self, told: &Told, random: u32) -> Result<(), Refusal> {
+        let Some(now) = counts_at(told, self.counted) else {
+            let answer = uncounted(told);
+            self.counted = counted_after(told, &answer, self.counted);
+            return answer;
+        };
         self.latest = self.even.throttle().window_near(now, self.latest);
-        match ask(&mut self.even, &mut self.odd, now, random, self.latest) {
-            Ok(()) => {
-                self.counted = true;
-                Ok(())
-            }
-            Err(why) => Err(why),
-        }
-    }
-
-    fn draw(&mut self, now: Moment, _cost: u64, random: u32) -> Result<(), Refusal> {
-        if !self.counted {
-            return Err(Refusal::OutOfTurn);
-        }
-        self.latest = self.even.throttle().window_near(now, self.latest);
-        ask(&mut self.even, &mut self.odd, now, random, self.latest)
-    }
-
-    fn failed(&mut self, _now: Moment) {}
-
-    fn succeeded(&mut self, now: Moment) {
-        self.latest = self.even.throttle().window_near(now, self.latest);
-        accept(&mut self.even, &mut self.odd, now, self.latest);
-    }
-
-    fn cancelled(&mut self) {}
-
-    fn ended(&mut self) {
-        self.counted = false;
+        let answer = count(
+            &mut self.even,
+            &mut self.odd,
+            told,
+            random,
+            now,
+            self.latest,
+        );
+        self.counted = counted_after(told, &answer, self.counted);
+        answer
     }
 
     fn split(&mut self) -> Result<OnThrottle, SplitFault> {
@@ -115,70 +103,56 @@ impl Asks for OnThrottle {
     }
 }
 
-/// Asks in the window of this moment, which is guessed, or in a later one that has begun.
+/// Whether a request is under way after what it tells.
 #[inline(always)]
-fn ask(even: &mut Side, odd: &mut Side, now: Moment, random: u32, guess: u64) -> Result<(), Refusal>
+fn counted_after(told: &Told, answer: &Result<(), Refusal>, counted: bool) -> bool
+    ensures { result ≡ counted_after told.now answer.now counted }
+{
+    match told {
+        Told::Admit(_) => counted || answer.is_ok(),
+        Told::Ended => false,
+        _ => counted,
+    }
+}
+
+/// Counts what a request tells in the window of this moment, which is guessed, or in a later one that has begun.
+#[inline(always)]
+fn count(
+    even: &mut Side,
+    odd: &mut Side,
+    told: &Told,
+    random: u32,
+    now: Moment,
+    guess: u64,
+) -> Result<(), Refusal>
     requires { odd.old.limit.machine ≡ even.old.limit.machine }
     ensures even { IsSameSide even.old even.new }
     ensures odd { IsSameSide odd.old odd.new }
-    ensures asked { Counts even.old.limit.machine random result even.new.pass odd.new.pass }
+    ensures counts { Counts even.old.limit.machine told.now random now result (views even.old.pass odd.old.pass)
+        (views even.new.pass odd.new.pass) }
 {
     let mut at = now;
     for _ in 0..MAX_TRIES {
-        match ask_at(even, odd, at, random, guess) {
+        match turn(even, odd, told, random, at, guess) {
             Turn::Done(answer) => return answer,
             Turn::Later(moment) => at = moment,
         }
     }
-    Err(Refusal::RacesLost)
+    lost_answer(told)
 }
 
-/// Closes the window before that of this moment, and asks in this one.
+/// One turn: closes the window before that of this moment, and counts in this one.
 #[inline(always)]
-fn ask_at(even: &mut Side, odd: &mut Side, at: Moment, random: u32, guess: u64) -> Turn
+fn turn(even: &mut Side, odd: &mut Side, told: &Told, random: u32, at: Moment, guess: u64) -> Turn
     requires { odd.old.limit.machine ≡ even.old.limit.machine }
     ensures even { IsSameSide even.old even.new }
     ensures odd { IsSameSide odd.old odd.new }
-    ensures done { IsTurn even.old.limit.machine random result even.new.pass odd.new.pass }
+    ensures turns { IsTurn even.old.limit.machine told.now random at result (views even.old.pass odd.old.pass)
+        (views even.new.pass odd.new.pass) }
 {
     if even.throttle().window_near(at, guess) % 2 == 0 {
-        match odd.closed(at) {
-            Ok(before) => even.counted(at, random, before),
-            Err(RacesLost) => Turn::Done(Err(Refusal::RacesLost)),
-        }
+        even.turn(odd, told, random, at)
     } else {
-        match even.closed(at) {
-            Ok(before) => odd.counted(at, random, before),
-            Err(RacesLost) => Turn::Done(Err(Refusal::RacesLost)),
-        }
-    }
-}
-
-/// Counts a success in the window of this moment, which is guessed, or in a later one that has begun.
-fn accept(even: &mut Side, odd: &mut Side, now: Moment, guess: u64)
-    ensures even { IsSameSide even.old even.new }
-    ensures odd { IsSameSide odd.old odd.new }
-{
-    let mut at = now;
-    for _ in 0..MAX_TRIES {
-        match accept_at(even, odd, at, guess) {
-            None => return,
-            Some(later) => at = later,
-        }
-    }
-}
-
-/// Closes the window before that of this moment, and counts a success in this one. The moment of a later window, where
-/// that has begun.
-fn accept_at(even: &mut Side, odd: &mut Side, at: Moment, guess: u64) -> Option<Moment>
-    ensures even { IsSameSide even.old even.new }
-    ensures odd { IsSameSide odd.old odd.new }
-{
-    if even.throttle().window_near(at, guess) % 2 == 0 {
-        let _ = odd.closed(at);
-        even.accepted(at)
-    } else {
-        let _ = even.closed(at);
-        odd.accepted(at)
+        odd.turn(even, told, random, at)
     }
 }

@@ -1,12 +1,14 @@
 //! A pass of the limit of a throttle's even windows, or of its odd ones.
-ghost use Rattle.std.specs.Prelude.{◌≡◌, IfOk};
-ghost use Rattle.sched_limit_word.specs.View.{part_of};
-ghost use Rattle.sched_limit_word.specs.declared.call.Call.{Call};
-ghost use Rattle.sched_limit_request.specs.Sides.{IsSameSide, CountsHere};
+ghost use Rattle.std.specs.Prelude.{◌≡◌, IfOk, IfErr};
+ghost use Rattle.sched_limit_word.specs.Calls.{LostRaces};
+ghost use Rattle.sched_limit_word.specs.View.{first_view, part_of, without_part};
+ghost use Rattle.sched_limit_request.specs.Limits.{IsSpared};
+ghost use Rattle.sched_limit_request.specs.Sides.{IsSameSide};
+ghost use Rattle.sched_limit_request.specs.Windows.{Closes, TriesOn, Turns};
 
 use crate::fault::SplitFault;
-use sched_limit::{Refusal, Refuses, Throttle};
-use sched_limit_word::{Call, Limit, MAX_TRIES, Machine, Pass, RacesLost};
+use sched_limit::{Throttle, Told, Turn, count_of, lost_answer, tries_of};
+use sched_limit_word::{Call, Limit, Machine, Pass, RacesLost};
 use sched_time::{Moment, NoMemory};
 use std::alloc::Global;
 use std::marker::Model;
@@ -19,13 +21,6 @@ pub struct Side {
     limit: Arc<Limit<Throttle>>,
     /// The word that it closed a window with, where it has made no other call since.
     closed: Option<u64>,
-}
-
-/// What came of a try: it is done, or a later window has begun at this moment.
-#[derive(Drop)]
-pub enum Turn {
-    Done(Result<(), Refusal>),
-    Later(Moment),
 }
 
 impl Model for Side {
@@ -43,7 +38,8 @@ impl Model for Side {
 impl Side {
     /// The first pass of the windows of a new throttle.
     pub fn new(alloc: Global, throttle: Throttle) -> Result<Side, NoMemory>
-        ensures { IfOk result (λ s. s.limit.machine ≡ throttle) }
+        ensures machine { IfOk result (λ s. s.limit.machine ≡ throttle) }
+        ensures first { IfOk result (λ s. s.pass.has ≡ first_view 0) }
     {
         let (limit, pass) = Limit::new(alloc, throttle)?;
         match Arc::new(alloc, limit) {
@@ -63,11 +59,28 @@ impl Side {
         self.limit.machine()
     }
 
+    /// One turn of what a request tells at this moment: the other side closes the window before, and this one counts.
+    #[inline(always)]
+    pub fn turn(&mut self, other: &mut Side, told: &Told, random: u32, at: Moment) -> Turn
+        requires { other.old.limit.machine ≡ self.old.limit.machine }
+        ensures this { IsSameSide self.old self.new }
+        ensures that { IsSameSide other.old other.new }
+        ensures turns { Turns self.old.limit.machine told.now random at result self.old.pass.has other.old.pass.has
+            self.new.pass.has other.new.pass.has }
+    {
+        match other.closed(at, tries_of(told)) {
+            Ok(before) => self.count(told, random, at, before),
+            Err(RacesLost) => Turn::Done(lost_answer(told)),
+        }
+    }
+
     /// Closes the window before that of this moment, and answers the word that it was closed with. It is closed once.
     #[inline(always)]
-    pub fn closed(&mut self, at: Moment) -> Result<u64, RacesLost>
+    fn closed(&mut self, at: Moment, tries: u64) -> Result<u64, RacesLost>
         ensures same { IsSameSide self.old self.new }
-        ensures seen { IfOk result (λ word. self.new.pass.has.seen ≡ word) }
+        ensures ok { IfOk result (λ before.
+            Closes self.old.limit.machine at before self.old.pass.has self.new.pass.has) }
+        ensures err { IfErr result (λ _. LostRaces tries self.old.pass.has self.new.pass.has) }
     {
         if let Some(word) = self.closed {
             if self.limit.machine().has_closed(at, word) {
@@ -75,53 +88,34 @@ impl Side {
             }
         }
         self.closed = None;
-        let found = self.pass.call(&*self.limit, Call::Closed(at), MAX_TRIES)?;
+        let found = self.pass.call(&*self.limit, Call::Closed(at), tries)?;
         let word = self.limit.machine().next(Call::Closed(at), found);
         self.closed = Some(word);
         Ok(word)
     }
 
-    /// Asks in the window of this moment, by the word that the one before was closed with.
+    /// Counts what a request tells in the window of this moment, by the word that the one before was closed with.
     #[inline(always)]
-    pub fn counted(&mut self, at: Moment, random: u32, before: u64) -> Turn
+    fn count(&mut self, told: &Told, random: u32, at: Moment, before: u64) -> Turn
         ensures same { IsSameSide self.old self.new }
-        ensures done { CountsHere self.old.limit.machine (Call.Admit at random before) result self.new.pass }
+        ensures tries { TriesOn self.old.limit.machine told.now random at before result self.old.pass.has
+            self.new.pass.has }
     {
         self.closed = None;
-        let call = Call::Admit(at, random, before);
-        let Ok(found) = self.pass.call(&*self.limit, call, MAX_TRIES) else {
-            return Turn::Done(Err(Refusal::RacesLost));
-        };
-        let throttle = self.limit.machine();
-        match throttle.refusal(Call::Admit(at, random, before), found) {
-            Some(Refusal::RacesLost) => Turn::Later(throttle.moment_of(found)),
-            Some(why) => Turn::Done(Err(why)),
-            None => Turn::Done(Ok(())),
-        }
-    }
-
-    /// Counts a success in the window of this moment. The moment of a later window, where that has begun.
-    pub fn accepted(&mut self, at: Moment) -> Option<Moment>
-        ensures same { IsSameSide self.old self.new }
-    {
-        self.closed = None;
-        let call = Call::Succeeded(at, 0, 0);
-        let Ok(found) = self.pass.call(&*self.limit, call, u64::MAX) else {
-            return None;
-        };
-        let throttle = self.limit.machine();
-        if throttle.is_late(at, found) {
-            Some(throttle.moment_of(found))
-        } else {
-            None
+        let call = count_of(told, random, at, before);
+        match self.pass.call(&*self.limit, call, tries_of(told)) {
+            Ok(word) => self.limit.machine().turn_of(told, random, at, before, word),
+            Err(RacesLost) => Turn::Done(lost_answer(told)),
         }
     }
 
     /// A pass of the same windows for another thread.
     pub fn split(&mut self) -> Result<Side, SplitFault>
-        ensures same { IsSameSide self.old self.new }
-        ensures ok { IfOk result (λ part.
-            IsSameSide self.old part × (part.pass.has ≡ part_of self.old.pass.has)) }
+        ensures limit { self.new.limit ≡ self.old.limit }
+        ensures spared { IsSpared self.old.pass self.new.pass }
+        ensures same { IfOk result (λ part. IsSameSide self.old part) }
+        ensures part { IfOk result (λ part. part.pass.has ≡ part_of self.old.pass.has) }
+        ensures left { IfOk result (λ part. self.new.pass.has ≡ without_part self.old.pass.has) }
     {
         let Ok(limit) = Arc::try_clone(&self.limit) else {
             return Err(SplitFault::NoMemory);

@@ -32,8 +32,7 @@ Gives (Err (Plan NoMemory)) answer = Unit {0}
 Gives r answer = r ≡ answer
 
 -- the answer is that of the node's builder, or that there is no such node; memory is asked for only where there are
--- plans,
--- which are copied
+-- plans, which are copied
 abbrev pub IsNode : List ℕ → List ℕ → Option Schedule → Option Schedule → Result Schedule NodeFault → Type 0
 IsNode name numbers first second (Err (Plan NoMemory)) = IsSome first
 IsNode name numbers first second r = r ≡ answer_of (node_given name numbers first second)

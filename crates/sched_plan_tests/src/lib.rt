@@ -1,4 +1,4 @@
-//! Tests of `sched_plan`, `sched_plan_node` and `sched_plan_course` by their public calls alone. They stand apart so
+//! Tests of `sched_plan` and `sched_plan_course` by their public calls alone. They stand apart so
 //! that they are proved without a second proof of these libraries.
 #![tactic(auto)]
 

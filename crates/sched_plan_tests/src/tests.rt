@@ -2,7 +2,6 @@
 use std::process::Abort;
 
 mod courses;
-mod nodes;
 mod plans;
 mod values;
 

@@ -1,8 +1,6 @@
 -- A worked example, computed with the definitions alone: three requests at moment 0, a reserve of one ticket each 100
--- ms and
--- a share of a third. Two jobs draw the two tickets of the window 0, the third fails there and is refused, and the
--- first
--- draws the reserves of the windows 1 and 2.
+-- ms and a share of a third. Two jobs draw the two tickets of the window 0, the third fails there and is refused, and
+-- the first draws the reserves of the windows 1 and 2.
 use Rattle.std.proofs.Common.{ℕ, [], ◌∷◌, true, Some, None, refl, arith}
 use Rattle.sched_plan.specs.Datum.{num}
 use Rattle.sched_plan.specs.Schedule.{leaf}

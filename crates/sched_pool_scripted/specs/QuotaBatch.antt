@@ -56,8 +56,7 @@ abbrev pub asked_in : ℕ → ℕ → ℕ
 asked_in requests w = if w == 0 then requests else 0
 
 -- where a job was refused, these windows of all tickets have the one in which it failed last as often as so many
--- requests
--- in the window 0 allow
+-- requests in the window 0 allow
 abbrev pub IsJust : Terms → ℕ → List ℕ → Past → Type 0
 IsJust k requests windows v = is_refused v.over ≡ true →
     times (last_window k v) windows ≡ allowed k (asked_in requests (last_window k v))

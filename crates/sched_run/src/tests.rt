@@ -18,7 +18,6 @@ mod answers;
 mod calls;
 mod deadlines;
 mod draws;
-mod endings;
 mod guide;
 mod plays;
 mod polls;

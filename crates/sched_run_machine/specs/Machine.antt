@@ -143,8 +143,7 @@ module _ {R D : Type 0} (driving : Driving R) (kind : Kind) (grants : Grants D) 
   Looks m t false = (v : Retrying D) → IsMachineOf m v → IsDue v.past t
 
   -- each task that the machine may stand for comes by one poll, in which these runs finish, to one that it may stand
-  -- for
-  -- then
+  -- for then
   abbrev pub LeadsEach : Machine R D → Tick → List Ran → Machine R D → Type 0
   LeadsEach m t told n = (v : Retrying D) → IsMachineOf m v →
       (u : Retrying D) × HostPoll grants kind v t told u × IsMachineOf n u

@@ -17,8 +17,7 @@ use Rattle.sched_task_law.specs.Codes.{coded_past}
 use Rattle.sched_run_machine.specs.Drives.{Driving}
 
 -- A retry that is driven by a value of R and draws its tickets by one of D, or a repeat, which has such a value and
--- draws
--- none.
+-- draws none.
 pub record RetryingOf (R D : Type 0) : Type 0 where
   -- what it has done so far
   pub past : PastOf R

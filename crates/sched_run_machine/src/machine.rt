@@ -21,9 +21,8 @@ use std::alloc::Global;
 use std::marker::{Model, PhantomData};
 
 /// What makes a call that is run again and again, as its driver's schedule says: a retry until it succeeds, with a
-/// ticket
-/// for each run after a failure, or a repeat until it fails, without tickets. It says when to run the call and when to
-/// wait, and is told how each run went.
+/// ticket for each run after a failure, or a repeat until it fails, without tickets. It says when to run the call and
+/// when to wait, and is told how each run went.
 ///
 /// Contracts speak of each retry, or each repeat, that it may stand for: each that the calls made on it so far can have
 /// led to.
@@ -113,9 +112,8 @@ impl<R: Drives, D: Draws, A: Aims> Machine<R, D, A> {
     }
 
     /// Begins a run at the tick, where none is under way, it is not over and waits for no later moment. Where its
-    /// driver
-    /// has a deadline and the tick is past that, it ends as `DeadlinePassed` and begins none, unless no run was made
-    /// yet.
+    /// driver has a deadline and the tick is past that, it ends as `DeadlinePassed` and begins none, unless no run was
+    /// made yet.
     #[inline(always)]
     pub fn poll(&mut self, tick: &Tick)
         ensures polls { PollsEach R.driving (A.kind R.driving.keeps) D.grants self.old tick.entry.now [] self.new }

@@ -22,13 +22,13 @@ bucket = Limited (limit.Bucket (record { capacity = 14; floor = 0; debit = 0; cr
 abbrev drew : Bool × LimitState
 drew = drawing bucket false 5 0 (failed bucket)
 
-a_retry_takes : (drew.0 ≡ true) × (drew.1.word ≡ 9)
+a_retry_takes : (drew.0 ≡ true) × (drew.1.words.word ≡ 9)
 a_retry_takes = (refl, refl)
 
-late : ((drawing bucket true 9 0 drew.1).0 ≡ false) × ((drawing bucket true 9 0 drew.1).1.word ≡ 9)
+late : ((drawing bucket true 9 0 drew.1).0 ≡ false) × ((drawing bucket true 9 0 drew.1).1.words.word ≡ 9)
 late = (refl, refl)
 
-gives_back : ((succeeding bucket 9 0 drew.1).word ≡ 14) × ((succeeding bucket 9 1 drew.1).word ≡ 10)
+gives_back : ((succeeding bucket 9 0 drew.1).words.word ≡ 14) × ((succeeding bucket 9 1 drew.1).words.word ≡ 10)
 gives_back = (refl, refl)
 
 -- One retry in flight: that of request 1 is refused until request 0 is over.

@@ -1,5 +1,5 @@
--- The definitions that the contracts of `sched_storm_limit` cite: which limits of a storm are in range, and how one
--- stands.
+-- What the contracts of `sched_storm_limit` cite.
 pub mod Ranges
 pub mod Limits
+pub mod Words
 pub mod States

@@ -1,5 +1,5 @@
 -- What retries may draw on.
-use Rattle.std.specs.Prelude.{ℕ, ◌≤◌, Bool, true, false}
+use Rattle.std.specs.Prelude.{◌≤◌, Bool, true, false}
 use Rattle.sched_ticket_quota.specs.Held.{AreTerms}
 use Rattle.sched_limit.specs.Bucket as bucket
 use Rattle.sched_storm_limit.specs.declared.draws.Draws.{Draws}

@@ -3,9 +3,9 @@
 //! stands on `sched_limit`, which has the machines.
 #![tactic(auto)]
 
-mod asked;
 mod draws;
 mod stand;
+mod words;
 
 pub use draws::{Draws, Limit};
-pub use stand::{Hold, Stand};
+pub use stand::Stand;

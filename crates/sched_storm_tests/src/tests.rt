@@ -1,20 +1,16 @@
-//! Storms that are worked out by hand. The peer does a call a millisecond and is never away where nothing else is said.
+//! A storm by each call, and the ranges of their parameters. The peer does a call a millisecond and is never away.
+//! `tests/worked_storms.py` has the storms that are worked out by hand.
 use sched_plan::{Plan, PlanFault, SharedPlan};
-use sched_storm::{Draws, Parameters, Report, Span, Storm, Totals};
+use sched_storm::{Parameters, Report, Span, Storm, Totals};
 use sched_time::NoMemory;
 use std::alloc::Global;
 use std::fmt::Write;
 use std::process::Abort;
 use std::test::Fail;
 
-mod limits;
-mod peers;
 mod populations;
 mod ranges;
 mod rates;
-mod replicas;
-mod retries;
-mod windows;
 
 // A storm of so many requests a second, for a second, that come so many at one moment.
 fn storm_of(rate: u64, together: u64) -> Parameters {
@@ -95,7 +91,19 @@ fn recovers(rt: &impl Abort, totals: &Totals, want: Option<u64>) {
     assert_eq!(rt; totals.recovered, want);
 }
 
-// A plan of so many retries, each so many milliseconds after the failure.
-fn spaced(alloc: Global, retries: u64, millis: u64) -> Result<Plan, PlanFault> {
-    Plan::meet(alloc, Plan::recurs(retries)?, Plan::spaced(millis)?)
+#[test]
+fn one_request(rt: HostRuntime) -> Result<(), Fail> {
+    let totals = plays(
+        &rt,
+        rt.alloc(),
+        storm_of(1, 1),
+        Plan::recurs(3),
+        "0 1 1 0 1 0 0 0 0\n",
+    )?;
+    ends(&rt, &totals, [1, 1, 0, 0, 0, 1, 0]);
+    calls(&rt, &totals, [100, 1, 0]);
+    takes(&rt, &totals, [Some(1), Some(1), Some(1)]);
+    recovers(&rt, &totals, Some(0));
+    assert!(rt; !totals.is_cut);
+    Ok(())
 }

@@ -15,8 +15,7 @@ pub record OfQuota : Type 0 where
   pub quota : Name
 
 -- a draw at a moment: the pass gained a ticket of the moment's window or of a later one, which it may hand back, or it
--- was
--- refused for a reason
+-- was refused for a reason
 abbrev pub QuotaDrew : OfQuota → ℕ → Bool → OfQuota → Type 0
 QuotaDrew d now true e = (e.quota ≡ d.quota)
     × (t : ℕ) × Drew d.quota now d.pass.has t e.pass.has × (e.pass.latest ≡ Some t)

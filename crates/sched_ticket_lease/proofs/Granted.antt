@@ -1,14 +1,13 @@
 -- What one call changes of what a holder has at hand, and what all its calls come to.
-use Rattle.std.proofs.Common.{◌≡◌, ℕ, ◌+◌, ◌-◌, ◌<◌, ◌≤◌, ◌⊎◌, List, [], ◌∷◌, inl, inr, sym, ap, arith, ◌∙◌}
+use Rattle.std.proofs.Common.{◌≡◌, ℕ, ◌+◌, ◌≤◌, ◌⊎◌, List, [], ◌∷◌, inl, inr, sym, ap, arith, ◌∙◌}
 use mathlib.Core.Logic.{dite}
 use native.Mathlib.Decide.{ℕ_discrete}
-use Rattle.sched_ticket.specs.Lists.{total, below, is, Each}
+use Rattle.sched_ticket.specs.Lists.{total, Each}
 use Rattle.sched_ticket_lease.specs.Spans.{between, weight}
 use Rattle.sched_ticket_lease.specs.Holders.{Holder, IsNew, Takes, AddsGrant, TurnsTo}
 use Rattle.sched_ticket_lease.specs.Histories.{Call, Does, Step, AreMade, IsHistory, in_window, drew_by, took_by}
 use Rattle.sched_ticket_lease.specs.Histories.{back_by, lent_by, drew_in, took_in, back_in, lent_in, DrawsWereGranted}
 use Rattle.sched_ticket_lease.specs.Histories.Call.{drew, took, handed_back, lent, counted, told, left_alone}
-use Rattle.sched_ticket_lease.specs.declared.ticket.Ticket.{Ticket}
 use Rattle.sched_ticket_lease.specs.declared.ticket.Grant.{Grant}
 use Rattle.sched_ticket_lease.proofs.Counts.{of-same, of-other}
 

@@ -1,6 +1,5 @@
 -- No ticket is drawn once its window is over.
-use Rattle.std.proofs.Common.{◌≡◌, ℕ, ◌+◌, ◌<◌, ◌≤◌, ◌⊎◌, min, List, [], ◌∷◌, inl, inr, sym, ap, subst, arith, ◌∙◌}
-use Rattle.std.proofs.Common.{⊎_elim}
+use Rattle.std.proofs.Common.{◌≡◌, ◌<◌, ◌≤◌, ◌⊎◌, List, [], ◌∷◌, inl, inr, sym, subst, arith, ◌∙◌}
 use Rattle.sched_ticket.specs.Lists.{Each}
 use Rattle.sched_ticket_lease.specs.Holders.{Holder, Takes, AddsGrant, TurnsTo}
 use Rattle.sched_ticket_lease.specs.Histories.{Call, Does, Step, AreMade, IsInTime, EndsBy, AllEnd, NoneIsDrawnLate}

@@ -1,5 +1,5 @@
 -- What is out, where spans may be forgotten.
-use Rattle.std.proofs.Common.{◌≡◌, ℕ, ◌+◌, ◌≤◌, ◌⊎◌, List, inl, inr, arith, ◌∙◌, sym}
+use Rattle.std.proofs.Common.{◌≡◌, ℕ, ◌≤◌, List, inl, inr, arith}
 use Rattle.sched_ticket_lease.specs.Spans.{weight}
 use Rattle.sched_ticket_lease.specs.Holders.{Remembers}
 use Rattle.sched_ticket_lease.specs.declared.span.Span.{Span}

@@ -1,13 +1,13 @@
 -- All holders of what a store keeps, by what it leased.
-use Rattle.std.proofs.Common.{◌≡◌, ℕ, ◌+◌, ◌<◌, ◌≤◌, List, [], ◌∷◌, sym, ap, arith, ◌∙◌}
+use Rattle.std.proofs.Common.{◌≡◌, ℕ, ◌+◌, List, [], ◌∷◌, arith}
 use mathlib.Core.Logic.{dite}
 use native.Mathlib.Decide.{ℕ_discrete}
-use Rattle.sched_ticket.specs.Lists.{total, below, is, Each}
+use Rattle.sched_ticket.specs.Lists.{total, is}
 use Rattle.sched_ticket.proofs.Sums.{below-is}
 use Rattle.sched_ticket_quota.specs.Windows.{within}
 use Rattle.sched_ticket_lease.specs.Spans.{between}
-use Rattle.sched_ticket_lease.specs.Laws.{Taken, AreTaken, has, tickets_in}
-use Rattle.sched_ticket_lease.specs.Histories.{Step, leased_by, SharedNumbersStandOnce, SharedWindowsAreKept}
+use Rattle.sched_ticket_lease.specs.Laws.{Taken, has, tickets_in}
+use Rattle.sched_ticket_lease.specs.Histories.{leased_by, SharedNumbersStandOnce, SharedWindowsAreKept}
 use Rattle.sched_ticket_lease.proofs.Counts.{of-same, of-other}
 use Rattle.sched_ticket_lease.proofs.Ranges.{ranges_stand_once, windows_are_kept}
 use Rattle.sched_ticket_lease.proofs.Weights.{counted}

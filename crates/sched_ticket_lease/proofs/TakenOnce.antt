@@ -1,14 +1,14 @@
 -- A holder takes each number of a window once, and once more for each time that it lent it.
-use Rattle.std.proofs.Common.{◌≡◌, ℕ, ◌+◌, ◌-◌, ◌<◌, ◌≤◌, ◌⊎◌, max, List, [], ◌∷◌, inl, inr, refl, sym, ap, subst}
+use Rattle.std.proofs.Common.{◌≡◌, ℕ, ◌+◌, ◌<◌, ◌≤◌, ◌⊎◌, List, [], ◌∷◌, inl, inr, refl, sym, ap, subst}
 use Rattle.std.proofs.Common.{arith, ◌∙◌, ⊎_elim, lt_of_not-le}
 use mathlib.Core.Logic.{dite}
 use native.Mathlib.Decide.{ℕ_discrete, dec_le}
-use Rattle.sched_ticket.specs.Lists.{below, is, once_below}
+use Rattle.sched_ticket.specs.Lists.{is}
 use Rattle.sched_ticket.proofs.Sums.{below-is, once_below-yes, once_below-no, once_below-le}
-use Rattle.sched_ticket_lease.specs.Spans.{between, span_weight, weight}
+use Rattle.sched_ticket_lease.specs.Spans.{between, weight}
 use Rattle.sched_ticket_lease.specs.Holders.{Holder, Remembers, Takes, Adds, AddsGrant, TurnsTo}
-use Rattle.sched_ticket_lease.specs.Histories.{Call, Does, Step, AreMade, IsHistory, took_by, lent_by, took_in, lent_in}
-use Rattle.sched_ticket_lease.specs.Histories.{drew_in, back_in, NumbersAreTakenOnce, NumbersAreOutOnce}
+use Rattle.sched_ticket_lease.specs.Histories.{Call, Does, Step, AreMade, took_by, lent_by, took_in, lent_in}
+use Rattle.sched_ticket_lease.specs.Histories.{NumbersAreTakenOnce, NumbersAreOutOnce}
 use Rattle.sched_ticket_lease.specs.Histories.Call.{drew, took, handed_back, lent, counted, told, left_alone}
 use Rattle.sched_ticket_lease.specs.declared.span.Span.{Span}
 use Rattle.sched_ticket_lease.specs.declared.ticket.Grant.{Grant}

@@ -1,22 +1,22 @@
 -- What is told was counted, and is told once.
-use Rattle.std.proofs.Common.{◌≡◌, ℕ, ◌+◌, ◌<◌, ◌≤◌, ◌⊎◌, min, List, [], ◌∷◌, ◌++◌, take, drop, length, cond, inl, inr}
+use Rattle.std.proofs.Common.{◌≡◌, ℕ, ◌+◌, ◌<◌, ◌≤◌, ◌⊎◌, List, [], ◌∷◌, ◌++◌, drop, length, cond, inl, inr}
 use Rattle.std.proofs.Common.{ap, arith, lt-ltb, le-ltb, lt_of_not-le}
 use Rattle.std.specs.Prelude.{if◌then◌else◌, nat_lt}
 use mathlib.Core.Logic.{dite}
 use native.Mathlib.Decide.{dec_le}
 use Rattle.std.proofs.lemmas.List.Sums.{sum_by_push, sum_by-take-drop, sum_by-le-sum_by}
 use Rattle.sched_ticket.specs.Lists.{total}
-use Rattle.sched_ticket_lease.specs.Requests.{slice_since, since_then, recent, Grows, Begins}
+use Rattle.sched_ticket_lease.specs.Requests.{Asked, slice_since, since_then, recent, Grows, Begins}
 use Rattle.sched_ticket_lease.specs.Holders.{Holder}
 use Rattle.sched_ticket_lease.specs.Histories.{Call, Does, Step, AreMade, told_by, counted_by, RequestsAreToldOnce}
 use Rattle.sched_ticket_lease.specs.Histories.Call.{drew, took, handed_back, lent, counted, told, left_alone}
 use Rattle.sched_ticket_lease.specs.declared.slice.Slice.{Slice}
 
 -- what counts from a moment on
-from-on : (at since n : ℕ) → since ≤ at → (if nat_lt at since then 0 else n) ≡ n
+pub from-on : (at since n : ℕ) → since ≤ at → (if nat_lt at since then 0 else n) ≡ n
 from-on at since n le = ap (λ b. cond b 0 n) (le-ltb at since le)
 
-from-before : (at since n : ℕ) → at < since → (if nat_lt at since then 0 else n) ≡ 0
+pub from-before : (at since n : ℕ) → at < since → (if nat_lt at since then 0 else n) ≡ 0
 from-before at since n lt = ap (λ b. cond b 0 n) (lt-ltb at since lt)
 
 slice-less : (a b : ℕ) → a ≤ b → (s : Slice) → slice_since b s ≤ slice_since a s
@@ -25,7 +25,7 @@ slice-less a b le s = dite (dec_le b s.began)
     (λ not. omega (arith, from-before s.began b s.count (lt_of_not-le not)))
 
 module _ (since : ℕ) where
-  pushed : (xs ys : List Slice) (s : Slice) → ys ≡ xs ++ s ∷ [] →
+  pub pushed : (xs ys : List Slice) (s : Slice) → ys ≡ xs ++ s ∷ [] →
       since_then since ys ≡ since_then since xs + slice_since since s
   pushed xs ys s e =
       omega (
@@ -68,15 +68,15 @@ module _ (since : ℕ) where
         from-before g.grown.began since g.grown.count (omega (arith, g.began, lt_of_not-le not)),
       ))
 
-  begins-less : (now n : ℕ) (old new : List Slice) → Begins now n old new →
-      since_then since new ≤ (if nat_lt now since then 0 else n) + since_then since old
-  begins-less now n old new b =
-      let after = pushed (recent old) new b.slice b.is in
+  begins-less : (now n : ℕ) (a : Asked) (new : List Slice) → Begins now n a new →
+      since_then since new ≤ (if nat_lt now since then 0 else n) + since_then since a.slices
+  begins-less now n a new b =
+      let after = pushed (recent a.slices) new b.slice b.is in
       dite (dec_le since now)
       (λ on. omega (
         arith,
         after,
-        recent-less old,
+        recent-less a.slices,
         b.count,
         from-on b.slice.began since b.slice.count (omega (arith, b.began, on)),
         from-on now since n on,
@@ -84,23 +84,23 @@ module _ (since : ℕ) where
       (λ not. omega (
         arith,
         after,
-        recent-less old,
+        recent-less a.slices,
         from-before b.slice.began since b.slice.count (omega (arith, b.began, lt_of_not-le not)),
       ))
 
-  counts-less : (now n : ℕ) (old new : List Slice) → Grows now n old new ⊎ Begins now n old new →
-      since_then since new ≤ (if nat_lt now since then 0 else n) + since_then since old
-  counts-less now n old new (inl g) = grows-less now n old new g
-  counts-less now n old new (inr b) = begins-less now n old new b
+  counts-less : (now n : ℕ) (a : Asked) (new : List Slice) → Grows now n a.slices new ⊎ Begins now n a new →
+      since_then since new ≤ (if nat_lt now since then 0 else n) + since_then since a.slices
+  counts-less now n a new (inl g) = grows-less now n a.slices new g
+  counts-less now n a new (inr b) = begins-less now n a new b
 
-  step-told : (c : Call) (h k : Holder) → Does c h k →
+  pub step-told : (c : Call) (h k : Holder) → Does c h k →
       told_by since c + since_then since k.requests.slices ≤ counted_by since c + since_then since h.requests.slices
   step-told (drew now t) h k d = omega (arith, ap (λ r. since_then since r.slices) d.requests)
   step-told (took g) h k d = omega (arith, ap (λ (xs : List Slice). since_then since xs) d.slices)
   step-told (handed_back t) h k d = omega (arith, ap (λ r. since_then since r.slices) d.requests)
   step-told (lent most g) h k d = omega (arith, ap (λ (x : Holder). since_then since x.requests.slices) d.same)
   step-told (counted now n) h k d =
-      omega (arith, counts-less now n h.requests.slices k.requests.slices d.counts.2)
+      omega (arith, counts-less now n h.requests k.requests.slices d.counts.2)
   step-told (told began n) h k d =
       let none = ap (λ (xs : List Slice). since_then since xs) d.tells.none_left in
       dite (dec_le since began)

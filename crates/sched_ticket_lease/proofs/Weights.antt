@@ -1,12 +1,12 @@
 -- Sets of numbers as spans, by what they weigh.
-use Rattle.std.proofs.Common.{◌≡◌, ℕ, zero, suc, ◌+◌, ◌-◌, ◌*◌, ◌<◌, ◌≤◌, ◌⊎◌, List, [], ◌∷◌, ◌++◌, length, get_or, inl}
-use Rattle.std.proofs.Common.{inr, subst, ap, arith}
+use Rattle.std.proofs.Common.{◌≡◌, ℕ, zero, suc, ◌+◌, ◌-◌, ◌*◌, ◌<◌, ◌≤◌, List, [], ◌∷◌, ◌++◌, length, get_or, inl}
+use Rattle.std.proofs.Common.{inr, max, subst, ap, arith}
 use Rattle.std.specs.Prelude.{All, HoldsAt, sum_by}
-use Rattle.std.proofs.lemmas.List.Sums.{sum_by-le, sum_by_push}
-use Rattle.sched_ticket.specs.Lists.{below, is, once_below}
+use Rattle.std.proofs.lemmas.List.Sums.{sum_by-le, sum_by_push, get_or-le-sum_by}
+use Rattle.sched_ticket.specs.Lists.{below, is}
 use Rattle.sched_ticket.proofs.Sums.{below_more, below-one, below-is, once_below-yes, once_below-no, once_below-le}
 use Rattle.sched_ticket_lease.specs.declared.span.Span.{Span}
-use Rattle.sched_ticket_lease.specs.Spans.{between, span_weight, weight, IsApart, IsNotIn, HasNone}
+use Rattle.sched_ticket_lease.specs.Spans.{between, span_weight, weight, IsApart, Meets, IsNotIn, HasNone, HasSome}
 
 module _ (q : ℕ → ℕ) where
   below-up : (a k : ℕ) → below q a ≤ below q (a + k)
@@ -51,6 +51,30 @@ all-apart spans a b apart n low high =
     sum_by-le (λ (s : Span). span_weight (is n) s) 0 spans
     (λ k d lt. apart-none (get_or spans k d) a b n (apart k d lt) low high) in
     omega arith
+
+-- a span that meets numbers has one of them: the first, or its own first
+meets-some : (s : Span) (a b : ℕ) → a < b → Meets s a b →
+    (n : ℕ) × (a ≤ n) × (n < b) × (0 < span_weight (is n) s)
+meets-some s a b lt meets = (
+  max a s.first,
+  omega arith,
+  omega (arith, meets.0),
+  (let some = s.some in omega (
+    arith,
+    below-is (max a s.first) s.first,
+    below-is (max a s.first) s.end,
+    once_below-no (max a s.first) s.first (omega arith),
+    once_below-yes (max a s.first) s.end (omega (arith, meets.1)),
+  )),
+)
+
+pub some-meets : (spans : List Span) (a b at : ℕ) → a < b → at < length spans → HoldsAt (λ s. Meets s a b) spans at →
+    HasSome spans a b
+some-meets (s ∷ ss) a b at lt low meets =
+    let some = meets-some (get_or (s ∷ ss) at s) a b lt (meets s) in
+    let whole = get_or-le-sum_by (λ (s : Span). span_weight (is some.0) s) (s ∷ ss) at s low in
+    (some.0, some.1, some.2, omega (arith, some.3))
+some-meets [] a b at lt low meets = absurd (let no : ⊥ = omega arith in no)
 
 not-in : (s : Span) (n : ℕ) → IsNotIn s n → span_weight (is n) s ≤ 0
 not-in s n (inl before) = omega (

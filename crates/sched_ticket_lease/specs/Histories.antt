@@ -1,9 +1,10 @@
 -- What holds of holders of leases, over any list of calls. Each law is the contract of a function of the module `laws`.
-use Rattle.std.specs.Prelude.{◌≡◌, ℕ, ◌+◌, ◌<◌, ◌≤◌, List, [], ◌∷◌, if◌then◌else◌, ◌==◌, nat_lt}
+use Rattle.std.specs.Prelude.{◌≡◌, ℕ, ◌+◌, ◌*◌, ◌<◌, ◌≤◌, ◌⊎◌, min, List, [], ◌∷◌, if◌then◌else◌, ◌==◌, nat_lt}
 use Rattle.sched_ticket.specs.Lists.{total, Each, is}
 use Rattle.sched_ticket_lease.specs.Leases.{allows}
 use Rattle.sched_ticket_lease.specs.Laws.{Taken, AreTaken, told_in}
 use Rattle.sched_ticket_lease.specs.Spans.{between}
+use Rattle.sched_ticket_lease.specs.Requests.{Asked}
 use Rattle.sched_ticket_lease.specs.Holders.{Holder, IsHolder, IsNew, Draws, Takes, HandsBack, Lends, CountsRequests}
 use Rattle.sched_ticket_lease.specs.Holders.{TellsRequests}
 use Rattle.sched_ticket_lease.specs.declared.lease.Grants.{Grants}
@@ -153,3 +154,40 @@ told_by since _ = 0
 abbrev pub RequestsAreToldOnce : Type 0
 RequestsAreToldOnce = (steps : List Step) → IsHistory steps → (since : ℕ) →
     total (λ (s : Step). told_by since s.call) steps ≤ total (λ (s : Step). counted_by since s.call) steps
+
+-- Requests are counted at this moment, in the window that began at `since` or before it. Where there are windows, the
+-- end of one that the holder knows is a whole number of windows before the end of that one, or this end; and it is no
+-- further ahead than a window is long.
+abbrev pub IsTimely : ℕ → ℕ → Asked → Type 0
+IsTimely since now a =
+    ((a.period ≡ 0) × (since ≡ 0) × (now ≤ 4611686018427387903))
+    ⊎ ((0 < a.period) × (now < since + a.period) × (a.border ≤ now + a.period)
+    × ((k : ℕ) × (a.border + k * a.period ≡ since + a.period)))
+
+-- a call of those that count requests, none of them before the one before it, and tell none
+abbrev pub Goes : ℕ → ℕ → Asked → Call → Type 0
+Goes since from a (counted now n) = (from ≤ now) × IsTimely since now a
+Goes since from a (told began n) = ⊥
+Goes since from a _ = Unit {0}
+
+-- the moment of the last that counted any
+abbrev pub latest : ℕ → Call → ℕ
+latest from (counted now n) = now
+latest from _ = from
+
+abbrev pub AreCounted : ℕ → ℕ → Holder → List Step → Type 0
+AreCounted since from h [] = Unit {0}
+AreCounted since from h (s ∷ ss) =
+    Goes since from h.requests s.call × AreCounted since (latest from s.call) s.after ss
+
+-- the holder after these calls
+abbrev pub left_by : Holder → List Step → Holder
+left_by h [] = h
+left_by h (s ∷ ss) = left_by s.after ss
+
+-- A holder that had told all its requests, and counted others since, tells those that it counted in the present window,
+-- each of them.
+abbrev pub RequestsAreKept : Type 0
+RequestsAreKept = (h : Holder) (steps : List Step) → h.requests.slices ≡ [] → AreMade h steps → (since : ℕ) →
+    AreCounted since 0 h steps → (n : ℕ) (k : Holder) → TellsRequests since n (left_by h steps) k →
+    n ≡ min (total (λ (s : Step). counted_by since s.call) steps) 18446744073709551615

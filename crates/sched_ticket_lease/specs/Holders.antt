@@ -1,7 +1,7 @@
 -- What contracts see of a leased pass, and what each call does to it.
-use Rattle.std.specs.Prelude.{◌≡◌, ◌≢◌, ℕ, ◌+◌, ◌-◌, ◌≤◌, ◌<◌, ◌⊎◌, min, max, List, [], length}
+use Rattle.std.specs.Prelude.{◌≡◌, ◌≢◌, ℕ, ◌+◌, ◌-◌, ◌≤◌, ◌<◌, ◌⊎◌, min, max, List, [], ◌∷◌, ◌++◌, length}
 use Rattle.sched_ticket.specs.Lists.{is}
-use Rattle.sched_ticket_lease.specs.Spans.{between, span_weight, weight, HasNone}
+use Rattle.sched_ticket_lease.specs.Spans.{between, span_weight, weight, HasNone, HasSome}
 use Rattle.sched_ticket_lease.specs.Requests.{Asked, Counts, Tells}
 use Rattle.sched_ticket_lease.specs.declared.span.Span.{Span}
 use Rattle.sched_ticket_lease.specs.declared.ticket.Ticket.{Ticket}
@@ -78,6 +78,10 @@ pub record IsFree (h : Holder) (a b : ℕ) : Type 0 where
   pub at_hand : HasNone h.at_hand a b
   pub out : HasNone h.out a b
 
+-- a holder has one of the numbers from a up to b, or they begin below the end of those that it forgot
+abbrev pub IsHeld : Holder → ℕ → ℕ → Type 0
+IsHeld h a b = (a < b) × ((a < h.floor) ⊎ HasSome h.at_hand a b ⊎ HasSome h.out a b)
+
 -- The numbers from a up to b, of the holder's window that ends then, come to what is at hand: none of them was held,
 -- nor is below
 -- the floor.
@@ -107,7 +111,7 @@ pub record Holds (h : Holder) (window a b until : ℕ) (k : Holder) : Type 0 whe
 
 -- or they are not, for this reason: some were held, or there is no memory
 abbrev pub HoldsNone : Holder → ℕ → ℕ → ℕ → GrantFault → Type 0
-HoldsNone h window a b grant_fault.HeldAlready = (window ≡ h.window) × (a < b)
+HoldsNone h window a b grant_fault.HeldAlready = (window ≡ h.window) × IsHeld h a b
 HoldsNone h window a b grant_fault.NoMemory = Unit {0}
 HoldsNone h window a b _ = ⊥
 
@@ -134,7 +138,7 @@ pub record Takes (h : Holder) (g : Grant) (k : Holder) : Type 0 where
 abbrev pub TakesNone : Holder → Grant → GrantFault → Type 0
 TakesNone h g grant_fault.TooLarge = 18446744073709551616 ≤ g.first + g.tickets
 TakesNone h g grant_fault.Backwards = g.window < h.window
-TakesNone h g grant_fault.HeldAlready = (g.window ≡ h.window) × (0 < g.tickets)
+TakesNone h g grant_fault.HeldAlready = (g.window ≡ h.window) × IsHeld h g.first (g.first + g.tickets)
 TakesNone h g grant_fault.NoMemory = h.window ≤ g.window
 
 -- a ticket that was out is at hand, and out no longer
@@ -155,12 +159,16 @@ abbrev pub HandsNone : Holder → Ticket → NotBack → Type 0
 HandsNone h t not_back.NotOut = (t.window ≢ h.window) ⊎ (weight (is t.number) h.out ≡ 0)
 HandsNone h t not_back.NoMemory = t.window ≡ h.window
 
--- a range is given up to another holder
+-- A range is given up to another holder: as many tickets as are asked for, or all of a span.
 pub record Lends (most : ℕ) (h : Holder) (g : Grant) (k : Holder) : Type 0 where
   pub in_window : g.window ≡ h.window
   pub ends : g.until ≡ h.until
   pub some : 0 < g.tickets
-  pub few : g.tickets ≤ most
+  pub front : List Span
+  pub last : Span
+  pub span : h.at_hand ≡ front ++ last ∷ []
+  pub first : g.first ≡ last.first
+  pub many : g.tickets ≡ min most (last.end - last.first)
   pub at_hand : (q : ℕ → ℕ) → weight q h.at_hand ≡ weight q k.at_hand + between q g.first (g.first + g.tickets)
   pub same : k ≡ record h { at_hand = k.at_hand }
 

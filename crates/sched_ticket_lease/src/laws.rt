@@ -3,7 +3,7 @@
 ghost use Rattle.sched_ticket_lease.specs.Laws.{RangesStandOnce, WindowsAreKept};
 ghost use Rattle.sched_ticket_lease.specs.Histories.{DrawsWereGranted, NumbersAreTakenOnce, NumbersAreOutOnce};
 ghost use Rattle.sched_ticket_lease.specs.Histories.{SharedNumbersStandOnce, SharedWindowsAreKept};
-ghost use Rattle.sched_ticket_lease.specs.Histories.{NoneIsDrawnLate, RequestsAreToldOnce};
+ghost use Rattle.sched_ticket_lease.specs.Histories.{NoneIsDrawnLate, RequestsAreToldOnce, RequestsAreKept};
 
 /// Each number of a window is in at most one range, whatever terms each process has.
 pub fn ranges_stand_once()
@@ -40,4 +40,10 @@ pub fn none_is_drawn_late()
 /// No request is told twice, and none of before a window with those of the window.
 pub fn requests_are_told_once()
     ensures { RequestsAreToldOnce }
+{}
+
+/// However often and however long a holder counted requests since it told any, it tells each of those that were counted
+/// in the present window, where its moments don't go back and it knows when windows end.
+pub fn requests_are_kept()
+    ensures { RequestsAreKept }
 {}

@@ -3,8 +3,8 @@ ghost use Rattle.std.specs.Prelude.{◌≡◌, ℕ, [], ◌<◌, ◌≤◌, IfOk
 ghost use Rattle.std.specs.Prelude.{◌⊎◌};
 ghost use Rattle.sched_ticket_lease.specs.Spans.{weight};
 ghost use Rattle.sched_ticket_lease.specs.Requests.{since_then};
-ghost use Rattle.sched_ticket_lease.specs.Holders.{IsNew, Remembers, Draws, DrawsNone, IsFree, Holds, HoldsNone, Takes};
-ghost use Rattle.sched_ticket_lease.specs.Holders.{TakesNone};
+ghost use Rattle.sched_ticket_lease.specs.Holders.{IsNew, Remembers, Draws, DrawsNone, IsFree, IsHeld, Holds};
+ghost use Rattle.sched_ticket_lease.specs.Holders.{HoldsNone, Takes, TakesNone};
 ghost use Rattle.sched_ticket_lease.specs.Holders.{HandsBack, HandsNone, Lends, CountsRequests, TellsRequests};
 
 use crate::requests::Requests;
@@ -180,7 +180,7 @@ impl Leased {
 
     // Whether it has, or had, one of the numbers from `first` up to `end`.
     fn overlaps(&self, first: u64, end: u64) -> bool
-        ensures { MatchBool result (first < end) (IsFree self.now first end) }
+        ensures { MatchBool result (IsHeld self.now first end) (IsFree self.now first end) }
     {
         if first >= end {
             return false;

@@ -1,6 +1,6 @@
 //! Requests that were counted, and that no store was told yet.
-ghost use Rattle.std.specs.Prelude.{◌≡◌, ◌<◌, ◌≤◌, ◌⊎◌, [], IfOk, IfErr, MatchBool, min, vec_len, vec_capacity};
-ghost use Rattle.sched_ticket_lease.specs.Requests.{since_then, Grows, Begins, Counts, Tells};
+ghost use Rattle.std.specs.Prelude.{◌≡◌, ◌<◌, [], ◌∷◌, ◌++◌, IfOk, IfErr, MatchBool, min, vec_len, vec_capacity};
+ghost use Rattle.sched_ticket_lease.specs.Requests.{since_then, slice_end, recent, Grows, HaveEnded, Counts, Tells};
 
 use crate::slice::Slice;
 use sched_time::{FAR, Millis, Moment};
@@ -55,8 +55,12 @@ impl Requests {
     {
         self.slices.reserve(1)?;
         if !grow_last(&mut self.slices, now.get(), requests) {
-            let ends = self.end_of(now);
-            begin_slice(&mut self.slices, now.get(), ends, requests);
+            let slice = Slice {
+                began: now.get(),
+                ends: self.end_of(now),
+                count: requests,
+            };
+            begin_slice(&mut self.slices, slice);
         }
         Ok(())
     }
@@ -89,8 +93,7 @@ impl Requests {
 
     // When a slice that begins now ends: after a sixteenth of a window, or with the window where that is earlier.
     fn end_of(&self, now: Moment) -> u64
-        ensures later { now < result }
-        ensures border { now < self.now.border → (self.now.period ≡ 0) ⊎ (result ≤ self.now.border) }
+        ensures { result ≡ slice_end self.now now }
     {
         let (now, border, period) = (now.get(), self.border.get(), self.period.get());
         if period == 0 {
@@ -108,33 +111,35 @@ impl Requests {
 // Counts so many requests in the last slice, where it lasts.
 fn grow_last(slices: &mut Vec<Slice>, now: u64, requests: u64) -> bool
     ensures grows { MatchBool result (Grows now requests slices.old.items slices.new.items)
-        (slices.new.items ≡ slices.old.items) }
+        (HaveEnded now slices.old.items × (slices.new.items ≡ slices.old.items)) }
     ensures len { vec_len slices.new ≡ vec_len slices.old }
     ensures capacity { vec_capacity slices.new ≡ vec_capacity slices.old }
 {
     let Some(last) = slices.pop() else {
         return false;
     };
-    let lasts = last.began <= now && now < last.ends;
+    if !last.goes_on(now) {
+        slices.push_reserved(last);
+        return false;
+    }
     let Slice { began, ends, count } = last;
-    let count = if lasts {
-        count.saturating_add(requests)
-    } else {
-        count
-    };
-    slices.push_reserved(Slice { began, ends, count });
-    lasts
+    slices.push_reserved(Slice {
+        began,
+        ends,
+        count: count.saturating_add(requests),
+    });
+    true
 }
 
 // Begins a slice, in the place of the oldest where there are so many.
-fn begin_slice(slices: &mut Vec<Slice>, began: u64, ends: u64, count: u64)
+fn begin_slice(slices: &mut Vec<Slice>, slice: Slice)
     requires { vec_len slices.old < vec_capacity slices.old }
-    ensures { Begins began count slices.old.items slices.new.items }
+    ensures { slices.new.items ≡ recent slices.old.items ++ slice ∷ [] }
 {
     if slices.len() >= MAX_SLICES {
         slices.remove(0);
     }
-    slices.push_reserved(Slice { began, ends, count });
+    slices.push_reserved(slice);
 }
 
 // How many were counted in those that began at this moment or later.

@@ -2,7 +2,8 @@
 ghost use Rattle.std.specs.Prelude.{◌≡◌, ℕ, ◌+◌, ◌-◌, ◌<◌, ◌≤◌, [], ◌∷◌, IfSome, IfNone, IfOk, IfErr, OnErr, HoldsAt};
 ghost use Rattle.std.specs.Prelude.{All, length, MatchBool, min, true, false, vec_len, vec_capacity};
 ghost use Rattle.sched_ticket.specs.Lists.{is};
-ghost use Rattle.sched_ticket_lease.specs.Spans.{between, span_weight, weight, HasNone, IsApart, IsIn, IsNotIn, Moves};
+ghost use Rattle.sched_ticket_lease.specs.Spans.{between, span_weight, weight, HasNone, HasSome, IsApart, IsIn};
+ghost use Rattle.sched_ticket_lease.specs.Spans.{IsNotIn, IsTakenOf, Meets, Moves};
 
 use crate::span::Span;
 use std::alloc::{AllocError, Global};
@@ -41,9 +42,10 @@ impl Spans {
 
     /// Whether it has one of these numbers.
     pub(crate) fn overlaps(&self, first: u64, end: u64) -> bool
-        ensures { result ≡ false → HasNone self.now first end }
+        requires { first < end }
+        ensures { MatchBool result (HasSome self.now first end) (HasNone self.now first end) }
     {
-        any_meets(&self.spans, first, end)
+        place_meeting(&self.spans, first, end).is_some()
     }
 
     /// Adds the numbers from `first` up to `end`, which it may have already.
@@ -116,7 +118,7 @@ impl Spans {
     /// Takes up to so many numbers out: of its last span, the first ones.
     pub(crate) fn take_up_to(&mut self, most: u64) -> Option<Span>
         requires { 0 < most }
-        ensures some { IfSome result (λ s. (s.end - s.first ≤ most)
+        ensures some { IfSome result (λ s. IsTakenOf most self.old s
             × ((q : ℕ → ℕ) → weight q self.old ≡ weight q self.new + span_weight q s)) }
         ensures none { IfNone result ((self.old ≡ []) × (self.new ≡ [])) }
     {
@@ -232,11 +234,13 @@ fn take(spans: &mut Vec<Span>, at: usize) -> Span
     spans.swap_remove(at)
 }
 
-// Whether a span has one of the numbers from `first` up to `end`.
-fn any_meets(spans: &[Span], first: u64, end: u64) -> bool
-    ensures { result ≡ false → All (λ s. IsApart s first end) spans.now }
+// Where a span has one of the numbers from `first` up to `end`.
+fn place_meeting(spans: &[Span], first: u64, end: u64) -> Option<usize>
+    ensures some { IfSome result (λ at. (at < length spans.now)
+        × HoldsAt (λ s. Meets s first end) spans.now at) }
+    ensures none { IfNone result (All (λ s. IsApart s first end) spans.now) }
 {
-    spans.iter().any(|span| span.meets(first, end))
+    spans.iter().position(|span| span.meets(first, end))
 }
 
 // Where a span ends at this number.

@@ -1,8 +1,6 @@
 -- A worked example, computed with the definitions alone: what a window carries to the next, of a quota whose reserve is
--- two
--- tickets and whose requests add half a ticket each. Window 0 had ten requests: it may give seven tickets, five of them
--- of its
--- share.
+-- two tickets and whose requests add half a ticket each. Window 0 had ten requests: it may give seven tickets, five of
+-- them of its share.
 use Rattle.std.proofs.Common.{◌≡◌, ℕ, true, false, refl}
 use Rattle.sched_ticket_quota.specs.Windows.{first_of, carried_to, drawn_at}
 use Rattle.sched_ticket_quota.specs.View.{first_of_kind, next_ticket}

@@ -1,8 +1,6 @@
 -- A worked example, computed with the definitions alone: the calls of two passes of a quota whose reserve is one ticket
--- each
--- 100 ms. Between the moments 99 and 100 there are two windows; a call under way, whose clock is at 5000, opens a
--- third, in
--- which the other pass draws. So three tickets are drawn, and as many are allowed.
+-- each 100 ms. Between the moments 99 and 100 there are two windows; a call under way, whose clock is at 5000, opens a
+-- third, in which the other pass draws. So three tickets are drawn, and as many are allowed.
 use Rattle.std.proofs.Common.{◌≡◌, ℕ, ◌+◌, ◌-◌, ◌*◌, ◌/◌, ◌<◌, List, [], ◌∷◌, inl, inr, refl, false, arith}
 use Rattle.std.proofs.lemmas.Bool.{false≢true}
 use Rattle.atomic_table.specs.Seated.{TableId}

@@ -30,8 +30,7 @@ abbrev pub Meets : ℕ → View → View → Type 0
 Meets at v u = (q : ℕ) × (v.seen ≤ q) × (at ≤ window_of q) × (u ≡ with_reading v q)
 
 -- the pass read that it was not, and opened it. Of a quota that carries it has noted before, for all draws there, how
--- many
--- requests the window before had, where it was the latest.
+-- many requests the window before had, where it was the latest.
 abbrev pub Opens : ℕ → View → View → Type 0
 Opens at v u = (q found : ℕ) × (v.seen ≤ q) × (q ≤ found) × (window_of q < at)
     × (u ≡ with_opening (with_note (with_reading v q) (note_for at (with_reading v q)))
@@ -44,8 +43,7 @@ Turned b now v u = let at = window_at b.terms b.start now in
     ((at ≤ window_of v.seen) × (u ≡ v)) ⊎ (Meets at v u ⊎ Opens at v u)
 
 -- the pass has gained the numbers of n requests, from q on, which is of the window that it came to or of a later one.
--- They
--- are none where the requests are past the last window.
+-- They are none where the requests are past the last window.
 abbrev pub Counted : ℕ → View → View → Type 0
 Counted n u w =
     ((12884901888000000000 ≤ u.told) × (w ≡ u))
@@ -66,8 +64,7 @@ RefusesChange reserve share ShareTooLarge = (reserve ≤ 4294967296) × (1000000
 RefusesChange reserve share _ = ⊥
 
 -- a pass that has tried to draw: it has read the terms and the requests and looked at the draws, it may have read how
--- many
--- tickets were handed back and how many requests the window before had, and has gained nothing
+-- many tickets were handed back and how many requests the window before had, and has gained nothing
 pub record Tried (v u : View) : Type 0 where
   pub same : u ≡ record v {
     current = u.current;
@@ -91,21 +88,18 @@ pub record Tried (v u : View) : Type 0 where
   pub looked : v.looks < u.looks
 
 -- So many tickets were found dealt in the latest window as the terms that were read allow for its requests, and for
--- those
--- that were handed back. So none is left that was carried to it.
+-- those that were handed back. So none is left that was carried to it.
 abbrev pub HasNoRoom : Terms → View → Type 0
 HasNoRoom k w = (floor_of w.carries (terms_of k w.current) w.seen w.back ≤ next_ticket w)
     × IsNoLater w.carries w.found w.seen
 
 -- where draws had not come to the latest window of a quota that carries, a pass has read since how many requests the
--- one
--- before had
+-- one before had
 abbrev pub HasReviewed : View → View → Type 0
 HasReviewed v u = u.carries ≡ true → 2147483648 ≤ first_of (window_of u.seen) - u.found → v.reviews < u.reviews
 
 -- A pass won the ticket t, the next of those carried to the window, or else of its own: it is below what the terms
--- allow for
--- the requests, as both were read for it, and for the tickets handed back, and after all tickets of the pass.
+-- allow for the requests, as both were read for it, and for the tickets handed back, and after all tickets of the pass.
 pub record Won (k : Terms) (v : View) (t : ℕ) (w : View) : Type 0 where
   pub tried : View
   pub tries : Tried v tried
@@ -116,8 +110,7 @@ pub record Won (k : Terms) (v : View) (t : ℕ) (w : View) : Type 0 where
   pub gained : w ≡ with_ticket tried t
 
 -- Why the last draw was refused: it has found no room in the latest window, which ends at that moment, or it has lost
--- 64
--- races with other draws since it looked.
+-- 64 races with other draws since it looked.
 abbrev pub IsWhy : Name → View → Refusal → Type 0
 IsWhy b w (WindowOut next) = HasNoRoom b.terms w × (next ≡ end_of b.terms b.start (window_of w.seen))
 IsWhy b w RacesLost = w.losses ≡ 64
@@ -142,8 +135,7 @@ abbrev pub DrawRefused : Name → ℕ → View → Refusal → View → Type 0
 DrawRefused b now v why w = (u : View) × Turned b now v u × WonNone b u why w
 
 -- what is known of the latest window: the requests as they were read, its tickets as they were found, but for those
--- that
--- were handed back, what is left of them and of those carried to it, and when the next begins
+-- that were handed back, what is left of them and of those carried to it, and when the next begins
 pub record Told (b : Name) (now : ℕ) (v w : View) (told : Usage) : Type 0 where
   pub turned : View
   pub turns : Turned b now v turned
@@ -158,8 +150,7 @@ pub record Told (b : Name) (now : ℕ) (v w : View) (told : Usage) : Type 0 wher
   pub next : told.next ≡ end_of b.terms b.start told.window
 
 -- The pass has handed back its latest ticket. In its window there is one more for all passes, as they read it from then
--- on;
--- where one of a later window was handed back before, it is none there.
+-- on; where one of a later window was handed back before, it is none there.
 pub record HandedBack (v w : View) : Type 0 where
   pub ticket : ℕ
   pub others : List ℕ

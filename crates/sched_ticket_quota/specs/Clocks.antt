@@ -1,6 +1,5 @@
 -- Windows and clocks: which window a call opens, draws and counts in, when it ends, and how many tickets there are
--- between
--- two moments, however long nobody called. Each law is the contract of a function of the module `laws`.
+-- between two moments, however long nobody called. Each law is the contract of a function of the module `laws`.
 use Rattle.std.specs.Prelude.{◌≡◌, ℕ, ◌+◌, ◌-◌, ◌*◌, ◌/◌, ◌<◌, ◌≤◌, ◌⊎◌, List, ◌∷◌, ◌++◌}
 use Rattle.atomic_table.specs.Table.{State}
 use Rattle.sched_ticket.specs.Lists.{below}
@@ -55,19 +54,15 @@ abbrev pub over : (ℕ → ℕ) → ℕ → ℕ → ℕ
 over f w count = below (λ i. f (w + i)) count
 
 -- no terms in force ever had a greater reserve or share than these: of a quota whose terms no pass has set, those that
--- it
--- was made with
+-- it was made with
 abbrev pub AreMost : Terms → List View → Terms → Type 0
 AreMost k views most =
     (j : Terms) → WereInForce k views j → (j.reserve ≤ most.reserve) × (j.share ≤ most.share)
 
 -- However many windows are counted from that of a moment on, their tickets are at most two reserves, one for each
--- period
--- that lies between this moment and another, one for each call that opened a window past that of the other moment, one
--- for
--- each 4294967296 requests of one window, and the share of their requests, by the greatest reserve and share that were
--- in
--- force.
+-- period that lies between this moment and another, one for each call that opened a window past that of the other
+-- moment, one for each 4294967296 requests of one window, and the share of their requests, by the greatest reserve and
+-- share that were in force.
 abbrev pub ClocksAreBounded : Type 0
 ClocksAreBounded = (b : Name) (s : State ℕ View) → AreTerms b.terms → IsKept b.terms s →
     (most : Terms) → AreMost b.terms s.views most → (from to count ahead : ℕ) → from ≤ to →

@@ -40,8 +40,7 @@ pub record IsLaidOut (table : TableId) (key about : Terms) (from : ℕ) : Type 0
   pub early : from ≤ 4611686018427387903
 
 -- a pass keeps what its view has: n tickets, a weight w, the number of its last request, the moment up to which the
--- window
--- of the requests that it has seen is not over, and its latest ticket, where it may be handed back
+-- window of the requests that it has seen is not over, and its latest ticket, where it may be handed back
 pub record IsKnown (m : Sat) (n w told from until : ℕ) (latest : Option ℕ) : Type 0 where
   pub bare : m.1 ≡ []
   pub tickets : length m.0.tickets ≡ n

@@ -47,10 +47,8 @@ IsCalling b now v w = (u : View) × ((u ≡ v) ⊎ Turned b now v u)
     })
 
 -- These calls are all that were made with a pass at some moment, and with those that were joined into it: how it came
--- to
--- its view. It began as the quota's first, or was split from one; one that was joined into another is blank. It may
--- have
--- set terms, and handed tickets back.
+-- to its view. It began as the quota's first, or was split from one; one that was joined into another is blank. It may
+-- have set terms, and handed tickets back.
 pub data Made (b : Name) : List Call → View → Type 0 where
   begins_first : Made b [] (first_of_kind b.carries b.terms)
   has_called : (now : ℕ) (v w : View) (calls : List Call) → v.carries ≡ b.carries → Called b now v w
@@ -84,9 +82,8 @@ opened_after to calls = total (λ (c : Call). if nat_lt to c.moment then c.opene
 -- Of all calls of all passes those from a moment on drew at most two reserves, one for each whole period until another
 -- moment, one for each window that a call opened whose moment is after that, one for each 4294967296 requests, the
 -- share of the requests, and as many as were handed back: of those counted, and handed back, from the first moment's
--- window
--- on, in so many windows that the last ticket was drawn in one of them. Of a quota that carries, it is the share of the
--- requests of the window before as well. Reserve and share are the greatest that were in force.
+-- window on, in so many windows that the last ticket was drawn in one of them. Of a quota that carries, it is the share
+-- of the requests of the window before as well. Reserve and share are the greatest that were in force.
 abbrev pub CallsAreBounded : Type 0
 CallsAreBounded = (b : Name) (s : State ℕ View) → AreTerms b.terms → (kept : IsKept b.terms s) →
     kept.carries ≡ b.carries → (most : Terms) → AreMost b.terms s.views most →

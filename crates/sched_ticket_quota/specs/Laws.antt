@@ -29,8 +29,7 @@ abbrev pub RequestsStandOnce : Type 0
 RequestsStandOnce = Always (λ k s kept. (x : ℕ) → total (λ (v : View). times x v.requests) s.views ≤ 1)
 
 -- in each window the tickets that are out, given and not handed back, never pass the reserve and the share of the
--- requests
--- counted in it so far, by the most generous terms that were in force
+-- requests counted in it so far, by the most generous terms that were in force
 abbrev pub WindowsAreKept : Type 0
 WindowsAreKept = Always (λ k s kept. (w n : ℕ) →
     ((j : Terms) → WereInForce k s.views j → j.reserve + (j.share * requests_in s.views w) / 1000 ≤ n) →
@@ -57,8 +56,7 @@ abbrev pub LatestIsCounted : Type 0
 LatestIsCounted = Always (λ k s kept. asked_of s % 4294967296 ≤ requests_in s.views (window_of (asked_of s)))
 
 -- where a pass has found no room, so many tickets were given in that window, or handed back since, as the terms allow
--- for
--- the requests and for those handed back, as it read all three
+-- for the requests and for those handed back, as it read all three
 abbrev pub RefusalsAreJust : Type 0
 RefusalsAreJust = OfEachPass (λ k s by v. HasNoRoom k v →
     room_of v.carries (terms_of k v.current) v.seen v.back

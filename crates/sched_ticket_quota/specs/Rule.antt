@@ -59,8 +59,7 @@ abbrev pub begins : List View → ℕ → ℕ
 begins views w = openings views (first_of w) + requests_in views (w - 1) / 4294967296
 
 -- The tickets are numbers below `drawn`, each once, and all numbers from the latest window on. Before its first number
--- there
--- may be those of tickets carried to it.
+-- there may be those of tickets carried to it.
 pub record IsDealt (c : Bool) (drawn window : ℕ) (views : List View) : Type 0 where
   pub once : (h : ℕ → ℕ) → total (ticket_weight h) views ≤ below h drawn
   pub all : (h : ℕ → ℕ) → below h drawn ≤ below h (first_of window) + total (ticket_weight h) views
@@ -159,8 +158,7 @@ pub record IsOrderly (k : Terms) (x : Words) (views : List View) : Type 0 where
   pub each : (by : ℕ) (v : View) → get_elem? views by ≡ some v → Fits k x views v
 
 -- the words of a quota's table: the draws lie 16 before the requests, those that came back beside the draws, and beside
--- the
--- requests the terms and the requests of the window before
+-- the requests the terms and the requests of the window before
 abbrev pub drawn_of : State ℕ View → ℕ
 drawn_of s = slice_index s.words 8
 

@@ -56,8 +56,7 @@ abbrev pub IsLater : View → ℕ → Type 0
 IsLater v t = Each (λ x. x < t) v.tickets × (length v.tickets ≤ t) × (t < 17496587910722355200)
 
 -- A race is lost where another draw came since the pass looked: where the word is past the one that it found. A try
--- that
--- finds the word as the pass knew it, and does not meet what it expects, is none.
+-- that finds the word as the pass knew it, and does not meet what it expects, is none.
 abbrev pub wins : Then
 wins s m d n =
     (d ≡ s.first → IsLater m.0 (next_ticket m.0) × Sees m n (with_ticket m.0 (next_ticket m.0)))

@@ -57,8 +57,7 @@ abbrev pub with_change : View → ℕ → View
 with_change v x = record v { changes = x ∷ v.changes; current = x }
 
 -- what a pass notes before it opens this window: of a quota that carries, where it has seen the requests of the one
--- before, how
--- many they are
+-- before, how many they are
 abbrev pub note_for : ℕ → View → ℕ
 note_for at v =
     if v.carries && (window_of v.seen + 1 == at) then first_of at + v.seen % 4294967296 else v.noted

@@ -11,8 +11,7 @@ abbrev pub had_force : Terms → View → ℕ → ℕ
 had_force k v x = is x (word_of k.reserve k.share) + times x v.changes
 
 -- the pass has all parts: in each window it has no more tickets than the most generous terms in force so far allow for
--- its
--- requests
+-- its requests
 pub record IsWhole (k : Terms) (v : View) : Type 0 where
   pub all : v.weight ≡ all_parts
   pub windows : (w n : ℕ) → AllowNoMore k (had_force k v) (count_in w v.requests) n → count_in w v.tickets ≤ n

@@ -58,8 +58,7 @@ late_numbers true = 2147483648
 late_numbers false = 0
 
 -- how many numbers of its own the latest window may deal: so many tickets as its requests allow, and one for each that
--- was
--- handed back
+-- was handed back
 abbrev pub room_of : Bool → Terms → ℕ → ℕ → ℕ
 room_of c k q r = min (allowed k (q % 4294967296) + back_in r (window_of q)) (own_numbers c)
 
@@ -68,16 +67,13 @@ abbrev pub floor_of : Bool → Terms → ℕ → ℕ → ℕ
 floor_of c k q r = first_of (window_of q) + room_of c k q r
 
 -- what a window of n requests that has dealt so many tickets leaves of its share: what it might still give, and no more
--- than
--- the share
+-- than the share
 abbrev pub left_of : Terms → ℕ → ℕ → ℕ
 left_of k n dealt = min (min ((k.share * n) / 1000) (allowed k n - dealt)) 2147483648
 
 -- How many tickets the latest window may draw of the share of the one before, by the words of the requests q, of those
--- of the
--- window before, and of the draws d. They have the last numbers before the window's first: once it has drawn one, those
--- from
--- d on are left, and until then as many as the window before leaves.
+-- of the window before, and of the draws d. They have the last numbers before the window's first: once it has drawn
+-- one, those from d on are left, and until then as many as the window before leaves.
 abbrev pub carried_to : Bool → Terms → ℕ → ℕ → ℕ → ℕ
 carried_to false k q past d = 0
 carried_to true k q past d =

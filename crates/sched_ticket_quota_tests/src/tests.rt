@@ -2,19 +2,13 @@
 ghost use Rattle.std.specs.Prelude.{◌≡◌, ◌≤◌, IfOk};
 ghost use Rattle.sched_ticket_quota.specs.Held.{IsOf};
 
-use sched_ticket_quota::{
-    NotBack, Pass, PassesOut, Quota, QuotaFault, Refusal, Terms, WeightTooLarge,
-};
+use sched_ticket_quota::{Pass, PassesOut, Quota, QuotaFault, Refusal, Terms};
 use sched_time::{Millis, Moment};
 use std::process::Abort;
 
-mod carries;
-mod changes;
 mod passes;
 mod refusals;
-mod returns;
 mod threads;
-mod weights;
 mod windows;
 
 /// What a pass does at a moment, and what is to come of it.
@@ -26,17 +20,10 @@ enum Act {
     IsOut(u64),
     /// A draw loses its races, as no test wants it.
     LosesRaces,
-    /// Of so many draws so many are given a ticket.
-    Gives(u64, u64),
     /// A request is counted.
     Asks,
-    /// So many requests are counted at once.
-    AsksOf(u64, Result<(), WeightTooLarge>),
     /// The window, what was asked, given and is left in it, and when the next begins.
     Sees([u64; 5]),
-    HandsBack(Result<(), NotBack>),
-    /// A reserve and a share are set.
-    Sets(u64, u64, Result<(), QuotaFault>),
     Splits(Option<QuotaFault>),
     Counts(u64),
 }
@@ -82,18 +69,6 @@ fn drawn(quota: &Quota, pass: &mut Pass, now: Moment) -> Act
     }
 }
 
-// How many of so many draws at one moment were given a ticket.
-fn draw_times(quota: &Quota, pass: &mut Pass, now: Moment, times: u64) -> u64
-    requires { IsOf quota.now pass.old }
-    ensures { IsOf quota.now pass.new }
-{
-    let before = pass.granted();
-    for _ in 0..times {
-        let _ticket = pass.draw(quota, now);
-    }
-    pass.granted().wrapping_sub(before)
-}
-
 fn seen(quota: &Quota, pass: &mut Pass, now: Moment) -> Act
     requires { IsOf quota.now pass.old }
     ensures { IsOf quota.now pass.new }
@@ -115,17 +90,11 @@ fn acted(quota: &Quota, pass: &mut Pass, now: Moment, act: Act) -> Act
 {
     match act {
         Act::Draws(_) | Act::IsOut(_) | Act::LosesRaces => drawn(quota, pass, now),
-        Act::Gives(times, _) => Act::Gives(times, draw_times(quota, pass, now, times)),
         Act::Asks => {
             pass.deposit(quota, now);
             Act::Asks
         }
-        Act::AsksOf(weight, _) => Act::AsksOf(weight, pass.deposit_of(quota, now, weight)),
         Act::Sees(_) => seen(quota, pass, now),
-        Act::HandsBack(_) => Act::HandsBack(pass.hand_back(quota)),
-        Act::Sets(reserve, share, _) => {
-            Act::Sets(reserve, share, pass.set_terms(quota, reserve, share))
-        }
         Act::Splits(_) => Act::Splits(pass.split(quota).err()),
         Act::Counts(_) => Act::Counts(pass.granted()),
     }
@@ -220,20 +189,6 @@ fn alone(rt: &impl Abort, new: Result<(Quota, Pass), QuotaFault>, all: &[(u64, A
     let (quota, mut pass) = made(rt, new);
     acts(rt, &quota, &mut pass, all);
     closes(rt, quota, pass, granted);
-}
-
-// A quota of two passes, which do all this and close it with so many tickets.
-fn by_two(
-    rt: &impl Abort,
-    new: Result<(Quota, Pass), QuotaFault>,
-    all: &[(Who, u64, Act)],
-    granted: u64,
-)
-    requires { IfOk new (λ r. IsOf r.0 r.1) }
-{
-    let (quota, mut a, mut b) = parted(rt, new);
-    turns(rt, &quota, &mut a, &mut b, all);
-    closes_with_both(rt, quota, a, b, granted);
 }
 
 // A quota, its first pass and one that is split off.

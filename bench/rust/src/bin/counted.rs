@@ -1,13 +1,13 @@
 //! `counted CASE FAILURES COUNT` makes so many calls, each of which fails so often and then succeeds, by the crate that the
 //! case names, for bench/crates.sh, which counts the instructions. No run waits.
 
-use hikebox::{Breaker, Bucket, Budget, CallLimit, Policy, Quota, RetryPolicy, Retrying, Schedule, Terms};
+use hikebox::{Breaker, Bucket, Budget, CallLimit, Policy, Quota, RetryLayer, Retrying, Schedule, Terms};
 use std::convert::Infallible;
 use std::future::{ready, Future, Ready};
-use std::sync::Arc;
+use std::sync::{Arc, Mutex};
 use std::time::Duration;
-use tower::retry::{budget, Retry};
-use tower::{service_fn, Service, ServiceExt};
+use tower::retry::budget;
+use tower::{service_fn, Layer, Service, ServiceExt};
 
 const WINDOW: Duration = Duration::from_secs(10);
 
@@ -27,15 +27,16 @@ fn main() {
             }
         }
         "hikebox-bucket" => limited_calls(Bucket::aws(), failures, count),
-        "hikebox-breaker" => limited_calls(Breaker::consecutive(5, policy()), failures, count),
+        "hikebox-breaker" => limited_calls(Breaker::consecutive(5, six_nodes()), failures, count),
         "backoff" => backoff_calls(failures, count),
         "tower" => {
             let budget = Arc::new(budget::Budget::new(WINDOW, 1_000_000, 1.0));
-            tower_calls(Attempts { left: 20, budget }, failures, count);
+            let retries = tower::retry::RetryLayer::new(Attempts { left: 20, budget });
+            tower_calls(retries.layer(service(failures)), count);
         }
         "hikebox-in-tower" => {
             let quota = Quota::new(10_000_000, 1.0, WINDOW).expect("a quota");
-            tower_calls(RetryPolicy::new(policy(), quota), failures, count);
+            tower_calls(RetryLayer::new(policy(), quota).layer(service(failures)), count);
         }
         other => panic!("there is no case {other}"),
     }
@@ -133,13 +134,13 @@ impl tower::retry::Policy<u32, u32, u32> for Attempts {
     }
 }
 
-fn tower_calls<P>(policy: P, failures: u32, count: u32)
-where
-    P: tower::retry::Policy<u32, u32, u32> + Clone,
-{
-    let state = Arc::new(std::sync::Mutex::new(call(failures)));
-    let service = service_fn(move |_: u32| ready((state.lock().expect("no panic"))()));
-    let mut service = Retry::new(policy, service);
+/// A service whose calls fail so many times and then succeed, again and again.
+fn service(failures: u32) -> impl Service<u32, Response = u32, Error = u32> + Clone {
+    let call = Arc::new(Mutex::new(call(failures)));
+    service_fn(move |_: u32| ready((call.lock().expect("no panic"))()))
+}
+
+fn tower_calls(mut service: impl Service<u32, Response = u32, Error = u32>, count: u32) {
     run(async {
         for request in 0..count {
             let service = service.ready().await.expect("it is ready");

@@ -1,10 +1,10 @@
 //! Printings of whole plans, worked out by hand.
 use super::fakes::Halting;
 use super::printings::{
-    CUT, Printed, Row, WHOLE, assert_printed, options, printing, prints, prints_from, prints_parts,
-    prints_text, prints_to, refuse_all, refuses, refuses_parts, refuses_text, shows, with_input,
+    CUT, Printed, Row, WHOLE, assert_printed, options, printing, prints, prints_from, prints_text,
+    prints_to, refuse_all, refuses, refuses_parts, refuses_text, shows, with_input,
 };
-use super::texts::{Part, text_of, tree};
+use super::texts::{Part, text_of};
 use sched_cli_plan::{PlanOptions, PrintFault};
 use std::alloc::Global;
 use std::process::Abort;
@@ -195,56 +195,6 @@ fn many_lines_are_few_writes(rt: HostRuntime) {
     for works in 0..8 {
         is_cut_after(&rt, rt.alloc(), &options, lines.as_str(), works);
     }
-}
-
-// Meets of `forever`, nested on the left to a depth of 32, which is the most, and the line of the first event.
-const DEEPEST: [Part; 3] = [(r#"{"meet":["#, 31), (FOREVER, 1), (r#","forever"]}"#, 31)];
-
-const DEEPEST_LINE: [Part; 5] = [
-    ("0: ", 1),
-    ("(", 31),
-    ("0", 1),
-    (", 0)", 31),
-    (" next 0\n", 1),
-];
-
-// The same, one deeper.
-const DEEPER: [Part; 3] = [(r#"{"meet":["#, 32), (FOREVER, 1), (r#","forever"]}"#, 32)];
-
-#[test]
-fn depth_ends_at_32(rt: HostRuntime) {
-    prints_parts(&rt, rt.alloc(), &DEEPEST, 1, &DEEPEST_LINE);
-    refuses_parts(&rt, rt.alloc(), &DEEPER, PrintFault::TooDeep);
-}
-
-// Meets of `forever` as a full tree of so many levels of meets.
-fn full(rt: &impl Abort, alloc: Global, levels: u64) -> String {
-    tree(rt, alloc, FOREVER, (r#"{"meet":["#, ",", "]}"), levels)
-}
-
-// The line of its first event.
-fn full_line(rt: &impl Abort, alloc: Global, levels: u64) -> String {
-    let output = tree(rt, alloc, "0", ("(", ", ", ")"), levels);
-    format!(in alloc; "0: {output} next 0\n").expect(rt, "there is memory")
-}
-
-// A full tree of 6 levels has 127 nodes. This one has 257.
-fn over_full(rt: &impl Abort, alloc: Global) -> String {
-    let half = full(rt, alloc, 6);
-    format!(in alloc; "{{\"meet\":[{half},{{\"meet\":[{half},{FOREVER}]}}]}}").expect(
-        rt,
-        "there is memory",
-    )
-}
-
-#[test]
-fn nodes_end_at_256(rt: HostRuntime) {
-    let alloc = rt.alloc();
-    let text = full(&rt, alloc, 7);
-    let line = full_line(&rt, alloc, 7);
-    prints_text(&rt, alloc, text.as_str(), 1, line.as_str());
-    let over = over_full(&rt, alloc);
-    refuses_text(&rt, alloc, over.as_str(), PrintFault::TooMany);
 }
 
 // Asserts what a printing answers to a writer, which has so much of the lines then. Answers how many writes were made.

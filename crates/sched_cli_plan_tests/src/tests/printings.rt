@@ -145,16 +145,3 @@ pub(crate) fn refuse_all(rt: &impl Abort, alloc: Global, rows: &[(&str, PrintFau
 pub(crate) fn refuses_parts(rt: &impl Abort, alloc: Global, parts: &[Part], fault: PrintFault) {
     refuses_text(rt, alloc, text_of(rt, alloc, parts).as_str(), fault);
 }
-
-/// Asserts that the text of these parts is printed, in so many steps, as the text of those lines.
-pub(crate) fn prints_parts(
-    rt: &impl Abort,
-    alloc: Global,
-    parts: &[Part],
-    steps: u64,
-    lines: &[Part],
-) {
-    let text = text_of(rt, alloc, parts);
-    let lines = text_of(rt, alloc, lines);
-    prints_text(rt, alloc, text.as_str(), steps, lines.as_str());
-}

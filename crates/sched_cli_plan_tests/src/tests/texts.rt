@@ -14,21 +14,3 @@ pub(crate) fn text_of(rt: &impl Abort, alloc: Global, parts: &[Part]) -> String 
     }
     text
 }
-
-/// A full tree of so many levels over these leaves, by what stands before, between and after two of its trees.
-pub(crate) fn tree(
-    rt: &impl Abort,
-    alloc: Global,
-    leaf: &str,
-    (open, between, close): (&str, &str, &str),
-    levels: u64,
-) -> String {
-    let mut text = String::from_str(alloc, leaf).expect(rt, "there is memory");
-    for _ in 0..levels {
-        text = format!(in alloc; "{open}{text}{between}{text}{close}").expect(
-            rt,
-            "there is memory",
-        );
-    }
-    text
-}

@@ -10,8 +10,6 @@ use std::sync::Wait;
 // A job that is granted a ticket at 0 and one at 100, and what is printed of it.
 const TWICE: &str = r#"[{"plan":{"spaced":100},"runs":[{"lost":7},{"lost":7},{"won":1}]}]"#;
 
-const TWICE_TEXT: &str = "job 0: won 1, granted 2\ngranted 2 in 2 windows\n";
-
 // The options of the pool on a quota that the command line asks for.
 fn quota_of(rt: &impl Abort, alloc: Global, line: &str) -> QuotaOptions {
     match &read(alloc, line) {
@@ -68,51 +66,7 @@ where
     (printed, writer.into_inner())
 }
 
-// An input, a command line, what is answered, and what is printed.
-type Row = (
-    &'static str,
-    &'static str,
-    Result<(), PoolFault>,
-    &'static str,
-);
-
 const LINE: &str = "zsched pool --quota 1/0/100";
-
-const PRINTED: [Row; 5] = [
-    (TWICE, LINE, Ok(()), TWICE_TEXT),
-    ("[]", LINE, Ok(()), "granted 0 in 0 windows\n"),
-    (
-        TWICE,
-        "zsched pool --quota 1/0/101",
-        Ok(()),
-        "job 0: budget refused, failure 7, granted 1\ngranted 1 in 1 windows\n",
-    ),
-    (
-        TWICE,
-        "zsched pool --quota 1/0/100 --turns 0",
-        Err(PoolFault::Unfinished),
-        "job 0: not over, granted 0\ngranted 0 in 0 windows\n",
-    ),
-    ("{}", LINE, Err(PoolFault::Print(PrintFault::NotAPlan)), ""),
-];
-
-// Asserts what is answered and printed of the input, with no failed call.
-fn prints<R>(rt: &R, input: &str, line: &str, answer: Result<(), PoolFault>, text: &str)
-where
-    R: Wait + RandomSource + AllocGlobal + Abort,
-{
-    let alloc = rt.alloc();
-    let (printed, taken) = running(rt, alloc, input.as_bytes(), Vec::new(alloc), line);
-    answers(rt, printed, (answer, 0, 0), line);
-    is_written(rt, &taken, text.as_bytes(), line);
-}
-
-#[test]
-fn a_pool_on_a_quota_is_printed(rt: HostRuntime) {
-    for (input, line, answer, text) in &PRINTED {
-        prints(&rt, input, line, *answer, text);
-    }
-}
 
 // A writer that has room for this front of the text alone has it.
 fn is_cut<R>(rt: &R, front: &str)

@@ -71,50 +71,6 @@ fn a_call_at_the_deadline_is_in_time(rt: HostRuntime) {
     assert_granted(&rt, &retry, 2);
 }
 
-#[test]
-fn and_one_a_millisecond_later_is_not(rt: HostRuntime) {
-    let (came, retry) = retried_until(&rt, &mut clock_at(&rt, 1000), 50, Some(1199));
-    assert_came(&rt, came, How::ScheduleDone, Err(2), 1100);
-    assert_granted(&rt, &retry, 1);
-}
-
-// The plan has one recurrence, and is done long before the deadline.
-#[test]
-fn a_plan_that_is_done_has_no_late_start(rt: HostRuntime) {
-    let (came, retry) = retried_until(&rt, &mut clock_at(&rt, 1000), 1, Some(1250));
-    assert_came(&rt, came, How::ScheduleDone, Err(2), 1100);
-    assert_late(&rt, retry.driver(), None);
-}
-
-// The first call is made; no ticket is drawn for a second.
-#[test]
-fn one_call_is_made_where_the_deadline_is_past(rt: HostRuntime) {
-    let (budget, pass) = budget(&rt, rt.alloc(), 10);
-    let deadline = moment(&rt, 999);
-    let (came, retry) = drawn_until(&rt, &mut clock_at(&rt, 1000), &budget, pass, deadline);
-    assert_came(&rt, came, How::ScheduleDone, Err(1), 1000);
-    assert_granted(&rt, &retry, 0);
-    assert_late(&rt, retry.driver(), Some(1100));
-}
-
-#[test]
-fn no_deadline_ends_nothing(rt: HostRuntime) {
-    let (came, retry) = retried_until(&rt, &mut clock_at(&rt, 1000), 2, None);
-    assert_came(&rt, came, How::ScheduleDone, Err(3), 1200);
-    assert_granted(&rt, &retry, 2);
-    assert_late(&rt, retry.driver(), None);
-    assert_left(&rt, retry.driver(), 0, None);
-}
-
-// Calls at 1000, 1100 and 1200; the next one would be at 1300.
-#[test]
-fn no_call_of_a_repeat_is_planned_past_the_deadline(rt: HostRuntime) {
-    let until = until(&rt, rt.alloc(), 50, Some(1250));
-    let (came, repeat) = repeated(&rt, until, &mut clock_at(&rt, 1000), NEVER);
-    assert_came(&rt, came, How::ScheduleDone, Ok(3), 1200);
-    assert_late(&rt, repeat.driver(), Some(1300));
-}
-
 // A clock that wakes so many milliseconds late.
 #[derive(Drop)]
 struct Late {
@@ -152,21 +108,4 @@ fn no_call_begins_past_the_deadline(rt: HostRuntime) {
     assert_came(&rt, came, How::DeadlinePassed, Err(1), 1300);
     assert_granted(&rt, &retry, 1);
     assert_late(&rt, retry.driver(), None);
-}
-
-// The call that was planned at 1100 begins at 1250, which is in time; the next start is 1350.
-#[test]
-fn a_call_that_is_late_but_in_time_is_made(rt: HostRuntime) {
-    let mut late = late_from(&rt, 1000, 150);
-    let (came, retry) = retried_until(&rt, &mut late, 50, Some(1250));
-    assert_came(&rt, came, How::ScheduleDone, Err(2), 1250);
-    assert_late(&rt, retry.driver(), Some(1350));
-}
-
-#[test]
-fn no_call_of_a_repeat_begins_past_the_deadline(rt: HostRuntime) {
-    let until = until(&rt, rt.alloc(), 50, Some(1399));
-    let (came, repeat) = repeated(&rt, until, &mut late_from(&rt, 1000, 100), NEVER);
-    assert_came(&rt, came, How::DeadlinePassed, Ok(2), 1400);
-    assert_late(&rt, repeat.driver(), None);
 }

@@ -9,12 +9,6 @@ type Built = Result<Plan, PlanFault>;
 
 const FAR: u64 = 4611686018427387903;
 
-const REFUSED: Option<PlanFault> = Some(PlanFault::OutOfRange);
-
-const TOO_DEEP: Option<PlanFault> = Some(PlanFault::TooDeep);
-
-const TOO_MANY: Option<PlanFault> = Some(PlanFault::TooMany);
-
 // The leaf at this place, with k as its parameter or as one of them: at places 0 to 11 a number up to `FAR`, at 12 and
 // 13 a length, at 14 and 15 a factor, and after them none.
 fn leaf(place: u64, k: u64) -> Built {
@@ -65,10 +59,6 @@ fn over_one(alloc: Global, place: u64, k: u64, built: Built) -> Built {
     }
 }
 
-fn nothing(alloc: Global, built: Built) -> Built {
-    Plan::nothing(alloc, built?)
-}
-
 // The node over both plans at this place.
 fn over_two(alloc: Global, place: u64, first: Built, second: Built) -> Built {
     let first = first?;
@@ -81,10 +71,6 @@ fn over_two(alloc: Global, place: u64, first: Built, second: Built) -> Built {
     }
 }
 
-fn meet(alloc: Global, first: Built, second: Built) -> Built {
-    Plan::meet(alloc, first?, second?)
-}
-
 fn follow(alloc: Global, first: Built, second: Built) -> Built {
     Plan::follow(alloc, first?, second?)
 }
@@ -94,11 +80,6 @@ fn copied(alloc: Global, plan: &Plan) -> Built {
         Ok(copy) => Ok(copy),
         Err(_) => Err(PlanFault::NoMemory),
     }
-}
-
-// A copy of the plan.
-fn copy(alloc: Global, built: Built) -> Built {
-    copied(alloc, &built?)
 }
 
 // A plan of meets over `forever`, nested on the left so many times.
@@ -117,243 +98,6 @@ fn chained(alloc: Global, times: u64) -> Built {
         plan = Plan::follow(alloc, plan, Plan::forever()?)?;
     }
     Ok(plan)
-}
-
-// `forever` under so many nodes over one plan.
-fn under(alloc: Global, times: u64) -> Built {
-    let mut plan = Plan::forever()?;
-    for _ in 0..times {
-        plan = Plan::nothing(alloc, plan)?;
-    }
-    Ok(plan)
-}
-
-// A plan of meets over `forever`, a full tree: 127 nodes, depth 7.
-fn full(alloc: Global) -> Built {
-    let mut plan = Plan::forever()?;
-    for _ in 0..6 {
-        let twin = copied(alloc, &plan)?;
-        plan = Plan::meet(alloc, plan, twin)?;
-    }
-    Ok(plan)
-}
-
-// 129 nodes, depth 8.
-fn full_and_two(alloc: Global) -> Built {
-    meet(alloc, full(alloc), Plan::forever())
-}
-
-// 255 nodes, depth 8.
-fn twice_full(alloc: Global) -> Built {
-    meet(alloc, full(alloc), full(alloc))
-}
-
-// Asserts that the plan was built, with so many nodes and this depth. The place tells the row.
-fn has(rt: &impl Abort, built: Built, nodes: usize, depth: usize, place: u64) {
-    let plan = built.expect(rt, "it is built");
-    assert_eq!(rt; (plan.nodes(), plan.depth()), (nodes, depth), "at {place}");
-}
-
-// Asserts that the plan was refused with this fault, or with none. Place and number tell the row.
-fn ends(rt: &impl Abort, built: Built, fault: Option<PlanFault>, place: u64, number: u64) {
-    assert_eq!(rt; built.err(), fault, "at {place}, with {number}");
-}
-
-#[test]
-fn leaves_have_one_node(rt: HostRuntime) {
-    for place in 0..19 {
-        has(&rt, leaf(place, 1), 1, 1, place);
-    }
-}
-
-#[test]
-fn numbers_end_at_far(rt: HostRuntime) {
-    for (number, fault) in [
-        (0, None),
-        (FAR, None),
-        (FAR + 1, REFUSED),
-        (u64::MAX, REFUSED),
-    ] {
-        for place in 0..12 {
-            ends(&rt, leaf(place, number), fault, place, number);
-        }
-        for place in 0..6 {
-            let built = over_one(rt.alloc(), place, number, Plan::forever());
-            ends(&rt, built, fault, place, number);
-        }
-    }
-}
-
-#[test]
-fn lengths_begin_at_one(rt: HostRuntime) {
-    for (length, fault) in [
-        (0, REFUSED),
-        (1, None),
-        (FAR, None),
-        (FAR + 1, REFUSED),
-        (u64::MAX, REFUSED),
-    ] {
-        for place in 12..14 {
-            ends(&rt, leaf(place, length), fault, place, length);
-        }
-        for place in 6..8 {
-            let built = over_one(rt.alloc(), place, length, Plan::forever());
-            ends(&rt, built, fault, place, length);
-        }
-    }
-}
-
-#[test]
-fn factors_have_ranges(rt: HostRuntime) {
-    for (factor, whole, thousandths) in [
-        (0, REFUSED, REFUSED),
-        (1, None, None),
-        (1000, None, None),
-        (1001, REFUSED, None),
-        (1000000, REFUSED, None),
-        (1000001, REFUSED, REFUSED),
-        (u64::MAX, REFUSED, REFUSED),
-    ] {
-        ends(&rt, leaf(14, factor), whole, 14, factor);
-        ends(&rt, leaf(15, factor), thousandths, 15, factor);
-    }
-}
-
-fn jitter(alloc: Global, lane: u64, least: u64, most: u64) -> Built {
-    Plan::jitter(alloc, lane, least, most, Plan::forever()?)
-}
-
-#[test]
-fn jitter_has_ranges(rt: HostRuntime) {
-    for (lane, least, most, fault) in [
-        (0, 0, 0, None),
-        (3, 0, 10000, None),
-        (3, 10000, 10000, None),
-        (4, 0, 1000, REFUSED),
-        (u64::MAX, 0, 1000, REFUSED),
-        (0, 1200, 800, REFUSED),
-        (0, 801, 800, REFUSED),
-        (0, 0, 10001, REFUSED),
-        (0, 10001, 10001, REFUSED),
-        (0, 0, u64::MAX, REFUSED),
-    ] {
-        let built = jitter(rt.alloc(), lane, least, most);
-        ends(&rt, built, fault, least, most);
-    }
-}
-
-#[test]
-fn decorrelated_has_ranges(rt: HostRuntime) {
-    for (lane, base, thousandths, most, fault) in [
-        (0, 0, 1000, 0, None),
-        (3, FAR, 1000000, FAR, None),
-        (2, 10, 3000, 10, None),
-        (4, 1, 3000, 9, REFUSED),
-        (u64::MAX, 1, 3000, 9, REFUSED),
-        (0, 1, 0, 9, REFUSED),
-        (0, 1, 999, 9, REFUSED),
-        (0, 1, 1000001, 9, REFUSED),
-        (0, 1, u64::MAX, 9, REFUSED),
-        (0, 10, 3000, 9, REFUSED),
-        (0, 1, 3000, FAR + 1, REFUSED),
-        (0, FAR + 1, 3000, FAR + 1, REFUSED),
-    ] {
-        let built = Plan::decorrelated(lane, base, thousandths, most);
-        ends(&rt, built, fault, lane, thousandths);
-    }
-}
-
-#[test]
-fn depth_ends_at_32(rt: HostRuntime) {
-    let alloc = rt.alloc();
-    has(&rt, nested(alloc, 31), 63, 32, 0);
-    has(&rt, chained(alloc, 31), 63, 32, 1);
-    let met = meet(alloc, nested(alloc, 31), Plan::forever());
-    ends(&rt, met, TOO_DEEP, 0, 31);
-    let met = meet(alloc, chained(alloc, 31), Plan::forever());
-    ends(&rt, met, TOO_DEEP, 1, 31);
-    let followed = follow(alloc, Plan::forever(), copy(alloc, nested(alloc, 31)));
-    ends(&rt, followed, TOO_DEEP, 2, 31);
-    let followed = follow(alloc, Plan::forever(), copy(alloc, chained(alloc, 31)));
-    ends(&rt, followed, TOO_DEEP, 3, 31);
-}
-
-#[test]
-fn nodes_over_one_end_at_32(rt: HostRuntime) {
-    let alloc = rt.alloc();
-    has(&rt, under(alloc, 31), 32, 32, 0);
-    ends(&rt, nothing(alloc, under(alloc, 31)), TOO_DEEP, 0, 31);
-}
-
-// Over a plan of depth 32: a number out of range is found first.
-#[test]
-fn ranges_come_before_depth(rt: HostRuntime) {
-    let alloc = rt.alloc();
-    for place in 0..9 {
-        for (k, fault) in [(FAR + 1, REFUSED), (3, TOO_DEEP)] {
-            let built = over_one(alloc, place, k, under(alloc, 31));
-            ends(&rt, built, fault, place, k);
-        }
-    }
-}
-
-#[test]
-fn each_node_over_one_is_one_more_and_deeper(rt: HostRuntime) {
-    let alloc = rt.alloc();
-    for place in 0..16 {
-        let deepest = over_one(alloc, place, 3, under(alloc, 30));
-        has(&rt, deepest, 32, 32, place);
-        let built = over_one(alloc, place, 3, under(alloc, 31));
-        ends(&rt, built, TOO_DEEP, place, 31);
-    }
-}
-
-#[test]
-fn each_node_over_two_is_one_more_and_deeper(rt: HostRuntime) {
-    let alloc = rt.alloc();
-    for place in 0..4 {
-        let deepest = over_two(alloc, place, under(alloc, 30), under(alloc, 2));
-        has(&rt, deepest, 35, 32, place);
-        let built = over_two(alloc, place, under(alloc, 2), under(alloc, 31));
-        ends(&rt, built, TOO_DEEP, place, 31);
-    }
-}
-
-#[test]
-fn nodes_of_full_trees(rt: HostRuntime) {
-    let alloc = rt.alloc();
-    has(&rt, twice_full(alloc), 255, 8, 0);
-    has(&rt, full_and_two(alloc), 129, 8, 1);
-    has(&rt, nothing(alloc, full(alloc)), 128, 8, 2);
-    has(&rt, nothing(alloc, twice_full(alloc)), 256, 9, 3);
-}
-
-#[test]
-fn nodes_end_at_256(rt: HostRuntime) {
-    let alloc = rt.alloc();
-    let half = nothing(alloc, full(alloc));
-    let twin = copy(alloc, nothing(alloc, full(alloc)));
-    ends(&rt, meet(alloc, half, twin), TOO_MANY, 0, 257);
-    let most = nothing(alloc, twice_full(alloc));
-    ends(&rt, nothing(alloc, copy(alloc, most)), TOO_MANY, 1, 257);
-    let most = nothing(alloc, twice_full(alloc));
-    ends(&rt, over_one(alloc, 4, 5, most), TOO_MANY, 2, 257);
-    let met = meet(alloc, full(alloc), full_and_two(alloc));
-    ends(&rt, met, TOO_MANY, 3, 257);
-    let followed = follow(alloc, full_and_two(alloc), full(alloc));
-    ends(&rt, followed, TOO_MANY, 4, 257);
-}
-
-// Beside a plan of 255 nodes a plan of depth 31 makes too many nodes, and one of depth 32 too many nodes too deep.
-#[test]
-fn too_deep_comes_before_too_many(rt: HostRuntime) {
-    let alloc = rt.alloc();
-    for (times, fault) in [(30, TOO_MANY), (31, TOO_DEEP)] {
-        let met = meet(alloc, nested(alloc, times), twice_full(alloc));
-        ends(&rt, met, fault, 0, times);
-        let followed = follow(alloc, twice_full(alloc), nested(alloc, times));
-        ends(&rt, followed, fault, 1, times);
-    }
 }
 
 fn keep(rt: &impl Abort, plans: &mut Vec<Plan>, built: Built) {
@@ -436,6 +180,12 @@ fn same_where_equal_alone(rt: HostRuntime) {
             agree(&rt, plan.same(other), i, j);
         }
     }
+}
+
+// Asserts that the plan was built, with so many nodes and this depth. The place tells the row.
+fn has(rt: &impl Abort, built: Built, nodes: usize, depth: usize, place: u64) {
+    let plan = built.expect(rt, "it is built");
+    assert_eq!(rt; (plan.nodes(), plan.depth()), (nodes, depth), "at {place}");
 }
 
 fn copies(rt: &impl Abort, alloc: Global, plan: &Plan) {

@@ -1,4 +1,4 @@
-// The page docs/RETRYING.md as code.
+// The page docs/RATTLE.md as code.
 use super::calls::{Cache, Calls};
 use super::plays::drawing_and_fallback;
 use super::*;

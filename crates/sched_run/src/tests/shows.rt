@@ -128,20 +128,14 @@ pub(super) enum Step<'a> {
     Cancels,
     // It is over so, and waits for nothing.
     Over(How),
-    // It is over so; further polls, a cancel and the taking of its ending change nothing more.
-    Stays(How),
     // Its runs have begun at these moments.
     Begun(&'a [u64]),
     // It has these counts.
     Counts(Counts),
-    // Its driver's one event is at this moment, with this input.
-    Event(u64, &'a str),
     // Its driver's last output is this one.
     Output(&'a str),
     // So many polls were counted here.
     Polled(&'a AtomicU64, u64),
-    // It has no ending yet.
-    Untold,
     // It hands out this ending, and none after it.
     Tells(Told),
 }
@@ -167,7 +161,6 @@ where
         Step::Ends(at) => assert!(rt; poll(rt, task, *at), "it is over at {at}"),
         Step::Cancels => task.cancel(),
         Step::Over(how) => is_over(rt, task, *how),
-        Step::Stays(how) => stays(rt, task, *how),
         _ => look(rt, task, step),
     }
 }
@@ -180,16 +173,8 @@ where
     match step {
         Step::Begun(moments) => assert_moments(rt, task.begun(), moments),
         Step::Counts(counts) => assert_eq!(rt; task.counts(), *counts),
-        Step::Event(now, input) => assert_event(
-            rt,
-            rt.alloc(),
-            task.driver().journal(),
-            *now,
-            input,
-        ),
         Step::Output(output) => number_of(rt, rt.alloc(), task.driver().last(), output),
         Step::Polled(polls, want) => assert_eq!(rt; polls.load(Ordering::SeqCst), *want),
-        Step::Untold => assert!(rt; task.told().is_none(), "it has an ending"),
         Step::Tells(told) => tells(rt, task, told),
         _ => assert!(rt; false, "no look"),
     }
@@ -216,30 +201,6 @@ where
 fn is_over<T: Task>(rt: &impl Abort, task: &T, how: How) {
     assert_eq!(rt; task.over(), Some(how));
     assert_eq!(rt; task.due(), None);
-}
-
-fn stays<R, T: Shows>(rt: &R, task: &mut T, how: How)
-where
-    R: RandomSource + AllocGlobal + Abort,
-{
-    let counts = task.counts();
-    let begun = task.begun().len();
-    assert!(rt; poll(rt, task, 1000), "over");
-    task.cancel();
-    assert!(rt; task.told().is_some(), "its ending");
-    assert!(rt; task.told().is_none(), "taken");
-    assert!(rt; poll(rt, task, 0), "over");
-    assert!(rt; task.told().is_none(), "taken");
-    is_over(rt, task, how);
-    assert_eq!(rt; task.counts(), counts);
-    assert_eq!(rt; task.begun().len(), begun);
-}
-
-// The journal is one event, at this moment and with this input.
-fn assert_event(rt: &impl Abort, alloc: Global, journal: &[Event], now: u64, input: &str) {
-    assert_eq!(rt; journal.len(), 1);
-    assert_eq!(rt; journal[0].now.get(), now);
-    number_of(rt, alloc, Some(&journal[0].input), input);
 }
 
 fn tells<T: Shows>(rt: &impl Abort, task: &mut T, want: &Told) {

@@ -1,5 +1,5 @@
 -- The next span has so many more.
-use Rattle.std.proofs.Common.{◌≡◌, ◌<◌, min, take, take_all, ap, refl, arith, List}
+use Rattle.std.proofs.Common.{◌≡◌, min, take, take_all, ap, refl, arith, List}
 use Rattle.std.proofs.lemmas.List.Sums.{sum_by_more}
 use Rattle.sched_ticket_lease.specs.Spans.{weight, span_weight}
 use Rattle.sched_ticket_lease.specs.declared.span.Span.{Span}

@@ -1,13 +1,11 @@
 -- Each request holds what it held.
 use Rattle.std.proofs.Common.{◌≡◌, ℕ, ◌+◌, ◌-◌, get_or, vec_len}
-use Rattle.sched_storm_limit.specs.Limits.{nothing}
+use Rattle.sched_limit.specs.Step.{nothing}
 use Rattle.sched_storm_limit.proofs.stand.Stand.hold.Given as goal
 
 abbrev pub invariant-loop-self : goal.invariant-loop-self
 invariant-loop-self l = record {
-  word : l.self.word ≡ l.fn.self.word;
-  odd : l.self.odd ≡ l.fn.self.odd;
-  random : l.self.random ≡ l.fn.self.random;
+  words : l.self.words ≡ l.fn.self.words;
   holds : (q : ℕ) → get_or l.self.holds.items q nothing ≡ get_or l.fn.self.holds.items q nothing;
 }
 

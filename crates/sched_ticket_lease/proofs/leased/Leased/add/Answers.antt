@@ -1,5 +1,5 @@
 -- The numbers were free, and are at hand.
-use Rattle.std.proofs.Common.{◌≡◌, ◌+◌, ◌<◌, ◌≤◌, inl, inr, refl, sym, ap, subst, arith, lt_of_not-le}
+use Rattle.std.proofs.Common.{inl, inr, refl, sym, ap, subst, arith, lt_of_not-le}
 use mathlib.Core.Logic.{dite}
 use native.Mathlib.Decide.{dec_le}
 use Rattle.sched_ticket.specs.Lists.{is}

@@ -1,8 +1,6 @@
 -- A number that was at hand is out.
-use Rattle.std.proofs.Common.{◌≡◌, ℕ, ◌+◌, refl, sym, subst, arith}
+use Rattle.std.proofs.Common.{refl, arith}
 use Rattle.sched_ticket.specs.Lists.{is}
-use Rattle.sched_ticket_lease.specs.Spans.{weight}
-use Rattle.sched_ticket_lease.specs.Holders.{Holder, Draws}
 use Rattle.sched_ticket_lease.proofs.Remembered.{remembers-less, remembers-as}
 use Rattle.sched_ticket_lease.proofs.leased.Leased.draw.Goals as goal
 

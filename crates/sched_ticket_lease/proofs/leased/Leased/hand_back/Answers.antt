@@ -1,9 +1,7 @@
 -- A number that was out is at hand.
-use Rattle.std.proofs.Common.{◌≡◌, ℕ, ◌+◌, ◌<◌, refl, sym, subst, arith}
+use Rattle.std.proofs.Common.{refl, arith}
 use Rattle.sched_ticket.specs.Lists.{is}
 use Rattle.sched_ticket.proofs.Sums.{is-same}
-use Rattle.sched_ticket_lease.specs.Spans.{weight}
-use Rattle.sched_ticket_lease.specs.Holders.{Holder, HandsBack}
 use Rattle.sched_ticket_lease.proofs.Remembered.{remembers-less}
 use Rattle.sched_ticket_lease.proofs.leased.Leased.hand_back.Goals as goal
 

@@ -1,5 +1,5 @@
 -- A holder of one range has each of its numbers once.
-use Rattle.std.proofs.Common.{◌≡◌, List, length, ap, arith}
+use Rattle.std.proofs.Common.{List, length, ap, arith}
 use Rattle.sched_ticket.specs.Lists.{is}
 use Rattle.sched_ticket_lease.specs.Spans.{weight}
 use Rattle.sched_ticket_lease.specs.declared.span.Span.{Span}

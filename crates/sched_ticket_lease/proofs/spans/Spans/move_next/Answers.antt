@@ -1,5 +1,5 @@
 -- The first number of the last span leaves it.
-use Rattle.std.proofs.Common.{◌+◌, ◌<◌, ◌≤◌, List, ap, arith}
+use Rattle.std.proofs.Common.{◌<◌, List, ap, arith}
 use Rattle.sched_ticket_lease.specs.Spans.{weight}
 use Rattle.sched_ticket_lease.specs.declared.span.Span.{Span}
 use Rattle.sched_ticket_lease.proofs.Weights.{one-more, one-weight, parted}

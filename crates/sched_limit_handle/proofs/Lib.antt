@@ -1,2 +1,0 @@
--- Lemmas that the proofs of `sched_limit_handle` cite.
-mod AsBox
