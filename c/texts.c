@@ -1,10 +1,16 @@
 /* Made by bin/bindings: the calls of hikebox.h that answer a text. They are not proved: the engine's
  * exports answer numbers alone. (It includes nothing, so that the kit's compiler builds it.) */
 const char *hikebox_version(void);
+const char *hikebox_build(void);
 const char *hikebox_status_text(unsigned status);
 
 const char *hikebox_version(void) {
     return "1.0.0";
+}
+
+/* (what links the library names it) */
+const char *hikebox_build(void) {
+    return HIKEBOX_BUILD;
 }
 
 const char *hikebox_status_text(unsigned status) {

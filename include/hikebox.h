@@ -30,10 +30,10 @@
  * handle with HIKEBOX_INIT, which holds nothing. A call that makes something puts it into an empty handle. From then on
  * the handle owns it, until a call frees it, or takes it away and leaves the handle empty. A call is refused by a
  * status if a handle is empty, if it holds another kind (by a cast, or from a language that does not tell them apart),
- * or if the handle to fill already holds something. The handles of limits alone are not told apart from others: see
- * WHAT THE PROGRAM OWES. No call takes a handle as `const`, not even one that only reads: during each call the library
- * takes what the handle holds, and puts it back before the call returns. So two threads must not read through one
- * handle at once; for a policy, hikebox_policy_share gives the second thread a handle of its own.
+ * or if the handle to fill already holds something. No call takes a handle as `const`, not even one that only reads:
+ * during each call the library takes what the handle holds, and puts it back before the call returns. So two threads
+ * must not read through one handle at once; for a policy, hikebox_policy_share gives the second thread a handle of its
+ * own.
  *
  * STATUSES. Each call returns a hikebox_status. If it is not HIKEBOX_OK, nothing has changed: no handle, nothing that a
  * handle holds, and no result, unless the call's comment says otherwise. Each refusal has one status. If several apply,
@@ -52,8 +52,6 @@
  *    pointers overlap; a length is at most that of the memory. `words` points to four numbers.
  *  - A handle is HIKEBOX_INIT, or as a call of this library left it. It may be moved, but of two copies of one
  *    handle only one is used from then on.
- *  - A hikebox_limit is given only to the calls hikebox_limit_.. and the makers of limits, and these get no other
- *    handle, not even by a cast.
  *  - A handle is used by one thread at a time. It may go to another thread, ordered by a lock, by the start or
  *    the join of the thread, or by a sequentially consistent atomic. Different handles may be used by different
  *    threads at once, including passes and retries of one budget or of one quota: that is what these are for.
@@ -72,10 +70,17 @@
 extern "C" {
 #endif
 
-#if defined(__GNUC__)
-#define HIKEBOX_CHECKED __attribute__((warn_unused_result))
+/* A program for Windows that loads hikebox.dll may define HIKEBOX_DLL before it reads this header: its calls then go
+ * there without a detour. */
+#if defined(_WIN32) && defined(HIKEBOX_DLL)
+#define HIKEBOX_IMPORTED __declspec(dllimport)
 #else
-#define HIKEBOX_CHECKED
+#define HIKEBOX_IMPORTED
+#endif
+#if defined(__GNUC__)
+#define HIKEBOX_CHECKED HIKEBOX_IMPORTED __attribute__((warn_unused_result))
+#else
+#define HIKEBOX_CHECKED HIKEBOX_IMPORTED
 #endif
 
 /* The version of this header: as a text, and as numbers for the preprocessor. HIKEBOX_VERSION_NUMBER is 1002003 in
@@ -205,10 +210,14 @@ enum {
 
 /* Returns what a status means in a few words, such as "there is no ticket", or "no such status" for another number. The
  * text ends with a zero byte and stays valid as long as the library is loaded. */
-const char *hikebox_status_text(hikebox_status status);
+HIKEBOX_IMPORTED const char *hikebox_status_text(hikebox_status status);
 
 /* Returns the version of the library that is linked or loaded; HIKEBOX_VERSION is that of this header. */
-const char *hikebox_version(void);
+HIKEBOX_IMPORTED const char *hikebox_version(void);
+
+/* What the library is built for: the target, as in "x86_64-unknown-linux-gnu proved". Where it is not proved for that
+ * target it says for which one the same module is: "x86_64-pc-windows-gnu of x86_64-unknown-linux-gnu". */
+HIKEBOX_IMPORTED const char *hikebox_build(void);
 
 /* The handles. */
 typedef struct {
@@ -751,49 +760,49 @@ HIKEBOX_CHECKED hikebox_status hikebox_throttle_new(uint64_t now, uint32_t ratio
  * Joins the limits of another handle into `limit`, whose own are asked first; `second` is then empty. From then on all
  * admit a request or grant a retry, or none is charged: if one refuses, what those before it gave comes back. Put
  * breakers and throttles last: a probe that a breaker admitted does not come back, nor does what a throttle counted.
- * A draw takes the same `cost` of each bucket among them. HIKEBOX_EMPTY; _OUT_OF_RANGE: they are more than four; both
- * handles are then as they were.
+ * A draw takes the same `cost` of each bucket among them. HIKEBOX_EMPTY; _WRONG_KIND; _OUT_OF_RANGE: they are more than
+ * four. Both handles are then as they were.
  */
 HIKEBOX_CHECKED hikebox_status hikebox_limit_both(hikebox_limit *limit, hikebox_limit *second);
 
 /* Puts another handle of the same limit, which has no request, into `part`. A handle that was made is split up to 2^42
  * times, one that was split off it fewer than 2^20 times, and one that was split off that never. So give
- * hikebox_limit_both handles that were made, or that were split off those. HIKEBOX_FULL; _EMPTY; _NO_MEMORY;
- * _TOO_MANY_PASSES. */
+ * hikebox_limit_both handles that were made, or that were split off those. HIKEBOX_FULL; _EMPTY; _WRONG_KIND;
+ * _NO_MEMORY; _TOO_MANY_PASSES. */
 HIKEBOX_CHECKED hikebox_status hikebox_limit_split(hikebox_limit *limit, hikebox_limit *part);
 
 /*
- * Asks before the first run of a request. HIKEBOX_TOO_LARGE, of the moment; _EMPTY; _OUT_OF_TURN: the handle's request
- * before has not ended; of what is in flight _REQUESTS_FULL; of a breaker _BREAKER_OPEN and _PROBING; of a throttle
- * _THROTTLED; _RACES_LOST: 64 other calls came first.
+ * Asks before the first run of a request. HIKEBOX_TOO_LARGE, of the moment; _EMPTY; _WRONG_KIND; _OUT_OF_TURN: the
+ * handle's request before has not ended; of what is in flight _REQUESTS_FULL; of a breaker _BREAKER_OPEN and _PROBING;
+ * of a throttle _THROTTLED; _RACES_LOST: 64 other calls came first.
  */
 HIKEBOX_CHECKED hikebox_status hikebox_limit_admit(hikebox_limit *limit, uint64_t now, uint32_t random,
                                                    uint64_t *number);
 
 /*
  * Asks for a retry, after a run failed and the policy goes on, before the wait. The slot that an earlier retry of the
- * request held is given back. HIKEBOX_TOO_LARGE, of the moment; _EMPTY; _OUT_OF_TURN: no request is under way; of a
- * bucket _LEVEL_LOW; of what is in flight _RETRIES_FULL; of a breaker _BREAKER_OPEN and _PROBING; of a throttle
- * _THROTTLED; _RACES_LOST.
+ * request held is given back. HIKEBOX_TOO_LARGE, of the moment; _EMPTY; _WRONG_KIND; _OUT_OF_TURN: no request is under
+ * way; of a bucket _LEVEL_LOW; of what is in flight _RETRIES_FULL; of a breaker _BREAKER_OPEN and _PROBING; of a
+ * throttle _THROTTLED; _RACES_LOST.
  */
 HIKEBOX_CHECKED hikebox_status hikebox_limit_draw(hikebox_limit *limit, uint64_t now, uint64_t cost, uint32_t random,
                                                   uint64_t *number);
 
-/* Reports that a run failed, whether it is retried or not. HIKEBOX_TOO_LARGE; _EMPTY. */
+/* Reports that a run failed, whether it is retried or not. HIKEBOX_TOO_LARGE; _EMPTY; _WRONG_KIND. */
 hikebox_status hikebox_limit_failed(hikebox_limit *limit, uint64_t now);
 
-/* Reports that a run succeeded. HIKEBOX_TOO_LARGE; _EMPTY. */
+/* Reports that a run succeeded. HIKEBOX_TOO_LARGE; _EMPTY; _WRONG_KIND. */
 hikebox_status hikebox_limit_succeeded(hikebox_limit *limit, uint64_t now);
 
 /* Reports that the retry drawn last is cancelled while it waits: what it cost and its slot come back, once.
- * HIKEBOX_EMPTY. */
+ * HIKEBOX_EMPTY; _WRONG_KIND. */
 hikebox_status hikebox_limit_cancelled(hikebox_limit *limit);
 
-/* Reports that the request is over, however it ended: what it holds is given back, once. HIKEBOX_EMPTY. */
+/* Reports that the request is over, however it ended: what it holds is given back, once. HIKEBOX_EMPTY; _WRONG_KIND. */
 hikebox_status hikebox_limit_ended(hikebox_limit *limit);
 
 /* Ends the request, if one is under way, and frees the handle. The limit lives as long as it has a handle.
- * HIKEBOX_EMPTY. */
+ * HIKEBOX_EMPTY; _WRONG_KIND. */
 hikebox_status hikebox_limit_free(hikebox_limit *limit);
 
 /*
@@ -900,8 +909,8 @@ enum {
     HIKEBOX_ENDED_WON = 1,
     /* The last run failed, and the policy does not go on. */
     HIKEBOX_ENDED_DONE = 2,
-    /* The last run failed, the policy goes on, and the budget or the quota gave no ticket. */
-    HIKEBOX_ENDED_REFUSED = 3,
+    /* The last run failed, the policy goes on, and its limit, a budget or a quota, gave no ticket. */
+    HIKEBOX_ENDED_LIMIT_REFUSED = 3,
     /* It was cancelled. */
     HIKEBOX_ENDED_CANCELLED = 4,
     /* It could not go on: there was no memory, or the clock went back. */

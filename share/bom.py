@@ -63,6 +63,19 @@ def crate_parts():
         }
 
 
+def about():
+    """What ABOUT says of the author, of where to ask and of where the sources are: its fields that are not empty."""
+    lines = (line.partition(":") for line in (TOP / "ABOUT").read_text().splitlines())
+    fields = {name: value.strip() for name, _, value in lines}
+    contact = fields["Contact"]
+    links = {"vcs": fields["URL"], "support": contact if "://" in contact or not contact else f"mailto:{contact}"}
+    references = [{"type": kind, "url": url} for kind, url in links.items() if url]
+    return {
+        **({"author": fields["Author"]} if fields["Author"] else {}),
+        **({"externalReferences": references} if references else {}),
+    }
+
+
 def files(folder):
     """Each file of the release."""
     for path in sorted(folder.iterdir()):
@@ -74,7 +87,8 @@ def main():
     folder = pathlib.Path(sys.argv[1])
     version = (TOP / "VERSION").read_text().strip()
     licenses = [{"license": {"id": "Apache-2.0"}}]
-    hikebox = {"type": "library", "name": "hikebox", "version": version, "bom-ref": "hikebox", "licenses": licenses}
+    named = {"type": "library", "name": "hikebox", "version": version, "bom-ref": "hikebox"}
+    hikebox = {**named, "licenses": licenses, **about()}
     bom = {
         "bomFormat": "CycloneDX",
         "specVersion": "1.5",

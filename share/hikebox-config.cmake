@@ -4,8 +4,8 @@ get_filename_component(_hikebox_prefix "${CMAKE_CURRENT_LIST_DIR}/../../.." ABSO
 if(NOT TARGET hikebox::hikebox)
   add_library(hikebox::hikebox SHARED IMPORTED)
   set_target_properties(hikebox::hikebox PROPERTIES
-    IMPORTED_LOCATION "${_hikebox_prefix}/lib/libhikebox.so.@VERSION@"
-    IMPORTED_SONAME "libhikebox.so.@MAJOR@"
+    IMPORTED_LOCATION "${_hikebox_prefix}/@PLACE@"
+    @TOLD@
     INTERFACE_INCLUDE_DIRECTORIES "${_hikebox_prefix}/include")
   add_library(hikebox::static STATIC IMPORTED)
   set_target_properties(hikebox::static PROPERTIES
