@@ -1,9 +1,9 @@
 """Builds the wheel and the source archive with the standard library alone, as PEP 517 asks, so that pip needs no index.
 
-A wheel is for one platform and for any Python 3: the engine in it is a shared library that ctypes loads. In the
-repository that is the one of `dist/`, and in a source archive the one in `lib/MACHINE/`. HIKEBOX_LIBRARY names another
-file, and HIKEBOX_PLATFORM another platform: by its wheel tag, or by the name of a machine below. A source archive has
-the engines of all machines. The same files give the same bytes.
+A wheel is for one platform and for any Python 3: the engine in it is a shared library that ctypes loads, under one name
+whatever the system calls such a file. In the repository that is the one of `dist/`, and in a source archive the one in
+`lib/MACHINE/`: both have the engines for Linux. HIKEBOX_LIBRARY names another file, and HIKEBOX_PLATFORM another
+platform: by its wheel tag, or by a name below. The same files give the same bytes.
 
     build_backend.py wheel FOLDER    puts a wheel into the folder and prints its path
     build_backend.py sdist FOLDER    puts a source archive there
@@ -22,11 +22,16 @@ from pathlib import Path
 
 HERE = Path(__file__).resolve().parent
 NAME = "libhikebox.so"
-#: Of each machine: its platform tags, the folder of its engine in dist/, and the number that ELF gives it.
-MACHINES = {
-    "x86_64": (("manylinux_2_14_x86_64", "musllinux_1_2_x86_64"), "dist", 62),
-    "aarch64": (("manylinux_2_17_aarch64", "musllinux_1_2_aarch64"), "dist/aarch64", 183),
+#: The tags of each platform: of Linux by its machine, of others by their triple.
+TAGS = {
+    "x86_64": ("manylinux_2_14_x86_64", "musllinux_1_2_x86_64"),
+    "aarch64": ("manylinux_2_17_aarch64", "musllinux_1_2_aarch64"),
+    "x86_64-apple-darwin": ("macosx_10_13_x86_64",),
+    "aarch64-apple-darwin": ("macosx_11_0_arm64",),
+    "x86_64-pc-windows-gnu": ("win_amd64",),
 }
+#: The folder of the engine of each machine with Linux.
+MACHINES = {"x86_64": "dist", "aarch64": "dist/aarch64"}
 #: The time of each file in an archive, 1 January 2020: for a wheel, and for a source archive.
 DATE, MOMENT = (2020, 1, 1, 0, 0, 0), 1577836800
 ENTRY_POINTS = "[console_scripts]\nhikebox = hikebox_program:main\n"
@@ -62,24 +67,35 @@ def platform_tags():
     """The tags of the platform to build for."""
     named = os.environ.get("HIKEBOX_PLATFORM")
     if named:
-        return MACHINES[named][0] if named in MACHINES else tuple(named.split("."))
+        return TAGS.get(named, tuple(named.split(".")))
     machine = platform.machine()
     if not sys.platform.startswith("linux") or sys.maxsize < 2**32 or machine not in MACHINES:
         refuse(
             f"expected 64-bit Linux on {' or '.join(MACHINES)}, got {sys.platform} on {machine}; for another platform "
             "set HIKEBOX_LIBRARY to a libhikebox.so of your own and HIKEBOX_PLATFORM to its wheel tag"
         )
-    return MACHINES[machine][0]
+    return TAGS[machine]
 
 
-def machine_of(tags):
-    """The machine that the tags name, if it is one of MACHINES."""
-    return next((machine for machine in MACHINES if tags[0].endswith(f"_{machine}")), None)
+def platform_of(tags):
+    """The platform of these tags, or of one of them."""
+    return next((name for name, known in TAGS.items() if set(tags) <= set(known)), None)
+
+
+def built_for(engine):
+    """The platform for which a library is built, by how it begins."""
+    if engine.startswith(b"\x7fELF"):
+        return {62: "x86_64", 183: "aarch64"}.get(int.from_bytes(engine[18:20], "little"))
+    if engine.startswith(b"\xcf\xfa\xed\xfe"):
+        kinds = {0x01000007: "x86_64-apple-darwin", 0x0100000C: "aarch64-apple-darwin"}
+        return kinds.get(int.from_bytes(engine[4:8], "little"))
+    at = int.from_bytes(engine[60:64], "little")
+    return "x86_64-pc-windows-gnu" if engine.startswith(b"MZ") and engine[at : at + 6] == b"PE\0\0\x64\x86" else None
 
 
 def engine_of(machine):
     """The engine of a machine."""
-    places = [HERE / "lib" / machine / NAME, HERE.parent / MACHINES[machine][1] / NAME]
+    places = [HERE / "lib" / machine / NAME, HERE.parent / MACHINES[machine] / NAME]
     found = next((place for place in places if place.is_file()), None)
     if found is None:
         looked_at = " or ".join(map(str, places))
@@ -89,14 +105,15 @@ def engine_of(machine):
 
 def engine_for(tags):
     """The engine for a platform."""
-    machine, named = machine_of(tags), os.environ.get("HIKEBOX_LIBRARY")
-    if not named and not machine:
+    platform_name, named = platform_of(tags), os.environ.get("HIKEBOX_LIBRARY")
+    if not named and platform_name not in MACHINES:
         refuse(f"expected HIKEBOX_LIBRARY to name the libhikebox.so for {tags[0]}, got none")
     if named and not Path(named).is_file():
         refuse(f"the engine is missing: no {named}, which HIKEBOX_LIBRARY names")
-    library = Path(named).read_bytes() if named else engine_of(machine)
-    if machine and int.from_bytes(library[18:20], "little") != MACHINES[machine][2]:
-        refuse(f"expected an engine for {machine}, got one for another processor: {named}")
+    library = Path(named).read_bytes() if named else engine_of(platform_name)
+    got = built_for(library)
+    if platform_name and got != platform_name:
+        refuse(f"expected an engine for {platform_name}, got one for {got or 'another platform'}: {named}")
     return library
 
 

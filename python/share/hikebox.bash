@@ -5,7 +5,7 @@
 _hikebox_options() {
   case $1 in
     run)
-      echo --policy:file --budget:text --quota:text --limit:text --open:file --on:text --timeout:text \
+      echo --policy:file --limit:text --open:file --on:text --timeout:text \
         --kill-after:text --deadline:text --replay-input --last-output --output-limit:text --verbose -v --quiet -q
       ;;
     plan)

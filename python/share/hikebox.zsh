@@ -25,9 +25,7 @@ case $state in
       run)
         _arguments -S '(- *)'{-h,--help}'[print help]' \
           '--policy[when to run it again]:policy:_files' \
-          '(--quota --limit)--budget[at most so many retries, over all runs that name the folder]:N or N@FOLDER:' \
-          '(--budget --limit)--quota[so many retries in each period, and a share of the runs]:RESERVE/SHARE%/PERIOD@FOLDER:' \
-          '(--budget --quota)--limit[a bucket or a breaker, over all runs that name it and the folder]:LIMIT@FOLDER:' \
+          '--limit[at most so many retries, or a limit over all runs that name it and the folder]:N or LIMIT@FOLDER:' \
           '--open[how long a breaker is open]:policy:_files' \
           '--on[retry only these statuses]:statuses, as 1,3-5:' \
           '--timeout[how long an attempt may take]:seconds:' \

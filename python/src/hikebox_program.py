@@ -11,7 +11,8 @@ def main() -> int:
     """The program: its exit status."""
     if signal.getsignal(signal.SIGINT) is signal.default_int_handler:
         signal.signal(signal.SIGINT, signal.SIG_DFL)
-    signal.signal(signal.SIGPIPE, signal.SIG_DFL)
+    if hasattr(signal, "SIGPIPE"):  # which Windows lacks
+        signal.signal(signal.SIGPIPE, signal.SIG_DFL)
     try:
         from hikebox.cli.main import main as program
     except ImportError as error:

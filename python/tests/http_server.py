@@ -8,7 +8,7 @@ import threading
 import time
 from dataclasses import dataclass, field
 from http.server import BaseHTTPRequestHandler, ThreadingHTTPServer
-from typing import Any, Callable, Dict, List, Optional, Tuple
+from typing import Any, Callable, Dict, Iterator, List, Optional, Tuple
 
 
 @dataclass
@@ -35,8 +35,11 @@ class Answer:
 class Server(ThreadingHTTPServer):
     daemon_threads = True
 
-    def __init__(self) -> None:
-        super().__init__(("127.0.0.1", 0), Handler)
+    def __init__(self, listens: bool = True) -> None:
+        super().__init__(("127.0.0.1", 0), Handler, bind_and_activate=False)
+        self.server_bind()
+        if listens:
+            self.server_activate()
         self.answers: List[Answer] = [Answer(200)]
         self.requests: List[Tuple[str, str, bytes]] = []
         #: How many connections were made.
@@ -79,7 +82,7 @@ class Handler(BaseHTTPRequestHandler):
     server: Server
 
     def answer(self) -> None:
-        body = self.rfile.read(int(self.headers.get("Content-Length", 0)))
+        body = b"".join(self._body())
         self.server.requests.append((self.command, self.path, body))
         self.server.took()
         answers = self.server.answers
@@ -91,6 +94,15 @@ class Handler(BaseHTTPRequestHandler):
             self._cuts(answer.resets)
         else:
             self._sends(answer, f"answer {number}".encode() if answer.body is None else answer.body)
+
+    def _body(self) -> Iterator[bytes]:
+        if "Transfer-Encoding" not in self.headers:
+            yield self.rfile.read(int(self.headers.get("Content-Length", 0)))
+            return
+        while size := int(self.rfile.readline(), 16):
+            yield self.rfile.read(size)
+            self.rfile.readline()
+        self.rfile.readline()
 
     def _sends(self, answer: Answer, body: bytes) -> None:
         self.send_response(answer.status)

@@ -4,10 +4,16 @@ from __future__ import annotations
 
 from typing import Any, Optional
 
-from hikebox import Limit, RefusalReason, Request
+from hikebox import CallLimit, RefusalReason, Request
+
+#: Why a breaker is refused that would never open, by the policy of its open times.
+NEVER_OPEN = (
+    "expected a policy with an open time above 0, got {}: open times are its waits for the least random numbers, and "
+    "full jitter makes these 0; write spaced(30), or jittered(0.5, 1)"
+)
 
 
-def admitted(limit: Limit) -> Request:
+def admitted(limit: CallLimit) -> Request:
     """A request that the limit admits."""
     request = limit.request()
     assert request.admit() is None

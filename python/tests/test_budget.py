@@ -16,7 +16,7 @@ import pytest
 
 from draws import drawn_by, number
 from processes import in_a_forked_child
-from hikebox import Budget, BudgetClosed, BudgetError, BudgetInUse, Policy, RetryState, Retrying, recurs, spaced
+from hikebox import Budget, LimitClosed, LimitError, LimitInUse, Policy, RetryState, Retrying, recurs, spaced
 
 
 def granted_and_ending(state: RetryState) -> Tuple[int, str]:
@@ -30,13 +30,13 @@ def test_worked_budgets() -> None:
     assert budget.granted == 2 and not budget.closed
     assert budget.close() == 2 == budget.close() == budget.granted
     assert budget.closed
-    with pytest.raises(BudgetClosed):
+    with pytest.raises(LimitClosed):
         budget.draw()
     empty = Budget(0)
     assert not empty.draw()
     assert empty.close() == 0
     for bad in (-1, 2**32 + 1):
-        with pytest.raises(BudgetError):
+        with pytest.raises(LimitError):
             Budget(bad)
     wrongs: List[Any] = [1.5, "3", None, True]
     for wrong in wrongs:
@@ -54,29 +54,29 @@ def test_a_rising_budget() -> None:
     assert budget.raise_to(5) == 5
     assert number(budget.draw()) == 4
     assert budget.close() == 5
-    with pytest.raises(BudgetClosed):
+    with pytest.raises(LimitClosed):
         budget.raise_to(9)
-    with pytest.raises(BudgetClosed):
+    with pytest.raises(LimitClosed):
         budget.draw()
-    with pytest.raises(BudgetError):
+    with pytest.raises(LimitError):
         Budget(3).raise_to(5)
     for bad in (-1, 2**32 + 1):
-        with pytest.raises(BudgetError):
+        with pytest.raises(LimitError):
             Budget.rising(1).raise_to(bad)
 
 
 def test_retries_go_on_after_a_raise() -> None:
     budget = Budget.rising(2)
-    retrying = Retrying(recurs(5), budget=budget, fallback=granted_and_ending)
+    retrying = Retrying(recurs(5), limit=budget, fallback=granted_and_ending)
 
     def fails() -> Any:
         raise KeyError()
 
-    assert retrying(fails) == (2, "BUDGET_REFUSED")
-    assert retrying(fails) == (0, "BUDGET_REFUSED")
+    assert retrying(fails) == (2, "LIMIT_REFUSED")
+    assert retrying(fails) == (0, "LIMIT_REFUSED")
     budget.raise_to(11)
     assert retrying(fails) == (5, "SCHEDULE_DONE")
-    assert retrying(fails) == (4, "BUDGET_REFUSED")
+    assert retrying(fails) == (4, "LIMIT_REFUSED")
     assert budget.close() == 11
 
 
@@ -85,12 +85,12 @@ def test_a_budget_serves_any_number_of_retries() -> None:
         raise KeyError()
 
     for budget in (Budget(70_001), Budget.rising(70_001)):
-        retrying = Retrying(recurs(1), budget=budget, fallback=granted_and_ending)
+        retrying = Retrying(recurs(1), limit=budget, fallback=granted_and_ending)
         for _ in range(70_000):
             assert retrying(fails) == (1, "SCHEDULE_DONE")
         assert budget.granted == 70_000
         assert [number(budget.draw()), number(budget.draw())] == [70_000, None]
-        assert retrying(fails) == (0, "BUDGET_REFUSED")
+        assert retrying(fails) == (0, "LIMIT_REFUSED")
         assert budget.close() == 70_001
 
 
@@ -109,9 +109,9 @@ def test_as_a_context() -> None:
         budget.draw()
     assert budget.closed and budget.granted == 1
 
-    with pytest.raises(BudgetInUse):
+    with pytest.raises(LimitInUse):
         with Budget(3) as budget:
-            attempts = iter(Retrying(recurs(3), budget=budget))
+            attempts = iter(Retrying(recurs(3), limit=budget))
             with next(attempts):
                 raise KeyError()
     assert not budget.closed
@@ -121,7 +121,7 @@ def test_as_a_context() -> None:
 
     with pytest.raises(ZeroDivisionError):
         with Budget(3) as budget:
-            attempts = iter(Retrying(recurs(3), budget=budget))
+            attempts = iter(Retrying(recurs(3), limit=budget))
             with next(attempts):
                 raise KeyError()
             1 / 0
@@ -188,7 +188,7 @@ def test_a_forked_child_begins_anew() -> None:
     rising.draw()
 
     def begins_anew() -> None:
-        retrying = Retrying(recurs(9), budget=budget, fallback=lambda state: state.granted)
+        retrying = Retrying(recurs(9), limit=budget, fallback=lambda state: state.granted)
         assert [retrying(int, word) for word in "3xx"] == [3, 2, 0]
         assert (number(rising.draw()), budget.close()) == (0, 2)
 
@@ -209,7 +209,7 @@ def test_a_child_that_is_forked_in_a_retry_goes_on_with_it() -> None:
             raise KeyError()
         return child
 
-    retrying = Retrying(recurs(3), budget=budget)
+    retrying = Retrying(recurs(3), limit=budget)
     if retrying(forks) == -1:
         status = 1
         try:
@@ -243,7 +243,7 @@ def test_it_belongs_to_its_process() -> None:
 def test_a_closed_budget_says_so_alone() -> None:
     budget = Budget(5)
     budget.close()
-    with pytest.raises(BudgetClosed) as caught:
+    with pytest.raises(LimitClosed) as caught:
         budget.draw()
     assert caught.value.__context__ is None
 

@@ -158,24 +158,24 @@ def test_a_command_that_can_not_be_run(tmp_path: Path, monkeypatch: pytest.Monke
 
 def test_a_budget(tmp_path: Path) -> None:
     command = counting(tmp_path, "exit 7")
-    assert hikebox("run", "--budget", "2", "--policy", "recurs(9)", "--", *command)[0] == 7
+    assert hikebox("run", "--limit", "2", "--policy", "recurs(9)", "--", *command)[0] == 7
     assert runs(tmp_path) == 3
     shared = f"4@{tmp_path}/budget"
     for _ in range(3):
-        assert hikebox("run", "--budget", shared, "--policy", "recurs(3)", "--", *command)[0] == 7
+        assert hikebox("run", "--limit", shared, "--policy", "recurs(3)", "--", *command)[0] == 7
     assert runs(tmp_path) == 3 + 3 + 4
-    assert "the budget refused a retry" in hikebox("run", "-v", "--budget", "0", "--", "false")[2]
-    assert hikebox("run", "--budget", "x", "--", "false")[0] == 2
+    assert "the limit refused a retry" in hikebox("run", "-v", "--limit", "0", "--", "false")[2]
+    assert hikebox("run", "--limit", "x", "--", "false")[0] == 2
 
 
-@pytest.mark.parametrize("limit", [["--budget", "1"], ["--quota", "1/0%/1000000s"], ["--limit", "bucket:1/0/1/1/0/0"]])
-def test_a_folder_at_home(limit: List[str], tmp_path: Path, monkeypatch: pytest.MonkeyPatch) -> None:
+@pytest.mark.parametrize("limit", ["1", "1/0%/1000000s", "bucket:1/0/1/1/0/0"])
+def test_a_folder_at_home(limit: str, tmp_path: Path, monkeypatch: pytest.MonkeyPatch) -> None:
     # (a shell expands no ~ behind an @)
     monkeypatch.setenv("HOME", str(tmp_path / "home"))
     command = counting(tmp_path, "exit 7")
     for name in ("here", "there"):
         (tmp_path / name).mkdir()
-        words = ["run", limit[0], f"{limit[1]}@~/limits", "--policy", "recurs(3)", "--", *command]
+        words = ["run", "--limit", f"{limit}@~/limits", "--policy", "recurs(3)", "--", *command]
         assert hikebox(*words, cwd=tmp_path / name)[0] == 7
     # both runs have the one ticket, of the folder at home
     assert runs(tmp_path) == 3
@@ -186,20 +186,23 @@ def test_a_quota_over_all_runs(tmp_path: Path) -> None:
     command = counting(tmp_path, "exit 7")
     # one, and half of one for each run: a run that succeeds counts too
     quota = f"1/50%/1000000s@{tmp_path}/quota"
-    words = ["run", "-v", "--quota", quota, "--policy", "recurs(9)", "--"]
+    words = ["run", "-v", "--limit", quota, "--policy", "recurs(9)", "--"]
     assert hikebox(*words, *command)[0] == 7
     assert runs(tmp_path) == 2
     for _ in range(2):
         assert hikebox(*words, "true")[0] == 0
     # four runs give two tickets beside the one that was drawn
-    assert "the budget refused a retry" in hikebox(*words, *command)[2]
+    assert "the limit refused a retry" in hikebox(*words, *command)[2]
     assert runs(tmp_path) == 2 + 3
     damaged = tmp_path / "damaged"
     damaged.write_text("something else")
-    status, _, errors = hikebox("run", "--quota", f"9/100%/60s@{damaged}", "--", *command)
+    status, _, errors = hikebox("run", "--limit", f"9/100%/60s@{damaged}", "--", *command)
     assert status == 2 and f"{damaged}: expected a folder, got a file. Counts are kept in a folder now;" in errors
-    status, _, errors = hikebox("run", "--budget", "3@", "--", "true")
-    assert (status, errors) == (2, "hikebox: --budget: expected N or N@FOLDER, got '3@'\n")
+    status, _, errors = hikebox("run", "--limit", "3@", "--", "true")
+    assert (status, errors) == (
+        2,
+        "hikebox: --limit: expected N or LIMIT@FOLDER, such as 10/20%/60s@/run/lock/jobs, got '3@'\n",
+    )
     for slot in (tmp_path / "quota").glob("*/*"):
         slot.write_text("something else")
     status, _, errors = hikebox(*words, *command)
@@ -216,8 +219,8 @@ def test_a_quota_over_all_runs(tmp_path: Path) -> None:
         "1/1/60@f",
         "1/1%/60s@",
     ):
-        assert hikebox("run", f"--quota={bad}", "--", "false")[0] == 2, bad
-    assert hikebox("run", "--quota", quota, "--budget", "1", "--", "false")[0] == 2
+        assert hikebox("run", f"--limit={bad}", "--", "false")[0] == 2, bad
+    assert hikebox("run", "--limit", quota, "--limit", "1", "--", "false")[0] == 2  # given twice
 
 
 def test_input_and_output(tmp_path: Path) -> None:

@@ -19,6 +19,8 @@ SCENARIOS = ["outage", "herd", "brown-out"]
 
 
 (COMMANDS,) = [action.choices for action in _parser()._actions if isinstance(action, argparse._SubParsersAction)]
+for command in COMMANDS.values():
+    command.fill()
 #: Of each command its options, and whether they take a value.
 OPTIONS: Dict[str, Dict[str, bool]] = {
     name: {word: action.nargs != 0 for action in command._actions for word in action.option_strings}
@@ -89,7 +91,7 @@ def test_the_completions_of_bash() -> None:
     [scenarios] = offered("hikebox storm --scenario ''")
     assert set(scenarios.split()) == {*SCENARIOS, *(path.name for path in SHARE.iterdir())}
     assert offered("hikebox run --policy hikebox.b", "hikebox plan hikebox.1") == ["hikebox.bash", "hikebox.1"]
-    assert offered("hikebox run --on hike", "hikebox run --budget hike", "hikebox lab hike") == ["", "", ""]
+    assert offered("hikebox run --on hike", "hikebox run --limit hike", "hikebox lab hike") == ["", "", ""]
     commands = ("hikebox run bas", "hikebox run -- bas", "hikebox run --timeout 3 -v bas", "hikebox run --on = 3 bas")
     assert all("bash" in found.split() for found in offered(*commands))
     assert offered("hikebox run -- bash hikebox.z", "hikebox run bash -") == ["hikebox.zsh", ""]

@@ -3,35 +3,55 @@
 from __future__ import annotations
 
 import asyncio
+import gc
 import sys
 import threading
 from pathlib import Path
-from typing import Any, Callable, List
+from typing import Any, Callable, List, Set
 
 import pytest
 
 import hikebox
-from hikebox import AsyncRetrying, Budget, Quota, Retrying, recurs
+from hikebox import (
+    AsyncRetrying,
+    Breaker,
+    Bucket,
+    Budget,
+    InFlight,
+    Quota,
+    Retrying,
+    Throttle,
+    recurs,
+    spaced,
+)
 from hikebox.testing import VirtualClock
 
 PACKAGE = str(Path(hikebox.__file__).parent)
 
 
-def functions(call: Callable[[], Any]) -> List[str]:
-    """The functions of the package that this calls, one after another."""
-    seen: List[str] = []
+def codes(call: Callable[[], Any]) -> List[Any]:
+    """The code of the functions of the package that this calls, one after another."""
+    seen: List[Any] = []
 
     def notes(frame: Any, event: str, _: Any) -> None:
         if event == "call" and frame.f_code.co_filename.startswith(PACKAGE):
-            seen.append(frame.f_code.co_name)
+            seen.append(frame.f_code)
 
+    gc.collect()
+    gc.disable()  # (what other tests left is freed at no other time)
     before = sys.getprofile()
     sys.setprofile(notes)
     try:
         call()
     finally:
         sys.setprofile(before)
+        gc.enable()
     return seen
+
+
+def functions(call: Callable[[], Any]) -> List[str]:
+    """Their names."""
+    return [code.co_name for code in codes(call)]
 
 
 def succeeds() -> int:
@@ -44,7 +64,7 @@ async def succeeds_later() -> int:
 
 @pytest.mark.parametrize("budget", [None, Budget(5)])
 def test_a_success_asks_nothing_of_the_engine(budget: Any) -> None:
-    retrying, awaiting = Retrying(recurs(3), budget=budget), AsyncRetrying(recurs(3), budget=budget)
+    retrying, awaiting = Retrying(recurs(3), limit=budget), AsyncRetrying(recurs(3), limit=budget)
     assert functions(lambda: retrying(succeeds)) == ["__call__", "run"]
     assert functions(retrying.wraps(succeeds)) == ["wrapped", "run"]
     assert functions(lambda: asyncio.run(awaiting(succeeds_later))) == ["__call__", "run_async"]
@@ -73,27 +93,24 @@ def test_successes_of_many_threads_are_counted_while_others_look() -> None:
 
 def test_a_success_on_a_quota_is_counted_and_no_more() -> None:
     quota = Quota(0, 1, 10**6)
-    retrying = Retrying(recurs(3), budget=quota)
-    counted = ["deposit", "lend", "moment", "deposit", "give_back"]
+    retrying = Retrying(recurs(3), limit=quota)
+    counted = ["deposit", "moment"]
     retrying(succeeds)
     assert functions(lambda: retrying(succeeds)) == ["__call__", "run", *counted]
-    awaiting = AsyncRetrying(recurs(3), budget=quota)
+    awaiting = AsyncRetrying(recurs(3), limit=quota)
     assert functions(lambda: asyncio.run(awaiting(succeeds_later))) == ["__call__", "run_async", *counted]
     assert quota.seen().asked == 3
 
 
 def test_a_success_that_is_counted_as_such_costs_no_more() -> None:
     quota = Quota(0, 1, 10**6, counts_successes=True)
-    retrying = Retrying(recurs(3), budget=quota)
+    retrying = Retrying(recurs(3), limit=quota)
     retrying(succeeds)
     assert functions(lambda: retrying(succeeds))[1:] == [
         "run",
         "_deposit_won",
         "deposit",
-        "lend",
         "moment",
-        "deposit",
-        "give_back",
     ]
     assert quota.seen().asked == 2
 
@@ -108,7 +125,7 @@ def test_a_request_is_counted_once_whatever_follows(clock: VirtualClock) -> None
             raise answer
         return answer
 
-    retrying = Retrying(recurs(2), budget=quota, clock=clock)
+    retrying = Retrying(recurs(2), limit=quota, clock=clock)
     for asked, given in ((1, 0), (2, 1)):
         assert retrying(call) == 7
         assert (quota.seen().asked, quota.seen().given) == (asked, given)
@@ -128,6 +145,37 @@ def test_the_policy_counts_from_the_first_attempt_also_where_that_is_slow(clock:
         raise ValueError
 
     with pytest.raises(ValueError):
-        Retrying(recurs(2), budget=quota, clock=clock)(slow)
+        Retrying(recurs(2), limit=quota, clock=clock)(slow)
     # failures at 1.1 and 1.3, of which the first has the ticket of its window
     assert (quota.seen().window, quota.seen().given, quota.granted) == (1, 1, 1)
+
+
+LIMITS: List[Any] = [Bucket(10**6), InFlight.envoy(), Breaker(5, spaced(30)), Throttle.google()]
+
+
+@pytest.mark.parametrize("limit", LIMITS, ids=lambda limit: type(limit).__name__)
+def test_a_success_on_a_limit_makes_its_three_calls(limit: Any) -> None:
+    retrying, awaiting = Retrying(recurs(3), limit=limit), AsyncRetrying(recurs(3), limit=limit)
+    retrying(succeeds)
+    moment = ["_monotonic"] if limit.reads_clock else []
+    word = ["<lambda>", "word_of"] if limit.reads_random else []
+    begins, ends = ["__init__", "admit", *moment, *word], ["won", *moment * limit.times_successes, "__del__"]
+    assert sorted(functions(lambda: retrying(succeeds))) == sorted(["__call__", "run", *begins, *ends])
+    assert len(functions(lambda: asyncio.run(awaiting(succeeds_later)))) == len([*begins, *ends]) + 2
+    assert retrying.statistics.won == 2 and awaiting.statistics.won == 1
+
+
+def test_a_failure_that_is_retried_on_a_quota_goes_through_few_functions() -> None:
+    left = [1]
+
+    def call() -> None:
+        left[0] -= 1
+        if left[0] >= 0:
+            raise ValueError
+
+    retrying = Retrying(recurs(3) & spaced(0.001), limit=Quota(99, 0, 3600), sleep=lambda seconds: None)
+    for _ in range(3):
+        left[0] = 1
+        seen: Set[Any] = set(codes(lambda: retrying(call)))
+    assert len(seen) <= 22
+    assert len({code.co_filename for code in seen}) <= 9

@@ -61,7 +61,7 @@ class Failing:
 def runs(kind: str, clock: VirtualClock, policy: Policy, took: float, **how: Any) -> Tuple[Seen, int, Any]:
     """When each attempt began and what it had left; the tickets; and how the retry ended."""
     failing, budget = Failing(clock, took), Budget(100)
-    how = {"budget": budget, "clock": clock, "fallback": lambda state: state.ending, **how}
+    how = {"limit": budget, "clock": clock, "fallback": lambda state: state.ending, **how}
     if kind == "blocking":
         ending = Retrying(policy, sleep=clock.sleep, **how)(failing)
     else:
@@ -178,7 +178,7 @@ every_kind = pytest.mark.parametrize("kind", ["blocking", "async", "loop", "asyn
 @every_kind
 def test_a_sleep_that_takes_too_long_is_followed_by_no_attempt(kind: str, clock: VirtualClock) -> None:
     late, quota = Late(0.2, clock), Quota(9, 0, 3600, clock=clock)
-    error = ended(kind, late, spaced(0.01), 0.05, budget=quota)
+    error = ended(kind, late, spaced(0.01), 0.05, limit=quota)
     assert late.began == [0] and error.args == (1,)
     state = state_of(error)
     assert state is not None and state is error.retry_state
@@ -206,7 +206,7 @@ def test_a_hook_that_takes_too_long_is_followed_by_no_attempt(
 ) -> None:
     late, quota = Late(0.03, clock), Quota(9, 0, 3600, clock=clock)
     sleep = clock.sleep if kind in ("blocking", "loop") else clock.sleep_async
-    error = ended(kind, late, policy, 0.05, budget=quota, sleep=sleep, **{hook: late.hook})
+    error = ended(kind, late, policy, 0.05, limit=quota, sleep=sleep, **{hook: late.hook})
     state = state_of(error)
     assert state is not None and state.ending is Ending.DEADLINE
     assert late.began and all(moment <= 0.05 for moment in late.began[1:])
@@ -481,7 +481,7 @@ def test_a_quota_and_other_stores_draw_by_it(clock: VirtualClock) -> None:
     clock.advance(3600.25)
     quota = Quota(reserve=1, share=0, per=0.3, clock=clock)
     # failures at 3600.26, .57, .88 and 3601.19, and one more attempt would begin at 3601.49
-    seen, _, ending = runs("blocking", clock, spaced(0.3), 0.01, deadline=1.2, budget=quota)
+    seen, _, ending = runs("blocking", clock, spaced(0.3), 0.01, deadline=1.2, limit=quota)
     assert (len(seen), quota.close(), ending) == (4, 3, Ending.DEADLINE)
 
     class Store:
@@ -492,7 +492,7 @@ def test_a_quota_and_other_stores_draw_by_it(clock: VirtualClock) -> None:
             return self.drawn
 
     store = Store()
-    assert len(runs("blocking", clock, spaced(0.3), 0.0, deadline=1.0, budget=store)[0]) == 4
+    assert len(runs("blocking", clock, spaced(0.3), 0.0, deadline=1.0, limit=store)[0]) == 4
     assert store.drawn == 3
 
 
@@ -539,7 +539,7 @@ def test_a_quota_by_the_machines_clock_ends_by_it_too() -> None:
         raise ConnectionError()
 
     with pytest.raises(ConnectionError):
-        Retrying(spaced(0.05), budget=quota, deadline=0.12)(fails)
+        Retrying(spaced(0.05), limit=quota, deadline=0.12)(fails)
     # at 0, 0.05 and 0.1 s, or once less where the machine is slow
     assert 1 <= len(failing) <= 3 and quota.close() == len(failing) - 1
 
@@ -579,7 +579,7 @@ def test_an_attempt_that_tenacity_begins_late_is_the_last(tenacitys_time: Virtua
     from hikebox.adapters.tenacity import stop_and_wait
 
     with Budget(9) as budget:
-        stop, wait = stop_and_wait(spaced(0.01), deadline=2, budget=budget, clock=tenacitys_time)
+        stop, wait = stop_and_wait(spaced(0.01), deadline=2, limit=budget, clock=tenacitys_time)
         attempts: List[float] = []
 
         def fails() -> None:

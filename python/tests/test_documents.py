@@ -20,7 +20,14 @@ from hikebox import Policy
 #: Libraries that are no package of Debian 12: their blocks are run where they are installed, and else read.
 NOT_DEBIANS = ["opentelemetry"]
 
-PAGES = ["docs/PYTHON.md", "docs/LIMITS.md", "docs/FROM-TENACITY.md", "docs/MACHINES.md", "python/README.md"]
+PAGES = [
+    "docs/PYTHON.md",
+    "docs/LIMITS.md",
+    "docs/FROM-TENACITY.md",
+    "docs/FROM-BACKOFF-PYTHON.md",
+    "docs/MACHINES.md",
+    "python/README.md",
+]
 
 
 def blocks(page: str) -> List[Tuple[str, str, int]]:
@@ -73,8 +80,6 @@ def test_each_block_does_what_the_page_says(page: str, tmp_path: Path, monkeypat
             ran += 1
         elif kind == "rust":
             pass  # of Rattle, which is no block of a program
-        elif text.startswith("pip install "):
-            pass  # tests/python.sh installs the wheel into a fresh environment
         else:
             assert kind == "sh", f"{page}:{line}: a block of {kind}"
             shell, printed = text, run_shell(text, tmp_path)
@@ -108,12 +113,14 @@ def test_the_first_lines_of_the_readme_work(tmp_path: Path, monkeypatch: Any) ->
 
     (shell,) = [text for kind, text, _ in blocks("README.md") if kind == "sh" and "hikebox run" in text]
     # (a busy machine may take long to write the file that is waited for)
-    patient = shell.replace("recurs(9) & spaced(0.2)", "recurs(300) & spaced(0.2)")
-    assert patient != shell
-    assert run_shell("set -e\n" + patient.replace("/tmp/", f"{tmp_path}/"), tmp_path) == (
+    patient = shell.replace("recurs(9) &", "recurs(300) &").replace(" 10/10%", " 1000/10%")
+    assert len(patient) == len(shell) + 4
+    monkeypatch.setenv("TMPDIR", str(tmp_path))
+    assert run_shell("set -e\n" + patient, tmp_path) == (
         "0: (0, 100) next 100\n100: (1, 200) next 300\n300: (2, 400) next 700\n700: (3, 800) next 1500\nhere at last\n"
+        "it ended with 0\n"
     )
-    (slot,) = (tmp_path / "retries").glob("*/*")
+    (slot,) = tmp_path.glob("*/retries/*/*")
     assert b"quota of 60000 ms of run" in slot.read_bytes()
 
 
@@ -135,22 +142,10 @@ def test_the_cookbook_begins_with_the_expressions_of_its_policies() -> None:
     assert [(anchor, Policy.parse(expression)) for anchor, expression in rows] == below and len(rows) == 13
 
 
-def test_the_page_on_tests_names_each_file_of_tests() -> None:
-    page = (TOP / "docs/TESTING.md").read_text()
-    tables = re.split(r"^### ", page, flags=re.M)
-    for title, files in (
-        ("The Python package", [file.stem[len("test_") :] for file in (TOP / "python/tests").glob("test_*.py")]),
-        ("The Rust crate", [file.stem for file in (TOP / "rust/tests").glob("*.rs")]),
-    ):
-        (table,) = [text for text in tables if text.startswith(f"{title}\n")]
-        firsts = [line.split(" | ")[0] for line in table.splitlines() if line.startswith("| `")]
-        assert sorted(re.findall(r"`(\w+)`", " ".join(firsts))) == sorted(files), title
-
-
 def test_every_public_name_is_on_a_page() -> None:
     import hikebox
 
-    pages = "".join((TOP / page).read_text() for page in PAGES)
+    pages = "".join((TOP / page).read_text() for page in [*PAGES, "docs/COOKBOOK.md"])
     left_out = {
         "Duration",
         "Milliseconds",
@@ -162,6 +157,6 @@ def test_every_public_name_is_on_a_page() -> None:
         "MAX_NUMBER",
         "Fault",
     }
-    left_out |= {"EngineError", "HikeboxError", "Ending", "BudgetClosed", "BudgetInUse", "StoreError", "state_of"}
+    left_out |= {"EngineError", "HikeboxError", "Ending", "LimitClosed", "LimitInUse", "StoreError", "state_of"}
     left_out |= {"from_duration", "exponential_milli"}
     assert [name for name in hikebox.__all__ if name not in left_out and name not in pages] == []

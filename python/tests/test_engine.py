@@ -38,6 +38,7 @@ TYPES: Dict[str, Any] = {
     "const hikebox_bucket *": (ctypes.POINTER(structs.BucketTerms),),
     "const hikebox_breaker *": (ctypes.POINTER(structs.BreakerTerms),),
     "hikebox_next *": (ctypes.POINTER(structs.Next),),
+    "const hikebox_run *": (ctypes.POINTER(structs.Run),),
     "hikebox_usage *": (ctypes.POINTER(structs.Usage),),
     "const hikebox_storm *": (ctypes.POINTER(structs.Storm),),
     "hikebox_window *": (ctypes.POINTER(structs.Window),),
@@ -101,7 +102,7 @@ def test_the_structures_are_those_of_the_header() -> None:
     )
     kinds: Dict[str, Any] = {"place": structs.Place, "course": structs.Course}
     kinds.update({"event": structs.Event, "line": structs.Line})
-    kinds.update({"next": structs.Next, "usage": structs.Usage, "storm": structs.Storm})
+    kinds.update({"next": structs.Next, "run": structs.Run, "usage": structs.Usage, "storm": structs.Storm})
     kinds.update({"window": structs.Window, "totals": structs.Totals})
     kinds.update({"stored": structs.Stored, "asking": structs.Asking, "range": structs.Range})
     kinds.update({"ticket": structs.LeasedTicket, "grant": structs.Grant, "phase": structs.Phase})
@@ -120,8 +121,17 @@ def test_the_numbers_are_those_of_the_header() -> None:
     for name in ("NO_DEADLINE", "NO_BOUND"):
         assert f"#define HIKEBOX_{name} UINT64_MAX" in text and getattr(calls, name) == 2**64 - 1
     for name in (
-        ["OK", "NO_MEMORY", "TOO_LARGE", "NO_ROOM", "NOT_JSON", "NOT_A_POLICY", "OUT_OF_RANGE", "TOO_DEEP", "TOO_MANY"]
-        + ["BACKWARDS", "LIMIT_TOO_LARGE", "FIXED", "NO_TICKET", "TOO_MANY_PASSES", "PASSES_OUT", "RACES_LOST"]
+        ["OK", "NO_MEMORY", "TOO_LARGE", "NO_ROOM", "NOT_JSON", "NOT_A_POLICY", "OUT_OF_RANGE", "TOO_DEEP"]
+        + [
+            "TOO_MANY",
+            "BACKWARDS",
+            "LIMIT_TOO_LARGE",
+            "FIXED",
+            "NO_TICKET",
+            "TOO_MANY_PASSES",
+            "PASSES_OUT",
+            "RACES_LOST",
+        ]
         + ["NOTHING_TO_HAND_BACK", "LEASE_WANTED", "NOT_OUT", "HELD_ALREADY"]
         + ["NO_REPORT", "WON", "LOST", "POLL", "RUN", "WAIT", "OVER", "ON_NOTHING", "ON_BUDGET", "ON_QUOTA"]
     ):
@@ -134,7 +144,7 @@ def test_the_numbers_are_those_of_the_header() -> None:
     assert {number: ENDINGS[number] for number in endings.values()} == {
         endings["ENDED_WON"]: Ending.WON,
         endings["ENDED_DONE"]: Ending.SCHEDULE_DONE,
-        endings["ENDED_REFUSED"]: Ending.BUDGET_REFUSED,
+        endings["ENDED_LIMIT_REFUSED"]: Ending.LIMIT_REFUSED,
         endings["ENDED_CANCELLED"]: Ending.CANCELLED,
         endings["ENDED_NO_MEMORY"]: Ending.NO_MEMORY,
         endings["ENDED_BACKWARDS"]: Ending.CLOCK_WENT_BACK,

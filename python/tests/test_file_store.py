@@ -3,6 +3,7 @@
 from __future__ import annotations
 
 import contextlib
+import errno
 import math
 import os
 import re
@@ -23,8 +24,10 @@ import pytest
 from conftest import python_environment
 
 from draws import number
-from hikebox import StoreError, StoreLost, TermsError, Usage, _forks
-from hikebox.leased import FileStore, Leased, LeasedQuota, Range, slots
+from processes import in_a_forked_child
+from hikebox import RefusalReason, StoreError, StoreLost, TermsError, Usage, _forks
+from hikebox.budgets.terms import Terms
+from hikebox.leased import FileStore, Leased, LeasedQuota, Range, file_store, machine, slots
 
 #: A window that no test sees the end of, in seconds and in milliseconds.
 LONG = 1_000_000.0
@@ -35,12 +38,24 @@ def boot_id() -> bytes:
     return Path("/proc/sys/kernel/random/boot_id").read_bytes().strip()
 
 
-def copy_of(key: bytes, turn: int, window: int, given: int, asked: int, boot: bytes = bytes(36)) -> bytes:
+def copy_of(
+    key: bytes, turn: int, window: int, given: int, asked: int, boot: bytes = bytes(36), number: bytes = bytes(4)
+) -> bytes:
     """A copy by the format's own words, and not by the package's code."""
     body = b"hikebox slot 1\n\0" + struct.pack("<4Q", turn, window, given, asked) + boot
     body += struct.pack("<H", len(key)) + bytes(2) + key
-    body += bytes(508 - len(body))
+    body += bytes(504 - len(body)) + number
     return body + struct.pack("<I", zlib.crc32(body))
+
+
+def number_of(path: Path) -> bytes:
+    """The number of the file."""
+    return path.read_bytes()[504:508]
+
+
+def is_slot(path: Path, key: bytes, turn: int, window: int, given: int, asked: int, boot: bytes = bytes(36)) -> bool:
+    """Whether the file has both copies of this, with a number of its own."""
+    return path.read_bytes() == 2 * copy_of(key, turn, window, given, asked, boot, number_of(path))
 
 
 def path_of(folder: Path, key: bytes) -> Path:
@@ -74,7 +89,12 @@ def test_the_slot_of_a_budget(tmp_path: Path) -> None:
     store = FileStore(tmp_path / "counts")
     assert take(store, 5) == Range(0, 5, None)
     assert take(store, 7) == Range(5, 7, None)
-    assert path_of(tmp_path / "counts", b"budget a").read_bytes() == 2 * copy_of(b"budget a", 2, 0, 12, 0)
+    assert is_slot(path_of(tmp_path / "counts", b"budget a"), b"budget a", 2, 0, 12, 0)
+    # each file has a number of its own
+    others = [path_of(tmp_path / "counts", b"budget %d" % each) for each in range(4)]
+    for each in range(4):
+        take(store, name=str(each))
+    assert len({number_of(path) for path in others}) > 1
 
 
 def test_fnv_1a_of_known_texts(tmp_path: Path) -> None:
@@ -92,19 +112,19 @@ def test_the_slots_of_windows_and_of_a_quota(tmp_path: Path) -> None:
     window = int(time.clock_gettime(time.CLOCK_BOOTTIME) // LONG)
     assert take_of_window(store, "a").tickets == 1
     key = b"windows of 1000000000 ms of a"
-    assert path_of(tmp_path / "counts", key).read_bytes() == 2 * copy_of(key, 1, window, 1, 0, boot_id())
+    assert is_slot(path_of(tmp_path / "counts", key), key, 1, window, 1, 0, boot_id())
     quota = LeasedQuota(store, "ä", 4, 1, LONG, lease=3)
     for _ in range(5):
         quota.deposit()
     assert number(quota.draw()) == 0
     key = "quota of 1000000000 ms of ä".encode()
-    assert path_of(tmp_path / "counts", key).read_bytes() == 2 * copy_of(key, 1, window, 3, 5, boot_id())
+    assert is_slot(path_of(tmp_path / "counts", key), key, 1, window, 3, 5, boot_id())
 
 
 def test_a_refusal_writes_nothing(tmp_path: Path) -> None:
     store = FileStore(tmp_path / "counts")
     assert store.take("a", 5, 0, None, time.monotonic) == Range(0, 0, None)
-    assert path_of(tmp_path / "counts", b"budget a").read_bytes() == 2 * copy_of(b"budget a", 0, 0, 0, 0)
+    assert is_slot(path_of(tmp_path / "counts", b"budget a"), b"budget a", 0, 0, 0, 0)
 
 
 @pytest.mark.parametrize("umask, mode", [(0o022, 0o644), (0o077, 0o600), (0o000, 0o666)])
@@ -174,8 +194,9 @@ def test_a_damaged_slot_grants_nothing_and_is_not_touched(how: str, tmp_path: Pa
     assert path.read_bytes() == damaged
     # others are not harmed
     assert take(store, name="b").tickets == 1
+    # (whoever has not seen the 41st ticket leased goes on)
     path.write_bytes(WHOLE)
-    assert take(store) == Range(40, 1, None)
+    assert take(FileStore(tmp_path / "counts")) == Range(40, 1, None)
 
 
 @pytest.mark.parametrize("lost", [0, 512])
@@ -197,8 +218,8 @@ def test_the_greater_turn_counts(tmp_path: Path) -> None:
     path = path_of(tmp_path / "counts", b"budget a")
     path.write_bytes(copy_of(b"budget a", 8, 0, 90, 0) + copy_of(b"budget a", 7, 0, 80, 0))
     assert take(store) == Range(90, 1, None)
-    path.write_bytes(copy_of(b"budget a", 8, 0, 80, 0) + copy_of(b"budget a", 9, 0, 90, 0))
-    assert take(store) == Range(90, 1, None)
+    path.write_bytes(copy_of(b"budget a", 8, 0, 80, 0) + copy_of(b"budget a", 9, 0, 92, 0))
+    assert take(store) == Range(92, 1, None)
 
 
 def test_the_slot_of_another_key_is_refused(tmp_path: Path) -> None:
@@ -256,6 +277,78 @@ def test_a_turn_that_is_the_last_one_grants_nothing(tmp_path: Path) -> None:
         take(store)
 
 
+# A copy of the folder that is put back
+
+
+def put_back(copy: Path, folder: Path) -> None:
+    shutil.rmtree(folder)
+    shutil.copytree(copy, folder)
+
+
+def test_a_copy_of_the_folder_that_is_put_back_grants_nothing_to_who_has_seen_more(tmp_path: Path) -> None:
+    folder, copy = tmp_path / "counts", tmp_path / "copy"
+    store, other = FileStore(folder), FileStore(folder)
+    assert take(store, 3) == Range(0, 3, None)
+    shutil.copytree(folder, copy)
+    assert take(other, 4) == Range(3, 4, None) and take(store, 2) == Range(7, 2, None)
+    put_back(copy, folder)
+    path = path_of(folder, b"budget a")
+    for _ in range(2):
+        says = f"^{re.escape(str(path))}: expected a count of 9 or more, got 3 of an older copy"
+        with pytest.raises(StoreLost, match=says):
+            take(store)
+        assert path.read_bytes() == path_of(copy, b"budget a").read_bytes()
+    leased = Leased(store, "a", 100)
+    refused: Any = leased.draw()
+    assert refused.reason is RefusalReason.LOST and "older copy" in str(refused.error)
+    # whoever has seen no more than 3 can't tell, and a name that the store has not leased goes on
+    assert take(FileStore(folder), 7) == Range(3, 7, None) and take(store, name="b") == Range(0, 1, None)
+    # it never leases a number again below those that it has seen leased
+    assert take(store) == Range(10, 1, None)
+    put_back(copy, folder)
+    # who wants it begun anew deletes it
+    path.unlink()
+    assert take(store) == Range(0, 1, None) and take(other) == Range(1, 1, None)
+
+
+@pytest.mark.parametrize("kind", ["windows", "quota"])
+def test_a_copy_of_windows_grants_nothing_of_a_window_of_which_more_was_seen(
+    kind: str, tmp_path: Path, monkeypatch: Any
+) -> None:
+    now = [7.0]
+    monkeypatch.setattr("hikebox.leased.file_store.shared_uptime", lambda: round(now[0] * 10**9))
+    folder, copy = tmp_path / "counts", tmp_path / "copy"
+    store = FileStore(folder)
+
+    def takes(store: FileStore) -> Any:
+        if kind == "windows":
+            return store.take("a", 2, 9, 10_000, lambda: now[0])[:2]
+        return store.take_of_quota("a", Terms(9, 0, 10_000), 2, lambda began: 0, lambda: now[0])[:2]
+
+    assert takes(store) == (0, 2)
+    shutil.copytree(folder, copy)
+    now[0] = 12.0
+    assert takes(store) == (0, 2) == (takes(store)[0] - 2, 2)
+    # a copy of the window before, and then one of this window
+    put_back(copy, folder)
+    with pytest.raises(StoreLost, match="expected a count of 4 or more, got 0 of an older copy"):
+        takes(store)
+    assert takes(FileStore(folder)) == (0, 2)
+    with pytest.raises(StoreLost, match="expected a count of 4 or more, got 2 of an older copy"):
+        takes(store)
+    # the next window goes on
+    now[0] = 20.0
+    assert takes(store) == (0, 2)
+
+
+def test_a_store_keeps_what_it_has_seen_of_few_names(tmp_path: Path, monkeypatch: Any) -> None:
+    monkeypatch.setattr("hikebox.leased.file_store._MOST_SEEN", 3)
+    store = FileStore(tmp_path / "counts")
+    for each in range(9):
+        assert take(store, name=str(each)) == Range(0, 1, None)
+    assert list(store._seen) == [b"budget 6", b"budget 7", b"budget 8"]
+
+
 # The windows of a slot
 
 
@@ -274,10 +367,30 @@ def test_counts_of_another_start_of_the_machine_and_of_a_later_window(tmp_path: 
 
 def test_a_machine_that_does_not_tell_its_start_has_no_windows(tmp_path: Path, monkeypatch: Any) -> None:
     store = FileStore(tmp_path / "counts")
-    monkeypatch.setattr("hikebox.leased.file_store._BOOT_ID", "/proc/no/boot")
+    monkeypatch.setattr(machine, "_BOOT_ID", "/proc/no/boot")
+    monkeypatch.setattr(machine._present, "_boot", None)
     with pytest.raises(StoreError, match="^/proc/no/boot: No such file or directory$"):
         take_of_window(store, "a")
     assert take(store).tickets == 1
+
+
+def test_the_start_of_the_machine_is_read_once_in_each_process(monkeypatch: Any) -> None:
+    boot, now = machine.this_boot(), machine.shared_uptime()
+    assert (boot, abs(now / 1e9 - machine.uptime()) < 1) == (boot_id(), True)
+    read: List[str] = []
+    content = machine._content
+
+    def reads(path: str) -> bytes:
+        read.append(path)
+        return content(path)
+
+    monkeypatch.setattr(machine, "_content", reads)
+    assert machine.this_boot() == boot and machine.shared_uptime() >= now and read == []
+
+    def reads_anew() -> None:
+        assert machine.this_boot() == boot and machine.shared_uptime() >= now and len(read) == 2
+
+    in_a_forked_child(reads_anew)
 
 
 def test_the_count_of_a_budget_without_windows_goes_on_after_a_start(tmp_path: Path) -> None:
@@ -362,8 +475,10 @@ def test_a_folder_that_can_not_be_made(tmp_path: Path) -> None:
     with pytest.raises(StoreError, match="Not a directory"):
         take(FileStore(tmp_path / "file" / "counts"))
     os.symlink(tmp_path / "nowhere" / "at all", tmp_path / "dangling")
-    with pytest.raises(StoreError):
-        take(FileStore(tmp_path / "dangling"))
+    for folder in (tmp_path / "dangling", Path("/proc/no/counts")):
+        # (to wait would take for ever)
+        with pytest.raises(StoreError, match="No such file or directory"):
+            take(FileStore(folder, patience=1e9))
 
 
 def test_a_process_that_changes_its_directory_keeps_the_folder(tmp_path: Path, monkeypatch: Any) -> None:
@@ -400,6 +515,44 @@ def test_a_removed_folder_is_made_again_and_leases_go_on(tmp_path: Path) -> None
         shutil.rmtree(tmp_path / "counts")
     waiting.join()
     assert drawn == [Range(0, 1, None)]
+
+
+@pytest.mark.parametrize("patience, times", [(1e9, 300), (0, 98)])
+@pytest.mark.parametrize("what", ["_has_folder", "make_slot"])
+def test_a_folder_that_is_removed_again_and_again_stops_no_lease(
+    what: str, patience: float, times: int, tmp_path: Path, monkeypatch: pytest.MonkeyPatch
+) -> None:
+    """It is removed after it was made, so that no slot can be made in it, or after the slot was."""
+    store, turns = FileStore(tmp_path / "counts", patience=patience), 0
+    make = getattr(file_store, what)
+
+    def removed(*args: Any, **options: Any) -> Any:
+        nonlocal turns
+        made = make(*args, **options)
+        turns += 1
+        if turns <= times:
+            shutil.rmtree(tmp_path / "counts")
+        return made
+
+    monkeypatch.setattr(file_store, what, removed)
+    assert take_of_window(store, "a").first == 0 and turns == times + 1
+    if not patience:
+        shutil.rmtree(tmp_path / "counts")
+        turns = -2
+        with pytest.raises(StoreError, match="it was deleted again and again"):
+            take_of_window(store, "a")
+
+
+def test_a_folder_that_is_removed_while_it_is_made(tmp_path: Path, monkeypatch: pytest.MonkeyPatch) -> None:
+    makedirs, errors = os.makedirs, 99 * [FileNotFoundError(errno.ENOENT, "removed")]
+
+    def removed(*args: Any, **options: Any) -> None:
+        if errors:
+            raise errors.pop()
+        makedirs(*args, **options)
+
+    monkeypatch.setattr(os, "makedirs", removed)
+    assert take(FileStore(tmp_path / "counts", patience=1e9)) == Range(0, 1, None)
 
 
 def test_a_lock_that_is_not_given_up(tmp_path: Path) -> None:
@@ -724,7 +877,7 @@ def test_a_lease_does_the_same_however_many_names_there_are(names: int, memory: 
     assert take_of_window(FileStore(many), "host-7").first == 1
     alone = calls_of_a_lease(few, "host-7")
     assert calls_of_a_lease(many, "host-7") == alone
-    assert alone.count("pwrite64") == 2 and alone.count("flock") == 2 and len(alone) < 40
+    assert alone.count("pwrite64") == 1 and alone.count("flock") == 2 and len(alone) < 40
     assert take_of_window(FileStore(many), "new").tickets == 1
     assert sum(len(files) for _, _, files in os.walk(many)) == names + 1
 

@@ -329,7 +329,7 @@ NAMES: List[Any] = [
     (lambda: decorated(recurs(1), retry_afer=3), "retry()", "retry_afer", "; did you mean 'retry_after'?"),
     (lambda: repeat(recurs(1), deadlin=3), "repeat()", "deadlin", "; did you mean 'deadline'?"),
     (lambda: poll_until(recurs(1), bool, on_result=bool), "poll_until()", "on_result", ""),
-    (lambda: plain(recurs(1)).copy(buget=3), "copy()", "buget", "; did you mean 'budget'?"),
+    (lambda: plain(recurs(1)).copy(limt=3), "copy()", "limt", "; did you mean 'limit'?"),
     (lambda: decorated(recurs(1))(wins).retry_with(attempts=3), "retry_with()", "attempts", ""),
 ]
 
@@ -364,7 +364,7 @@ def test_it_is_copied_and_pickled() -> None:
     for other in (copy.copy(retrying), copy.deepcopy(retrying), pickle.loads(pickle.dumps(retrying))):
         assert other.given == retrying.given and other.counts is not retrying.counts
     budget = Budget(1)
-    assert copy.deepcopy(Retrying(recurs(1), budget=budget)).budget is budget
+    assert copy.deepcopy(Retrying(recurs(1), limit=budget)).limit is budget
 
 
 # Functions
@@ -929,7 +929,7 @@ ENDS: List[Any] = [
         "SCHEDULE_DONE",
         "gave up after 2 attempts in 0.000 s: the policy was done",
     ),
-    (lambda: plain(recurs(1), budget=Budget(0))(busy), "WARNING", "BUDGET_REFUSED", "gave up after 1 attempt in "),
+    (lambda: plain(recurs(1), limit=Budget(0))(busy), "WARNING", "LIMIT_REFUSED", "gave up after 1 attempt in "),
     (
         lambda: plain(recurs(1), fallback=lambda state: None)(busy),
         "WARNING",
@@ -1091,7 +1091,7 @@ def test_the_machines_of_many_retries_at_once_are_given_up() -> None:
         return runs
 
     assert asyncio.run(main()) == 4000
-    assert len(machines._machines) <= 64
+    assert len(machines.idle) <= 64
 
 
 HEAP_OF_MANY = """

@@ -132,17 +132,17 @@ def test_methods_that_must_not_be_repeated(server: Server, clock: VirtualClock) 
 def test_redirects_draw_no_ticket(server: Server, clock: VirtualClock) -> None:
     with Budget(10) as budget:
         server.says((302, {"Location": "/b"}), 503, (302, {"Location": "/c"}), 200)
-        answer = pool(clock, recurs(5), budget=budget).request("GET", server.url + "/a")
+        answer = pool(clock, recurs(5), limit=budget).request("GET", server.url + "/a")
         assert answer.status == 200
         assert [path for _, path, _ in server.requests] == ["/a", "/b", "/b", "/c"]
         server.says((302, {"Location": "/b"}), 503, 200)
-        assert session(clock, recurs(5), budget=budget).get(server.url + "/a").status_code == 200
+        assert session(clock, recurs(5), limit=budget).get(server.url + "/a").status_code == 200
     assert budget.granted == 2
 
 
 def test_a_budget_over_all_requests(server: Server, clock: VirtualClock) -> None:
     with Budget(4) as budget:
-        one = session(clock, recurs(3), budget=budget)
+        one = session(clock, recurs(3), limit=budget)
         server.says(503)
         assert [one.get(server.url).status_code for _ in range(3)] == [503] * 3
         assert len(server.requests) == 3 + 4
@@ -151,7 +151,7 @@ def test_a_budget_over_all_requests(server: Server, clock: VirtualClock) -> None
 
 def test_a_quota_over_all_requests(server: Server, clock: VirtualClock) -> None:
     quota = Quota(1, 0.5, 3600, clock=clock)
-    with session(clock, recurs(9), budget=quota) as made:
+    with session(clock, recurs(9), limit=quota) as made:
         for _ in range(3):
             assert made.get(server.url).status_code == 200
         assert quota.seen() == Usage(window=0, asked=3, given=0, left=2)
@@ -162,16 +162,16 @@ def test_a_quota_over_all_requests(server: Server, clock: VirtualClock) -> None:
     # connections that break: the fifth request gives half a ticket, and with the sixth it is one
     server.says(0)
     with pytest.raises(urllib3.exceptions.MaxRetryError):
-        pool(clock, recurs(9), budget=quota).request("GET", server.url)
+        pool(clock, recurs(9), limit=quota).request("GET", server.url)
     assert quota.seen() == Usage(window=0, asked=5, given=3, left=0)
     server.says(0, 200)
-    assert pool(clock, recurs(9), budget=quota).request("GET", server.url).status == 200
+    assert pool(clock, recurs(9), limit=quota).request("GET", server.url).status == 200
     assert quota.seen() == Usage(window=0, asked=6, given=4, left=0)
 
 
 def test_a_quota_of_successes_that_takes_tickets_back(server: Server, clock: VirtualClock) -> None:
     quota = Quota(1, 0.5, 3600, clock=clock, counts_successes=True, returns_tickets=True)
-    with session(clock, recurs(9), budget=quota) as made:
+    with session(clock, recurs(9), limit=quota) as made:
         for asked in (1, 2):
             server.says(503, 200)
             assert made.get(server.url).status_code == 200
@@ -181,13 +181,13 @@ def test_a_quota_of_successes_that_takes_tickets_back(server: Server, clock: Vir
         assert quota.seen() == Usage(window=0, asked=2, given=2, left=0)
     quota.set_terms(reserve=2)
     server.says(503, 200)
-    assert pool(clock, recurs(9), budget=quota).request("GET", server.url).status == 200
+    assert pool(clock, recurs(9), limit=quota).request("GET", server.url).status == 200
     assert quota.seen() == Usage(window=0, asked=3, given=2, left=1)
 
 
 def test_threads_share_an_adapter(server: Server, clock: VirtualClock) -> None:
     with Budget(60) as budget:
-        one = session(clock, recurs(10), budget=budget)
+        one = session(clock, recurs(10), limit=budget)
         server.says(503)
         threads = [threading.Thread(target=one.get, args=(server.url,)) for _ in range(8)]
         for thread in threads:
@@ -205,7 +205,7 @@ def test_requests_that_are_over_are_counted(server: Server, clock: VirtualClock)
         "after": lambda state: seen.append(state.outcome.result().status_code),
     }
     with Budget(10) as budget:
-        one = session(clock, recurs(2), budget=budget, **hooks)
+        one = session(clock, recurs(2), limit=budget, **hooks)
         adapter = one.get_adapter(server.url)
         server.says(503, 200)
         kept = one.get(server.url)
@@ -219,7 +219,7 @@ def test_requests_that_are_over_are_counted(server: Server, clock: VirtualClock)
         counted = adapter.statistics
         assert (counted.calls, counted.attempts, counted.won, counted.schedule_done) == (3, 2 + 3 + 1, 2, 1)
         assert counted == adapter.retrying.statistics
-        one.mount("http://", PolicyAdapter(stop(), budget=budget))
+        one.mount("http://", PolicyAdapter(stop(), limit=budget))
         server.says(503, 200)
         assert one.get(server.url).status_code == 503
     assert budget.granted == 3
@@ -250,7 +250,7 @@ def test_no_request_is_made_past_the_deadline_of_a_sleep_that_takes_too_long(
 def test_a_deadline_counts_from_the_requests_beginning(server: Server, clock: VirtualClock) -> None:
     with Budget(100) as budget:
         for deadline, attempts in ((None, 3), (2.75, 3), (2.4, 2)):
-            made = session(clock, recurs(2) & spaced(1), budget=budget, deadline=deadline)
+            made = session(clock, recurs(2) & spaced(1), limit=budget, deadline=deadline)
             for _ in range(2):
                 server.says(503)
                 server.took = lambda: clock.advance(0.25)
@@ -274,8 +274,8 @@ def test_a_session_is_copied_and_pickled(server: Server) -> None:
         assert other.get(server.url).status_code == 200
         assert other.get_adapter(server.url).retrying.max_retry_after == 5
     budget = Budget(1)
-    with_budget = copy.deepcopy(PolicyAdapter(recurs(3), budget=budget))
-    assert with_budget.retrying is not None and with_budget.retrying.budget is budget
+    with_budget = copy.deepcopy(PolicyAdapter(recurs(3), limit=budget))
+    assert with_budget.retrying is not None and with_budget.retrying.limit is budget
 
 
 def test_a_retry_without_a_policy_is_urllib3s_own(server: Server) -> None:

@@ -4,7 +4,7 @@ from __future__ import annotations
 
 import asyncio
 import socket
-from typing import Any, Iterator
+from typing import Any
 
 import pytest
 from http_server import Server
@@ -170,21 +170,10 @@ def test_methods_and_bodies_that_must_not_be_repeated(kind: str, server: Server,
     assert [(method, body) for method, _, body in server.requests] == [("POST", b"a")] * 2
 
 
-def test_a_body_that_is_a_stream_is_sent_once(server: Server, clock: VirtualClock) -> None:
-    def parts() -> Iterator[bytes]:
-        yield b"a"
-
-    server.says(503, 200)
-    headers = {"Content-Length": "1"}
-    client = Client("httpx", clock, recurs(5))
-    assert client.request("PUT", server.url, content=parts(), headers=headers).status == 503
-    assert len(server.requests) == 1
-
-
 @KINDS
 def test_a_quota_over_all_requests(kind: str, server: Server, clock: VirtualClock) -> None:
     quota = Quota(1, 0.5, 3600, clock=clock)
-    client = Client(kind, clock, recurs(9), budget=quota)
+    client = Client(kind, clock, recurs(9), limit=quota)
     for _ in range(3):
         assert client.request("GET", server.url).status == 200
     server.says(503)
@@ -197,7 +186,7 @@ def test_a_quota_over_all_requests(kind: str, server: Server, clock: VirtualCloc
 @KINDS
 def test_a_quota_of_successes_that_takes_tickets_back(kind: str, server: Server, clock: VirtualClock) -> None:
     quota = Quota(1, 0.5, 3600, clock=clock, counts_successes=True, returns_tickets=True)
-    client = Client(kind, clock, recurs(9), budget=quota)
+    client = Client(kind, clock, recurs(9), limit=quota)
     server.says(503, 200)
     assert client.request("GET", server.url).status == 200
     assert (quota.seen().asked, quota.seen().given) == (1, 0)
@@ -224,7 +213,7 @@ def test_responses_that_are_followed_are_let_go(server: Server, clock: VirtualCl
 def test_a_budget_of_a_client(server: Server, clock: VirtualClock) -> None:
     with Budget(2) as budget:
         server.says(503)
-        client = Client("httpx", clock, recurs(9), budget=budget)
+        client = Client("httpx", clock, recurs(9), limit=budget)
         assert client.request("GET", server.url).status == 503
-        assert client.retrying.statistics.budget_refused == 1
+        assert client.retrying.statistics.limit_refused == 1
     assert budget.granted == 2

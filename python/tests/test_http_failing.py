@@ -4,14 +4,17 @@ from __future__ import annotations
 
 import asyncio
 import email.utils
+import io
+import os
 import pickle
 import threading
 import time
-from typing import Any, Callable, Dict, Iterator, List, NamedTuple, Tuple
+from typing import Any, AsyncIterator, Callable, Dict, Iterator, List, NamedTuple, Tuple
 
 import pytest
 from http_server import Answer, Server
 
+from hikebox.http import is_bad
 from hikebox import Breaker, Budget, InFlight, NotAdmitted, Quota, RefusalReason, forever, recurs, retry, spaced
 
 urllib3 = pytest.importorskip("urllib3")
@@ -225,6 +228,53 @@ def test_bodies_that_nobody_wants(kind: str, server: Server) -> None:
     assert time.monotonic() - began < 20
 
 
+@EACH
+def test_a_response_is_looked_at_once(kind: str, server: Server, monkeypatch: Any) -> None:
+    looks: List[int] = []
+
+    def looked(status: int, *how: Any) -> bool:
+        looks.append(status)
+        return is_bad(status, *how)
+
+    for module in ("_http", "urllib3"):
+        monkeypatch.setattr(f"hikebox.adapters.{module}.is_bad", looked)
+    server.says(503, 502, 200, 404, 503, 503, 503)
+    got = Client(kind, recurs(2)).get(server.url, 3)
+    assert [status for status, _ in got] == [200, 404, 503]
+    assert looks == [503, 502, 200, 404, 503, 503, 503]
+
+
+@pytest.mark.parametrize("kind", KINDS[1:])
+def test_a_fallback_gives_what_it_likes(kind: str, server: Server) -> None:
+    def fallback(state: Any) -> Any:
+        return made[kind]()
+
+    made: Dict[str, Callable[[], Any]] = {
+        "requests": lambda: response_of_requests(),
+        "httpx": lambda: httpx.Response(418, content=b"a teapot"),
+        "httpx async": lambda: httpx.Response(418, content=b"a teapot"),
+        "aiohttp": Teapot,
+    }
+    server.says(503)
+    assert Client(kind, recurs(1), fallback=fallback).get(server.url) == [(418, b"a teapot")]
+    assert len(server.requests) == 2
+
+
+def response_of_requests() -> Any:
+    made = requests.Response()
+    made.status_code, made._content = 418, b"a teapot"
+    return made
+
+
+class Teapot:
+    """What is no response of aiohttp, but can be read as one."""
+
+    status = 418
+
+    async def read(self) -> bytes:
+        return b"a teapot"
+
+
 # Redirects
 
 
@@ -244,7 +294,7 @@ def test_a_redirect_loop_ends(kind: str, policy: Any, server: Server) -> None:
     quota = Quota(1, 0, 10**6)
     most = loops(Client(kind))
     assert most == {"urllib3": 11, "requests": 31, "aiohttp": 10}.get(kind, 21)
-    assert loops(Client(kind, policy, budget=quota, deadline=60)) == most
+    assert loops(Client(kind, policy, limit=quota, deadline=60)) == most
     assert (quota.seen().asked, quota.seen().given) == (1, 0)
 
 
@@ -274,7 +324,7 @@ def test_how_many_redirects_a_retry_follows(server: Server) -> None:
 def test_a_call_is_one_request_of_a_quota(kind: str, server: Server) -> None:
     quota = Quota(5, 1, 10**6)
     server.says(*hops(4), 200)
-    client = Client(kind, recurs(2), budget=quota)
+    client = Client(kind, recurs(2), limit=quota)
     assert client.get(server.url, times=3)[0] == (200, b"answer 5")
     assert (quota.seen().asked, quota.seen().given) == (3, 0)
 
@@ -283,7 +333,7 @@ def test_a_call_is_one_request_of_a_quota(kind: str, server: Server) -> None:
 def test_a_request_that_is_made_again_is_another_call(kind: str, server: Server) -> None:
     server.says((302, {"Location": "/"}))
     clock, quota = VirtualClock(), Quota(0, 1, 10**6)
-    how: Any = {"deadline": 10, "clock": clock, "sleep": clock.sleep, "budget": quota}
+    how: Any = {"deadline": 10, "clock": clock, "sleep": clock.sleep, "limit": quota}
     if kind == "requests":
         client: Any = requests.Session()
         client.trust_env, client.max_redirects = False, 5
@@ -307,7 +357,7 @@ def test_threads_may_make_one_request_at_once(server: Server) -> None:
     with requests.Session() as session:
         session.trust_env = False
         session.max_redirects = 5
-        session.mount("http://", PolicyAdapter(recurs(2), budget=quota, pool_maxsize=8))
+        session.mount("http://", PolicyAdapter(recurs(2), limit=quota, pool_maxsize=8))
         request = session.prepare_request(requests.Request("GET", server.url))
 
         def calls() -> None:
@@ -327,10 +377,10 @@ def test_threads_may_make_one_request_at_once(server: Server) -> None:
 def test_a_success_counts_once_and_where_a_redirect_leads(kind: str, server: Server) -> None:
     quota = Quota(5, 1, 10**6, counts_successes=True)
     server.says(*hops(2), 200)
-    Client(kind, recurs(0), budget=quota).get(server.url)
+    Client(kind, recurs(0), limit=quota).get(server.url)
     assert quota.seen().asked == 1
     server.says(*hops(2), 503)
-    Client(kind, recurs(0), budget=quota).get(server.url)
+    Client(kind, recurs(0), limit=quota).get(server.url)
     assert quota.seen().asked == 1
 
 
@@ -340,7 +390,7 @@ def test_redirects_share_the_retries(kind: str, server: Server) -> None:
     with Budget(10) as budget:
         server.says(503, first, 503, second, 503, 200)
         # (aiohttp begins with the first request again, and has the same five)
-        assert Client(kind, recurs(2), budget=budget).get(server.url) == [(503, b"answer 5")]
+        assert Client(kind, recurs(2), limit=budget).get(server.url) == [(503, b"answer 5")]
     assert budget.granted == 2
     server.says(503, first, 0, second, 200)
     assert Client(kind, recurs(2)).get(server.url) == [(200, b"answer 5")]
@@ -359,7 +409,7 @@ def test_redirects_share_the_deadline(kind: str, server: Server) -> None:
 
 def test_a_redirect_that_is_not_followed(server: Server) -> None:
     with Budget(5) as budget:
-        transport = PolicyTransport(recurs(2), budget=budget, deadline=60)
+        transport = PolicyTransport(recurs(2), limit=budget, deadline=60)
         with httpx.Client(transport=transport, trust_env=False) as client:
             request = client.build_request("GET", server.url)
             server.says(503, *hops(1), 200)
@@ -373,7 +423,7 @@ def test_a_redirect_that_is_not_followed(server: Server) -> None:
             assert client.send(request).status_code == 200
         session = requests.Session()
         session.trust_env = False
-        session.mount("http://", PolicyAdapter(recurs(2), budget=budget))
+        session.mount("http://", PolicyAdapter(recurs(2), limit=budget))
         prepared = session.prepare_request(requests.Request("GET", server.url))
         for _ in range(2):
             server.says(*hops(1), 503)
@@ -480,17 +530,183 @@ def test_a_file_is_sent_again_from_its_beginning(server: Server, tmp_path: Any) 
     session = requests.Session()
     session.trust_env = False
     session.mount("http://", PolicyAdapter(recurs(2)))
-
-    def parts() -> Iterator[bytes]:
-        yield b"a"
-
     with open(path, "rb") as file:
         file.seek(2)
         server.says(503, 0, 200)
         assert session.put(server.url, data=file).status_code == 200
         assert [body for _, _, body in server.requests] == [b"body"] * 3
+
+
+def puts(kind: str, url: str, policy: Any, **how: Any) -> Tuple[int, bytes]:
+    """What a PUT gets whose body is a generator, which is used up once it is sent."""
+    return asyncio.run(puts_async(kind, url, policy, how)) if "a" in kind else puts_plain(kind, url, policy, how)
+
+
+def parts_of_a_body() -> Iterator[bytes]:
+    yield b"a body"
+    yield b" in parts"
+
+
+async def later_parts_of_a_body() -> AsyncIterator[bytes]:
+    for part in parts_of_a_body():
+        yield part
+
+
+def puts_plain(kind: str, url: str, policy: Any, how: Any) -> Tuple[int, bytes]:
+    if kind == "urllib3":
+        pool = urllib3.PoolManager(retries=PolicyRetry(policy, raise_on_status=False, **how))
+        answer = pool.request("PUT", url, body=parts_of_a_body())
+        return answer.status, answer.data
+    if kind == "requests":
+        with requests.Session() as session:
+            session.trust_env = False
+            session.mount("http://", PolicyAdapter(policy, **how))
+            answer = session.put(url, data=parts_of_a_body())
+            return answer.status_code, answer.content
+    with httpx.Client(transport=PolicyTransport(policy, **how), trust_env=False) as client:
+        answer = client.put(url, content=parts_of_a_body())
+        return answer.status_code, answer.content
+
+
+async def puts_async(kind: str, url: str, policy: Any, how: Any) -> Tuple[int, bytes]:
+    if kind == "aiohttp":
+        async with aiohttp.ClientSession() as session:
+            async with PolicySession(session, policy, **how).put(url, data=later_parts_of_a_body()) as response:
+                return response.status, await response.read()
+    async with httpx.AsyncClient(transport=AsyncPolicyTransport(policy, **how), trust_env=False) as client:
+        answer = await client.put(url, content=later_parts_of_a_body())
+        return answer.status_code, answer.content
+
+
+@EACH
+def test_a_body_that_is_used_up_is_sent_once(kind: str, server: Server) -> None:
+    whole = [("PUT", "/", b"a body in parts")]
     server.says(503, 200)
-    assert session.put(server.url, data=parts(), headers={"Content-Length": "1"}).status_code == 503
+    assert puts(kind, server.url, recurs(3)) == (503, b"answer 1")
+    assert server.requests == whole
+    server.says((413, {"Retry-After": "0"}), 200)
+    assert puts(kind, server.url, recurs(3)) == (413, b"answer 1")
+    assert server.requests == whole
+    server.says(0, 200)
+    with pytest.raises(FAILED):
+        puts(kind, server.url, recurs(3))
+    assert server.requests == whole
+
+
+class Parts:
+    """A body that gives the same iterator each time."""
+
+    def __init__(self) -> None:
+        self.parts = iter([b"a body"])
+
+    def __iter__(self) -> Iterator[bytes]:
+        return self.parts
+
+
+def test_a_body_that_urllib3_may_not_be_able_to_send_again_is_sent_once(server: Server, tmp_path: Any) -> None:
+    read, write = os.pipe()
+    os.write(write, b"a body")
+    os.close(write)
+    with open(read, "rb") as pipe:
+        for body in (Parts(), map(bytes, [b"a body"]), pipe):
+            server.says(503, 200)
+            pool = urllib3.PoolManager(retries=PolicyRetry(recurs(3)))
+            assert pool.request("PUT", server.url, body=body).status == 503
+            assert [sent for _, _, sent in server.requests] == [b"a body"]
+
+
+def test_a_redirect_that_would_send_an_empty_body_is_not_followed(server: Server) -> None:
+    pool = urllib3.PoolManager(retries=PolicyRetry(recurs(3)))
+    for status in (301, 307, 308):
+        for body in (parts_of_a_body(), io.BytesIO(b"a file")):
+            server.says((status, {"Location": "/there"}), 200)
+            with pytest.raises(urllib3.exceptions.MaxRetryError, match="can't be sent again to where the redirect"):
+                pool.request("PUT", server.url, body=body)
+            assert len(server.requests) == 1
+        server.says((status, {"Location": "/there"}), 200)
+        assert pool.request("PUT", server.url, body=b"bytes").status == 200
+        assert [sent for _, _, sent in server.requests] == [b"bytes"] * 2
+    server.says((303, {"Location": "/there"}), 200)
+    assert pool.request("PUT", server.url, body=parts_of_a_body()).status == 200
+    # a pool of connections sets a file back
+    with urllib3.HTTPConnectionPool("127.0.0.1", server.server_port, retries=PolicyRetry(recurs(3))) as one:
+        server.says((307, {"Location": "/there"}), 200)
+        assert one.request("PUT", "/", body=io.BytesIO(b"a file")).status == 200
+        assert [sent for _, _, sent in server.requests] == [b"a file"] * 2
+
+
+@EACH
+def test_a_body_that_was_never_sent_is_sent_again(kind: str) -> None:
+    with Server(listens=False) as server:
+
+        def listens(_: Any) -> None:
+            server.server_activate()
+            threading.Thread(target=server.serve_forever, daemon=True).start()
+
+        got = puts(kind, server.url, recurs(1), before_sleep=listens)
+        server.shutdown()
+    assert got == (200, b"answer 1") and server.requests == [("PUT", "/", b"a body in parts")]
+
+
+@pytest.mark.parametrize("body", [b"bytes", "text", [b"a ", b"list"], io.BytesIO(b"a file")], ids=repr)
+def test_a_body_that_urllib3_can_send_again_is_sent_again(body: Any, server: Server) -> None:
+    server.says(503, 0, 200)
+    pool = urllib3.PoolManager(retries=PolicyRetry(recurs(3)))
+    assert pool.request("PUT", server.url, body=body).status == 200
+    first, *others = [sent for _, _, sent in server.requests]
+    assert first in (b"bytes", b"text", b"a list", b"a file") and others == [first] * 2
+
+
+def test_a_form_is_sent_again_where_it_was_never_sent() -> None:
+    async def posts(url: str, **how: Any) -> int:
+        form = aiohttp.FormData()
+        form.add_field("part", b"of a form", filename="part")
+        async with aiohttp.ClientSession() as session:
+            async with PolicySession(session, recurs(1), **how).post(url, data=form) as response:
+                return int(response.status)
+
+    with Server(listens=False) as server:
+
+        def listens(_: Any) -> None:
+            server.server_activate()
+            threading.Thread(target=server.serve_forever, daemon=True).start()
+
+        assert asyncio.run(posts(server.url, before_sleep=listens)) == 200
+        server.shutdown()
+    assert b"of a form" in server.requests[0][2]
+
+
+def test_a_long_body_whose_end_comes_late_keeps_no_attempt_waiting(monkeypatch: Any) -> None:
+    # The rest of the first answer comes when the adapter has read enough of it. aiohttp then pools the connection, from
+    # which it reads no more while so much is unread.
+    wait_for = asyncio.wait_for
+    answers: List[Any] = []
+    begun = b"HTTP/1.1 503 Busy\r\nContent-Length: 165537\r\n\r\n" + b"x" * 65_537
+    whole = b"HTTP/1.1 200 OK\r\nContent-Length: 2\r\n\r\nok"
+
+    async def serves(reader: Any, writer: Any) -> None:
+        for answer in (begun, whole):
+            await reader.readuntil(b"\r\n\r\n")
+            writer.write(answer)
+
+    async def the_rest_comes(reading: Any, seconds: Any) -> Any:
+        connection = answers[0].connection
+        body = await wait_for(reading, seconds)
+        connection.protocol.data_received(b"x" * 100_000)
+        assert answers[0].content.is_eof()
+        return body
+
+    async def gets() -> Got:
+        server = await asyncio.start_server(serves, "127.0.0.1", 0)
+        url = "http://127.0.0.1:%d" % server.sockets[0].getsockname()[1]
+        how: Any = {"timeout": aiohttp.ClientTimeout(total=10), "read_bufsize": 2**14}
+        async with server, aiohttp.ClientSession(**how) as session:
+            client = PolicySession(session, recurs(1), after=lambda state: answers.append(state.outcome.result()))
+            async with client.get(url) as response:
+                return response.status, await response.read()
+
+    monkeypatch.setattr(asyncio, "wait_for", the_rest_comes)
+    assert asyncio.run(gets()) == (200, b"ok")
 
 
 # raise_for_status, and words that are wrong
@@ -515,7 +731,7 @@ def test_a_form_with_a_file_is_sent_once(form: Any, server: Server, tmp_path: An
 def test_a_session_that_raises_for_statuses(server: Server) -> None:
     async def get(of_session: bool, how: Dict[str, Any]) -> Any:
         async with aiohttp.ClientSession(raise_for_status=of_session) as session:
-            client = PolicySession(session, recurs(3), budget=quota)
+            client = PolicySession(session, recurs(3), limit=quota)
             async with client.get(server.url, **how) as answer:
                 return answer.status, await answer.text()
 
@@ -605,7 +821,7 @@ def test_a_retry_raises_as_urllib3s_does(server: Server) -> None:
 @pytest.mark.parametrize("kind", ["requests", "httpx", "httpx async", "aiohttp"])
 def test_a_breaker_is_asked_and_told(kind: str, server: Server) -> None:
     breaker = Breaker(3, spaced(60))
-    client = Client(kind, recurs(1), budget=breaker)
+    client = Client(kind, recurs(1), limit=breaker)
     server.says(503, 200, (302, {"Location": "/there"}), 200, 503, 503, 503)
     assert [status for status, _ in client.get(server.url, 4)] == [200, 200, 503, 503]
     # (two failures of the third call, and one of the fourth, whose retry was refused)
@@ -617,7 +833,7 @@ def test_a_breaker_is_asked_and_told(kind: str, server: Server) -> None:
 
 @pytest.mark.parametrize("kind", ["requests", "httpx", "httpx async", "aiohttp"])
 def test_each_request_gives_its_place_back(kind: str, server: Server) -> None:
-    client = Client(kind, recurs(2), budget=InFlight(1, 0))
+    client = Client(kind, recurs(2), limit=InFlight(1, 0))
     server.says(503, 0, 200, (302, {"Location": "/there"}), 200, 503, 503, 503, 200)
     assert [status for status, _ in client.get(server.url, 4)] == [200, 200, 503, 200]
 
@@ -627,7 +843,7 @@ def test_a_method_that_is_not_repeated_fails_too(server: Server) -> None:
     breaker = Breaker(1, spaced(60))
     for limit in (quota, breaker):
         seen: List[Any] = []
-        transport = PolicyTransport(recurs(2), budget=limit, on_success=seen.append)
+        transport = PolicyTransport(recurs(2), limit=limit, on_success=seen.append)
         with httpx.Client(transport=transport) as client:
             server.says(503)
             assert client.post(server.url).status_code == 503
@@ -637,7 +853,7 @@ def test_a_method_that_is_not_repeated_fails_too(server: Server) -> None:
     refusal = breaker.request().admit()
     assert refusal is not None and refusal.reason is RefusalReason.BREAKER_OPEN
     quota = Quota(1, 1, 10**6, counts_successes=True)
-    retries = PolicyRetry(recurs(2), budget=quota)
+    retries = PolicyRetry(recurs(2), limit=quota)
     assert urllib3.PoolManager(retries=retries).request("POST", server.url).status == 503
     assert quota.seen().asked == 0 and retries.statistics.not_retried == 1
 
@@ -645,14 +861,14 @@ def test_a_method_that_is_not_repeated_fails_too(server: Server) -> None:
 def test_a_retry_of_urllib3_takes_no_limit() -> None:
     limit: Any = Breaker(1, spaced(60))
     with pytest.raises(TypeError, match=r"^PolicyRetry\(\) takes no Breaker: .* urllib3 doesn't say when that begins$"):
-        PolicyRetry(recurs(1), budget=limit)
+        PolicyRetry(recurs(1), limit=limit)
 
 
 def test_a_retry_that_is_stopped_while_it_waits_makes_no_request(server: Server) -> None:
     server.says(503)
     event = threading.Event()
     quota = Quota(5, 0, 10**6)
-    retries = PolicyRetry(recurs(5) & spaced(60), stop=event, budget=quota)
+    retries = PolicyRetry(recurs(5) & spaced(60), stop=event, limit=quota)
     threading.Timer(0.2, event.set).start()
     with pytest.raises(urllib3.exceptions.MaxRetryError, match="too many 503 error responses"):
         urllib3.PoolManager(retries=retries).request("GET", server.url)

@@ -114,7 +114,7 @@ def interrupted(call: Callable[[], Any]) -> None:
 
 
 def retries(budget: Any, **how: Any) -> Callable[[], Any]:
-    retrying = Retrying(recurs(2), budget=budget, **how)
+    retrying = Retrying(recurs(2), limit=budget, **how)
 
     def call() -> None:
         try:
@@ -127,7 +127,7 @@ def retries(budget: Any, **how: Any) -> Callable[[], Any]:
 
 def loops(budget: Any) -> Callable[[], Any]:
     def call() -> None:
-        for attempt in Retrying(recurs(2), budget=budget, fallback=lambda state: None):
+        for attempt in Retrying(recurs(2), limit=budget, fallback=lambda state: None):
             with attempt:
                 fails()
 
@@ -234,7 +234,7 @@ def test_a_machine_serves_one_retry_at_a_time_whatever_step_is_interrupted(monke
     for step in range(1, 10_000):
         reached = interrupted_at(step, run)
         gc.collect()
-        pool = machines._machines
+        pool = machines.idle
         assert len({id(machine) for machine in pool}) == len(pool), step
         assert not any(machine.handle.held for machine in pool), step
         if not reached:

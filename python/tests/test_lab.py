@@ -23,6 +23,7 @@ import pytest
 from conftest import TOP, heed_signals, python_environment, served
 
 from hikebox import Policy, Population, Quota, recurs, storm
+from hikebox.lab import shares
 from hikebox.lab.server import Lab
 from hikebox.lab.cookbook import COOKBOOK
 from hikebox.lab.players import BrokenOff, Players
@@ -30,6 +31,7 @@ from hikebox.storms.code import in_command, in_python, in_rust, in_scenario
 from hikebox.storms.parameters import SCENARIOS, Parameters, RateSpan, Slow, Span
 from hikebox.storms.texts import population_sentences
 from hikebox.budgets.terms import Terms
+from hikebox.storms.storm import play
 
 #: How long is waited for what has to happen, in seconds: on a machine with much else to do it takes long.
 _PATIENCE = 120
@@ -248,15 +250,46 @@ def test_storms_are_shown_side_by_side(lab: Lab) -> None:
     assert first["json"] == Policy.parse(FULL).to_json()
     cut = post(lab, "storm", {**storm_of(("recurs(0)", "")), "storm": {"calls": 30_000, "outage": [0, 5000]}}).json()
     assert cut["sides"][0]["brief"] == (
-        "86.6 % of 30,000 requests succeeded until the storm was cut, back at 5 s; 1.00 calls for each"
+        "86.7 % of 30,000 requests succeeded until the storm was cut, back at 5 s; 1.00 calls for each"
     )
     brief = post(lab, "storm", {**storm_of((FULL, ""), (FULL, "5")), "is_brief": True}).json()
     assert ">calls begun<" not in brief["picture"] and ">B: budget of 5<" in brief["picture"]
-    assert post(lab, "storm", storm_of(("", ""), ("", ""))).json() == {
-        "sides": [None, None],
-        "picture": "",
-        "scenario": "",
-    }
+    none = post(lab, "storm", storm_of(("", ""), ("", ""))).json()
+    assert (none["sides"], none["picture"], none["scenario"]) == ([None, None], "", "")
+
+
+@pytest.mark.parametrize(
+    "storm, bounds",
+    [
+        # 2^20 requests at most, and 65,537 windows
+        ({}, {"rate": [1, 17_476], "seconds": [1, 1310], "window": [2, 3_600_000], "capacity": [1, 1_000_000]}),
+        ({"seconds": 600}, {"rate": [1, 1747], "window": [11, 3_600_000]}),
+        ({"replicas": 3, "down": 2}, {"replicas": [2, 4], "down": [1, 3]}),
+        # of 60 s, 50 have 800 a second, and 10 so many as are left of them
+        ({"rates": [0, 10_000, 5000]}, {"rates2": [0, (2**20 - 40_000) // 10]}),
+    ],
+)
+def test_sliders_are_told_how_far_the_storm_is_played(lab: Lab, storm: Any, bounds: Any) -> None:
+    told = post(lab, "storm", {**storm_of(("recurs(0)", "")), "storm": storm}).json()["bounds"]
+    assert {name: told[name] for name in bounds} == bounds
+    for name, ends in bounds.items():
+        for end in ends:
+            changed: Any = {"rates": [0, 10_000, end]} if name == "rates2" else {name: end, "calls": 1}
+            again = {**storm_of(("recurs(0)", "")), "storm": {**storm, **changed}}
+            assert "fault" not in post(lab, "storm", again).json()
+
+
+def test_what_is_told_of_a_storm_that_takes_long(monkeypatch: Any) -> None:
+    monkeypatch.setattr(shares, "_TICK", 0.001)
+    wanted = [(Policy.parse(FULL), Parameters(rate=4000, capacity=2000)), (recurs(0), Parameters(rate=17_000))]
+    told: List[float] = []
+    played = shares.play_telling(wanted, told.append)
+    assert [each.totals for each in played] == [play(*each).totals for each in wanted]
+    assert told == sorted(told) and 0 < told[0] < 0.5 < told[-1] < 1
+    # nothing is told of a small one, which is played at once, and of one whose part is not over soon
+    told.clear()
+    for how in (Parameters(), Parameters(rate=17_000, calls=5000)):
+        assert len(shares.play_telling([(recurs(0), how)], told.append)) == 1 and not told
 
 
 def test_clients_beside_have_the_policy_of_their_side_or_one_of_their_own(lab: Lab) -> None:
@@ -269,7 +302,7 @@ def test_clients_beside_have_the_policy_of_their_side_or_one_of_their_own(lab: L
     known = [
         storm(
             Policy.parse(text),
-            budget=int(limit),
+            limit=int(limit),
             beside=[Population(0.3, Policy.parse(text), limited=limited)],
             **by_seconds,
         )
@@ -353,7 +386,7 @@ PROGRAMS: List[Tuple[str, Parameters]] = [
 
 @pytest.mark.parametrize("spelt, parameters", PROGRAMS, ids=[spelt for spelt, _ in PROGRAMS])
 def test_the_program_in_python_plays_the_storm_of_the_page(spelt: str, parameters: Parameters) -> None:
-    from hikebox.storm import play
+    from hikebox.storms.storm import play
 
     policy = Policy.parse(spelt)
     told = io.StringIO()
@@ -367,7 +400,7 @@ def test_the_command_and_the_scenario_play_the_storm_of_the_page(
     spelt: str, parameters: Parameters, tmp_path: Path, capsys: pytest.CaptureFixture[str]
 ) -> None:
     from hikebox.cli.main import main
-    from hikebox.storm import play
+    from hikebox.storms.storm import play
 
     played = play(Policy.parse(spelt), parameters)
     words = shlex.split(in_command(played.policy, parameters))
@@ -635,5 +668,5 @@ def test_a_link_that_is_none_is_told() -> None:
 
 def test_a_quota_of_the_page_is_one_of_the_package() -> None:
     spelt = in_python(recurs(3), Parameters(tickets=Terms(10, 100, 1000)))
-    assert "from hikebox import Quota, recurs, storm" in spelt and "budget=Quota(10, 0.1, per=1)" in spelt
-    assert storm(recurs(3), budget=Quota(10, 0.1, per=1)).parameters.tickets == Terms(10, 100, 1000)
+    assert "from hikebox import Quota, recurs, storm" in spelt and "limit=Quota(10, 0.1, per=1)" in spelt
+    assert storm(recurs(3), limit=Quota(10, 0.1, per=1)).parameters.tickets == Terms(10, 100, 1000)

@@ -5,6 +5,7 @@ from __future__ import annotations
 import asyncio
 import math
 import pickle
+import random
 import time
 from datetime import timedelta
 from pathlib import Path
@@ -16,7 +17,7 @@ from draws import drawn_by, number
 from processes import Workers, in_a_forked_child
 from hikebox import (
     AsyncRetrying,
-    BudgetError,
+    LimitError,
     Ending,
     Retrying,
     StoreError,
@@ -26,7 +27,8 @@ from hikebox import (
     spaced,
     state_of,
 )
-from hikebox.leased import FileStore, Leased, LeasedQuota, Range, RedisStore
+from hikebox._engine.leasing import Stored, lease_of_budget
+from hikebox.leased import FileStore, Leased, LeasedQuota, Range, RedisStore, redis_store
 
 
 class Drawers(Workers):
@@ -87,7 +89,7 @@ def test_parameters() -> None:
     store = FileStore("/nowhere/counts")
     assert [Leased(store, "a", limit).lease for limit in (0, 63, 640, 10**6)] == [1, 1, 10, 1000]
     for bad in ({"limit": -1}, {"limit": 2**52}, {"limit": 1, "lease": 0}, {"limit": 1, "per": 0}):
-        with pytest.raises(BudgetError):
+        with pytest.raises(LimitError):
             Leased(store, "a", **bad)  # type: ignore[arg-type]
     far: List[Dict[str, Any]] = [{"lease": 2**32 + 1}, {"spare": -1}, {"spare": 2**33}]
     for too_far in far + [{"again_after": -1}, {"again_after": math.nan}, {"again_after": math.inf}]:
@@ -174,7 +176,7 @@ def test_a_store_that_has_nothing_is_not_asked_again_before_its_moment() -> None
     now[0] = 10.0
     assert number(leased.draw()) == 0
     spent = Stub((5, 0, None))
-    leased = Leased(spent, "a", 5)
+    leased = Leased(spent, "a", 5, clock=lambda: now[0])
     assert [number(leased.draw()) for _ in range(5)] == [None] * 5 and spent.asked == 1
 
 
@@ -214,7 +216,7 @@ def test_the_reserve_of_a_period() -> None:
 
 def test_retries_draw_on_it(tmp_path: Path) -> None:
     leased = Leased(FileStore(tmp_path / "counts"), "a", limit=5, lease=2)
-    retrying = Retrying(recurs(3), budget=leased)
+    retrying = Retrying(recurs(3), limit=leased)
     endings = []
     for _ in range(2):
         with pytest.raises(ValueError) as caught:
@@ -222,7 +224,7 @@ def test_retries_draw_on_it(tmp_path: Path) -> None:
         state = state_of(caught.value)
         assert state is not None
         endings.append((state.ending, state.granted))
-    assert endings == [(Ending.SCHEDULE_DONE, 3), (Ending.BUDGET_REFUSED, 2)]
+    assert endings == [(Ending.SCHEDULE_DONE, 3), (Ending.LIMIT_REFUSED, 2)]
 
 
 def test_coroutines_draw_on_it_and_others_go_on_meanwhile(tmp_path: Path) -> None:
@@ -250,10 +252,10 @@ def test_coroutines_draw_on_it_and_others_go_on_meanwhile(tmp_path: Path) -> Non
 
     async def main() -> Any:
         beating = asyncio.ensure_future(beat())
-        retrying = AsyncRetrying(recurs(3) & spaced(0.001), budget=leased)
+        retrying = AsyncRetrying(recurs(3) & spaced(0.001), limit=leased)
         ended = await asyncio.gather(*(retrying(fails) for _ in range(10)), return_exceptions=True)
         with pytest.raises(KeyError) as caught:
-            async for attempt in AsyncRetrying(recurs(1), budget=leased):
+            async for attempt in AsyncRetrying(recurs(1), limit=leased):
                 with attempt:
                     await fails()
         assert state_of(caught.value).granted == 1  # type: ignore[union-attr]
@@ -412,6 +414,131 @@ def test_a_budget_in_redis(redis_server: Any) -> None:
         store.take("a", 1, 100, None, time.monotonic)
 
 
+def test_a_budget_in_redis_that_is_begun_again_is_drawn_by_those_who_used_it_up(redis_server: Any) -> None:
+    now = [0.0]
+    store = RedisStore(redis_server().client())
+    store.begin("a")
+    leased = Leased(store, "a", limit=2, clock=lambda: now[0])
+    for _ in range(3):
+        assert [number(leased.draw()) for _ in range(3)] == [0, 1, None]
+        store.begin("a")
+        assert not leased.draw()
+        now[0] += 1
+
+
+@pytest.mark.parametrize("kind", ["asyncio", "a pool of asyncio"])
+def test_a_client_of_asyncio_is_refused(kind: str) -> None:
+    import redis.asyncio
+
+    client = redis.asyncio.Redis() if kind == "asyncio" else redis.asyncio.Redis(max_connections=3)
+    with pytest.raises(
+        TypeError, match=r"^expected a client that waits for its answers, redis.Redis\(..\), got one of"
+    ):
+        RedisStore(client)
+
+
+def test_what_is_no_client_is_refused() -> None:
+    import redis
+
+    for wrong in ("localhost", None, 6379, redis.Redis, redis):
+        with pytest.raises(TypeError, match=r"^expected a client such as redis.Redis\(..\), got "):
+            RedisStore(wrong)
+    for right in (redis.Redis(), redis.Redis.from_url("redis://localhost"), redis.StrictRedis(port=1)):
+        assert RedisStore(right).client is right
+
+
+def test_a_lease_of_a_budget_is_one_question(redis_server: Any, monkeypatch: Any) -> None:
+    import redis
+
+    sent: List[Any] = []
+    send = redis.connection.Connection.send_packed_command
+
+    def sends(connection: Any, *words: Any, **more: Any) -> Any:
+        sent.append(words)
+        return send(connection, *words, **more)
+
+    store = RedisStore(redis_server().client())
+    store.begin("a")
+    for _ in range(2):  # the first one sends the scripts
+        sent.clear()
+        monkeypatch.setattr(redis.connection.Connection, "send_packed_command", sends)
+        assert store.take("a", 1, 9, None, time.monotonic).tickets == 1
+        store.take("a", 1, 9, 1000, time.monotonic)
+        monkeypatch.undo()
+    assert len(sent) == 2
+
+
+def test_the_script_of_a_budget_leases_what_the_step_does(redis_server: Any) -> None:
+    """Leases one after another, by the script and by the engine: random ones, with numbers of each size."""
+    store = RedisStore(redis_server().client())
+    chance = random.Random(57)
+
+    def number(most: int) -> int:
+        return max(0, min(most, chance.choice((0, most, 1 << chance.randrange(52))) + chance.randrange(-2, 3)))
+
+    leased = 0
+    for _ in range(200):
+        limit, stored = number(2**52 - 1), Stored(given=number(2**52 - 1))
+        store.begin("a")
+        store.client.incrby("hikebox:{a}", stored.given)
+        for _ in range(6):
+            count = max(1, number(2**32))
+            found = store.take("a", count, limit, None, time.monotonic)
+            granted = lease_of_budget(limit, 0, count, stored)
+            assert granted is not None and found.tickets == granted.tickets
+            assert not granted.tickets or found.first == granted.first
+            assert int(store.client.get("hikebox:{a}")) == 2**52 + stored.given
+            leased += found.tickets > 0
+    assert leased > 200
+
+
+#: A server's time, and how long ago it says that it was started, in the place of its own.
+SCRIPTED = """
+local asks = redis.call
+local redis = {call = function(name, ...)
+  if name == 'TIME' then return {'%d', '%d'} end
+  if name == 'INFO' then return 'run_id:%s\\r\\nuptime_in_seconds:%d\\r\\n' end
+  return asks(name, ...)
+end}
+"""
+
+
+def test_windows_of_redis_by_a_scripted_clock(redis_server: Any) -> None:
+    client, server = redis_server().client(), "5e" * 20
+
+    def leased(count: int, limit: int, now: Tuple[int, int], uptime: int, period: int = 1000) -> Any:
+        script = SCRIPTED % (*now, server, uptime) + redis_store.TAKE_OF_WINDOW
+        return client.eval(script, 1, "w", period * 1000, count, limit, 2 * period)[2:]
+
+    def looked(now: Tuple[int, int], uptime: int) -> Any:
+        return client.eval(SCRIPTED % (*now, server, uptime) + redis_store.LOOK, 1, "w", 1_000_000)
+
+    # a window that began at 1000 s, of a server that was started at 997.25 s, or up to two seconds later
+    assert looked((1000, 250_000), 3) == [b"1000", b"250000", server.encode()]
+    assert looked((1000, 250_000), 2) == [b"1000", b"250000", None]
+    assert looked((1000, 999_999), 2)[2] is None and looked((1001, 0), 3)[2] is not None
+    assert leased(3, 9, (1000, 250_000), 2) == [0, -1] and client.keys("*") == []
+    assert leased(3, 9, (1000, 250_000), 3) == [0, 3] == leased(4, 9, (1001, 0), 9)[:1] + [3]
+    assert [leased(4, 9, (1000, 999_999), 9) for _ in range(3)] == [[3, 4], [7, 2], [9, 0]]
+    assert client.get("w:1000") == b"9" and client.get("w:1001") == b"4"
+    # a greater limit goes on where the lower one ended, and none at all counts nothing
+    assert leased(4, 10, (1000, 0), 9) == [9, 1] and leased(4, 0, (1002, 0), 9) == [0, 0]
+    assert client.get("w:1002") == b"0" and all(0 < client.pttl(key) <= 2000 for key in client.keys("w:*"))
+    # a period of years: one window, which began before the server
+    assert leased(1, 9, (1000, 0), 500, period=10**12) == [0, -1]
+
+
+def test_a_redis_that_answers_something_else_leases_nothing(redis_server: Any, monkeypatch: Any) -> None:
+    store = RedisStore(redis_server().client())
+    store.begin("a")
+    for answer in ([0, -2], [-5, 2], [0, 3], [8, 2], [0, 2, 0], [0], "abc", 3, None):
+        monkeypatch.setattr(store, "_take", lambda keys, args: answer)
+        with pytest.raises(StoreError, match="^Redis: "):
+            store.take("a", 2, 9, None, time.monotonic)
+    monkeypatch.setattr(store, "_take", lambda keys, args: [7, 2])
+    assert store.take("a", 2, 9, None, time.monotonic) == Range(7, 2, None)
+
+
 def test_a_client_that_decodes_answers(redis_server: Any) -> None:
     import redis
 
@@ -434,8 +561,9 @@ def test_a_redis_that_was_started_anew_grants_nothing(redis_server: Any) -> None
     server.start()
     with pytest.raises(StoreLost, match="restarted"):
         store.take("a", 3, 10, None, time.monotonic)
+    # (a lease that is refused counts nothing)
     durable = RedisStore(server.client(), durable=True)
-    assert durable.take("a", 7, 20, None, time.monotonic)[:2] == (6, 7)
+    assert durable.take("a", 7, 20, None, time.monotonic)[:2] == (3, 7)
 
 
 def test_8_processes_draw_100000_tickets_of_redis_each_once(workers: Drawers, redis_server: Any) -> None:

@@ -21,6 +21,7 @@ from hikebox import (
     RefusalReason,
     Retrying,
     StoreError,
+    StoreLost,
     TermsError,
     Usage,
     recurs,
@@ -286,7 +287,7 @@ def test_requests_are_not_worth_asking_a_store_that_can_not_be_reached() -> None
 
 def test_retries_draw_on_it_and_calls_are_its_requests(tmp_path: Path) -> None:
     quota = LeasedQuota(FileStore(tmp_path / "counts"), "a", 4, 0.5, LONG, lease=1)
-    retrying = Retrying(recurs(3), budget=quota)
+    retrying = Retrying(recurs(3), limit=quota)
     endings = []
     for _ in range(2):
         with pytest.raises(KeyError) as caught:
@@ -294,7 +295,7 @@ def test_retries_draw_on_it_and_calls_are_its_requests(tmp_path: Path) -> None:
         state = state_of(caught.value)
         assert state is not None
         endings.append((state.ending, state.granted))
-    assert endings == [(Ending.SCHEDULE_DONE, 3), (Ending.BUDGET_REFUSED, 2)]
+    assert endings == [(Ending.SCHEDULE_DONE, 3), (Ending.LIMIT_REFUSED, 2)]
     assert quota.seen().asked == 2
 
 
@@ -305,7 +306,7 @@ def test_coroutines_draw_on_it_and_others_go_on_meanwhile(tmp_path: Path) -> Non
         raise KeyError()
 
     async def main() -> Any:
-        retrying = AsyncRetrying(recurs(3) & spaced(0.001), budget=quota)
+        retrying = AsyncRetrying(recurs(3) & spaced(0.001), limit=quota)
         return await asyncio.gather(*(retrying(fails_later) for _ in range(10)), return_exceptions=True)
 
     ended = asyncio.run(main())
@@ -556,6 +557,23 @@ def test_the_script_grants_what_the_step_of_a_lease_does(redis_server: Any) -> N
     assert granted_in_all > 400
 
 
+def test_the_script_grants_nothing_in_another_start_of_the_server(redis_server: Any) -> None:
+    from hikebox.leased import redis_store
+
+    client = redis_server().client()
+    wanted = (3, 2, 9, 0, 2**32, 60_000)
+    script = redis_store.IN_START + redis_store.GRANT
+    assert client.eval(script, 1, "k", *wanted, "0" * 40) == b"restarted meanwhile" and client.keys("*") == []
+    assert client.eval(script, 1, "k", *wanted, client.info("server")["run_id"]) == [0, 2, 3]
+    store, now = RedisStore(client), [b"5000", b"0"]
+    store._look = lambda keys, args: [*now, b"0" * 40]
+    with pytest.raises(StoreLost, match="^Redis was restarted while it was asked for a lease of 'a'$"):
+        store.take_of_quota("a", Terms(9, 0, 1000), 2, lambda began: 3, time.monotonic)
+    store._look = lambda keys, args: [*now, client.info("server")["run_id"]]
+    assert store.take_of_quota("a", Terms(9, 0, 1000), 2, lambda began: 3, time.monotonic)[:2] == (0, 2)
+    assert client.hgetall("hikebox:{a}:quota:1000:5000") == {b"asked": b"3", b"given": b"2"}
+
+
 def test_a_redis_that_answers_something_else_grants_nothing(redis_server: Any, monkeypatch: Any) -> None:
     from hikebox.leased import redis_store
 
@@ -571,48 +589,33 @@ def test_a_redis_that_answers_something_else_grants_nothing(redis_server: Any, m
     assert number(quota.draw()) == 7
 
 
-def test_who_writes_to_the_key_that_nobody_writes_is_told(redis_server: Any, monkeypatch: Any) -> None:
-    client = redis_server().client()
-    watch = type(client.pipeline()).watch
-
-    def disturbs(pipe: Any, name: str) -> Any:
-        try:
-            return watch(pipe, name)
-        finally:
-            client.set(name, "anything")
-
-    monkeypatch.setattr(type(client.pipeline()), "watch", disturbs)
-    time.sleep(3.2)
-    refused = LeasedQuota(RedisStore(client), "a", 9, 0, 0.5).draw()
-    assert isinstance(refused, Refusal) and refused.reason is RefusalReason.UNREACHABLE
-    assert str(refused.error) == "Redis: Watched variable changed."
-    monkeypatch.undo()
-    assert number(LeasedQuota(RedisStore(client), "a", 9, 0, 0.5).draw()) == 0
-
-
-def test_a_client_that_repeats_tells_requests_once(redis_server: Any, monkeypatch: Any) -> None:
-    """Clients of redis 6 make a transaction again to which they got no answer, unless it watches a key."""
+@pytest.mark.parametrize("lost_at", ["the answer", "the question"])
+def test_a_client_that_repeats_tells_requests_once(lost_at: str, redis_server: Any, monkeypatch: Any) -> None:
+    """Clients of redis 6 send a command again to which they got no answer."""
     import redis
     from redis.backoff import NoBackoff
     from redis.retry import Retry
 
-    answered = redis.client.Pipeline.parse_response
-    lost: List[str] = []
+    connection_class = redis.connection.Connection
+    sends, reads = connection_class.send_packed_command, connection_class.read_response
+    sent: List[bool] = []
+    lost: List[bool] = []
 
-    def loses_one(pipe: Any, connection: Any, name: str, **options: Any) -> Any:
-        if name == "_" and not lost and any(args[0] == "EVAL" for args, _ in pipe.command_stack):
-            lost.append(name)
-            time.sleep(0.1)
-            raise redis.TimeoutError("the answer was lost")
-        return answered(pipe, connection, name, **options)
+    def notes(connection: Any, command: Any, *more: Any, **options: Any) -> Any:
+        is_lease = any(b"HINCRBY" in bytes(part) for part in command)
+        sent.append(is_lease)
+        if is_lease and not lost and lost_at == "the question":
+            lost.append(True)
+            raise redis.TimeoutError("it was lost")
+        return sends(connection, command, *more, **options)
 
-    def repeats(pipe: Any, connection: Any, error: Any) -> None:
-        connection.disconnect()
-        if pipe.watching:
-            raise redis.WatchError("watching")
+    def loses_one(connection: Any, *words: Any, **options: Any) -> Any:
+        answer = reads(connection, *words, **options)
+        if sent and sent[-1] and not lost:
+            lost.append(True)
+            raise redis.TimeoutError("it was lost")
+        return answer
 
-    monkeypatch.setattr(redis.client.Pipeline, "parse_response", loses_one)
-    monkeypatch.setattr(redis.client.Pipeline, "_disconnect_raise_reset", repeats)
     port = redis_server().port
     client = redis.Redis(port=port, retry=Retry(NoBackoff(), 3), retry_on_error=[redis.TimeoutError])
     time.sleep(8.2)
@@ -621,14 +624,20 @@ def test_a_client_that_repeats_tells_requests_once(redis_server: Any, monkeypatc
             time.sleep(0.01)
         began = time.monotonic()
         lost.clear()
+        sent.clear()
         quota = LeasedQuota(RedisStore(client), name, 2, 1, 5)
         quota.deposit(10)
-        with pytest.raises(StoreError, match="Redis: the answer was lost"):
+        monkeypatch.setattr(connection_class, "send_packed_command", notes)
+        monkeypatch.setattr(connection_class, "read_response", loses_one)
+        with pytest.raises(StoreError, match="^Redis: it was lost$"):
             quota.seen()
+        monkeypatch.undo()
         seen = quota.seen()
         if time.monotonic() - began < 1:  # (so it is sure that all of it was in one window)
             break
-    assert lost and (seen.asked, seen.left) == (10, 12)
+    assert lost and sum(sent) == 1
+    asked = 10 if lost_at == "the answer" else 0
+    assert (seen.asked, seen.left) == (asked, 2 + asked)
     assert client.ping()
 
 

@@ -34,6 +34,7 @@ from hikebox import (
     state_of,
 )
 from hikebox.leased import FileStore, Leased, LeasedQuota, QuotaRange, Range
+from hikebox.leased.stores import present_window
 from hikebox.budgets.terms import Terms
 
 #: A window that no test sees the end of.
@@ -185,15 +186,41 @@ def test_a_retry_says_why_it_got_no_ticket(awaits: bool, now: Clock, caplog: Any
         store.error = error
         with pytest.raises(KeyError) as caught:
             if awaits:
-                asyncio.run(AsyncRetrying(recurs(9), budget=quota)(fails_later))
+                asyncio.run(AsyncRetrying(recurs(9), limit=quota)(fails_later))
             else:
-                Retrying(recurs(9), budget=quota)(fails)
+                Retrying(recurs(9), limit=quota)(fails)
         state = state_of(caught.value)
         assert state is not None and state.refusal is not None
-        assert (state.ending, state.granted) == (Ending.BUDGET_REFUSED, retries)
+        assert (state.ending, state.granted) == (Ending.LIMIT_REFUSED, retries)
         assert (state.refusal.reason.value, state.refusal.error) == (reason, error)
-        assert f"the budget refused a retry ({reason})" in caplog.records[-1].getMessage()
+        assert f"the limit refused a retry ({reason})" in caplog.records[-1].getMessage()
         now.now += 10
+
+
+def test_a_budget_that_is_used_up_is_asked_for_again_since_it_may_begin_anew(now: Clock) -> None:
+    store = Counting(now)
+    budget = Leased(store, "a", 2, lease=2, again_after=3, clock=now)
+    for night in range(3):
+        assert [number(budget.draw()) for _ in range(3)] == [0, 1, None]
+        asked = store.calls
+        # once every three seconds, however often it is drawn
+        for _ in range(40):
+            now.now += 0.25
+            assert refusal(budget.draw()) == (RefusalReason.USED_UP, None)
+        assert store.calls - asked == 3
+        store.given = 0
+        now.now += 3
+    assert budget.granted == 6
+
+
+def test_a_budget_whose_slot_was_deleted_begins_anew_in_a_process_that_used_it_up(tmp_path: Path, now: Clock) -> None:
+    budget = Leased(FileStore(tmp_path / "counts"), "nightly", 2, clock=now)
+    assert [number(budget.draw()) for _ in range(3)] == [0, 1, None]
+    (slot,) = (tmp_path / "counts").glob("*/*")
+    slot.unlink()
+    assert not budget.draw()
+    now.now = 1.0
+    assert [number(budget.draw()) for _ in range(3)] == [0, 1, None]
 
 
 # Tickets that come back
@@ -355,7 +382,7 @@ def test_nobody_waits_for_the_store_who_has_a_ticket_at_hand(now: Clock) -> None
 def test_a_coroutine_that_is_cancelled_in_a_draw_gives_its_ticket_back(is_drawn: bool, now: Clock) -> None:
     store = Counting(now)
     quota = LeasedQuota(store, "a", 3, 0, LONG, lease=3, clock=now)
-    retrying = AsyncRetrying(recurs(3), budget=quota)
+    retrying = AsyncRetrying(recurs(3), limit=quota)
     store.may_answer = threading.Event()
 
     async def fails() -> None:
@@ -514,6 +541,107 @@ def test_8_threads_that_draw_and_hand_back(lease: int, tmp_path: Path) -> None:
 
 
 # Windows, and leases that are over
+
+
+class Distant(Counting):
+    """A store that tells its time so many seconds after it was asked, and answers as many later."""
+
+    trip = 0.0002
+
+    def _goes(self) -> None:
+        assert isinstance(self.clock, Clock)
+        self.clock.now += self.trip
+
+    def _comes(self, period: Optional[int]) -> float:
+        before = self.clock()
+        self._goes()
+        super()._comes(period)
+        present = present_window(period or 1, before, round(self.clock() * 1e9), self.clock())
+        self._goes()
+        return present.until
+
+
+@pytest.mark.parametrize("trip", [0.0, 0.00011, 0.00042])
+@pytest.mark.parametrize("origin", [0.0, 0.0003, 0.0009])
+@pytest.mark.parametrize("kind", ["budget", "quota"])
+def test_a_draw_just_before_a_window_ends_waits_for_the_next(
+    kind: str, origin: float, trip: float, now: Clock, monkeypatch: Any
+) -> None:
+    def sleep(seconds: float) -> None:
+        assert 0 <= seconds <= 2 * trip + 1e-6
+        now.now += seconds
+
+    monkeypatch.setattr(time, "sleep", sleep)
+    now.now = origin
+    store = Distant(now)
+    store.trip = trip
+    drawn = Leased(store, "a", 10**9, per=1, lease=1, clock=now)
+    if kind == "quota":
+        drawn = LeasedQuota(store, "a", 2**32, 0, 1, lease=1, clock=now)  # type: ignore[assignment]
+    for window in range(1, 41):
+        # 50 microseconds to 2 milliseconds before its end
+        before_end = window * 50e-6
+        now.now = window + 1 - before_end
+        asked = store.calls
+        ticket: Any = drawn.draw()
+        assert ticket, (before_end, ticket)
+        # (it can't tell the end closer than within the time that the question took to the store)
+        assert ticket.window == (window if before_end > 3 * trip else window + 1)
+        assert store.calls - asked <= (1 if ticket.window == window else 2)
+        assert window < now() < window + 1 + 4 * trip + 1e-5
+
+
+@pytest.mark.parametrize("origin", [0.0, 0.0005, 0.00099])
+def test_windows_of_a_millisecond(origin: float, now: Clock, monkeypatch: Any) -> None:
+    def sleep(seconds: float) -> None:
+        now.now += seconds
+
+    monkeypatch.setattr(time, "sleep", sleep)
+    now.now = origin
+    budget = Leased(Distant(now), "a", 10**9, per=0.001, lease=1, clock=now)
+    assert all(budget.draw() for _ in range(200))
+
+
+def test_a_store_slower_than_its_windows_is_left_alone(now: Clock, monkeypatch: Any) -> None:
+    slept: List[float] = []
+    monkeypatch.setattr(time, "sleep", slept.append)
+    store = Distant(now)
+    store.trip = 2.5
+    budget = Leased(store, "a", 9, per=1, clock=now)
+    assert refusal(budget.draw()) == (RefusalReason.USED_UP, now() + 1) and store.calls == 3
+    assert all(0 <= each <= 5 for each in slept)
+    assert not budget.draw() and store.calls == 3
+
+
+def test_a_store_whose_clock_was_set_back_is_left_alone(now: Clock, monkeypatch: Any) -> None:
+    slept: List[float] = []
+    monkeypatch.setattr(time, "sleep", slept.append)
+    ago = [0.0]
+    store = Counting(lambda: now() - ago[0])
+    budget = Leased(store, "a", 9, per=10, lease=1, clock=now)
+    now.now = 100.0
+    assert number(budget.draw()) == 0
+    ago[0] = 50.0
+    assert refusal(budget.draw()) == (RefusalReason.USED_UP, 101.0) and store.calls == 4
+    assert not budget.draw() and store.calls == 4 and set(slept) == {0.0}
+    # once its windows are later ones again, it goes on
+    ago[0], now.now = 0.0, 110.0
+    assert repr(budget.draw()) == "<Ticket 0 of window 11>"
+
+
+def test_another_thread_may_draw_what_this_one_leased_again_and_again(now: Clock, monkeypatch: Any) -> None:
+    store = Counting(now)
+    budget = Leased(store, "a", 10**9, lease=1, clock=now)
+    leases_one, others = budget._lease, iter(range(5))
+
+    def leases_one_for_another() -> bool:
+        answer = leases_one()
+        if next(others, None) is not None:
+            assert not isinstance(budget.leased.draw(budget.moments.now()), int)
+        return answer
+
+    monkeypatch.setattr(budget, "_lease", leases_one_for_another)
+    assert number(budget.draw()) == 5 and store.calls == 6
 
 
 def test_leases_and_windows_that_are_over_take_no_memory(now: Clock) -> None:

@@ -14,15 +14,15 @@ from typing import Any, Callable, List, Optional
 
 import pytest
 
-from limited import admitted, draws_as_grpc_says, reason
+from limited import NEVER_OPEN, admitted, draws_as_grpc_says, reason
 from processes import in_a_forked_child
 from hikebox import (
     AsyncRetrying,
     Breaker,
     Bucket,
+    CallLimit,
     Ending,
     InFlight,
-    Limit,
     NotAdmitted,
     RefusalReason,
     Retrying,
@@ -30,6 +30,7 @@ from hikebox import (
     Throttle,
     both,
     exponential,
+    forever,
     recurs,
     repeat,
     retry,
@@ -43,6 +44,8 @@ THREADS = 8
 #: What the types would refuse.
 ANY_FIVE: Any = 5
 ANY_CLASS: Any = Bucket
+ANY_NO: Any = "no"
+ANY_ONE: Any = 1
 ANY_LIST: Any = [Bucket.aws(), InFlight.envoy()]
 
 
@@ -229,9 +232,19 @@ def test_what_the_last_of_four_refuses_comes_back_to_all() -> None:
 def test_limits_join_up_to_four() -> None:
     one, two, three = InFlight(1, 0), Bucket.aws(), Throttle(2, 60)
     assert repr(both(both(one, two), three)) == repr(both(one, both(two, three))) == repr(both(one, two, three))
-    assert both(both(one, two), both(three, one)).request().admit() is None
+    four, five = InFlight(2, 0), InFlight(3, 0)
+    assert both(both(one, two), both(three, four)).request().admit() is None
     with pytest.raises(TermsError, match="at most 4 limits, got 5"):
-        both(one, two, three, both(one, two))
+        both(one, two, three, both(four, five))
+
+
+def test_a_limit_joins_once() -> None:
+    # It would count each call twice: two of three in flight, and both tokens of a bucket of two for one retry.
+    one, two = Bucket(2), InFlight(3, 0)
+    for joined in ((one, one), (one, two, one), (both(one, two), two)):
+        with pytest.raises(TermsError, match="both: expected limits that differ, got <.*> twice"):
+            both(*joined)
+    assert both(Bucket(2), Bucket(2)).request().admit() is None
 
 
 def test_several_buckets_have_one_cost() -> None:
@@ -249,11 +262,11 @@ def test_several_buckets_have_one_cost() -> None:
 
 def test_a_retry_tells_its_bucket() -> None:
     bucket = Bucket.grpc(4, 1)
-    retrying = Retrying(recurs(9), budget=bucket)
+    retrying = Retrying(recurs(9), limit=bucket)
     with no_waits(), pytest.raises(KeyError) as raised:
         retrying(fails)
     state = state_of(raised.value)
-    assert state is not None and state.ending is Ending.BUDGET_REFUSED
+    assert state is not None and state.ending is Ending.LIMIT_REFUSED
     assert (state.attempt_number, state.granted) == (2, 1)
     assert reason(state.refusal) is RefusalReason.LEVEL_LOW
     assert retrying(lambda: 5) == 5  # which gives one token back, so that three are left
@@ -263,7 +276,7 @@ def test_a_retry_tells_its_bucket() -> None:
 def test_an_error_that_is_not_retried_is_a_failure() -> None:
     bucket = Bucket.grpc(2, 0)
     with pytest.raises(KeyError):
-        Retrying(recurs(9), budget=bucket, on=ValueError)(fails)
+        Retrying(recurs(9), limit=bucket, on=ValueError)(fails)
     assert reason(admitted(bucket).draw()) is RefusalReason.LEVEL_LOW
 
 
@@ -282,11 +295,11 @@ def test_an_error_that_is_no_exception_is_a_failure_where_it_is_retried(kind: st
 
     def run() -> None:
         if kind == "call":
-            Retrying(recurs(9), budget=breaker, on=asyncio.CancelledError)(call)
+            Retrying(recurs(9), limit=breaker, on=asyncio.CancelledError)(call)
         elif kind == "await":
-            asyncio.run(AsyncRetrying(recurs(9), budget=breaker, on=asyncio.CancelledError)(call_later))
+            asyncio.run(AsyncRetrying(recurs(9), limit=breaker, on=asyncio.CancelledError)(call_later))
         else:
-            for attempt in Retrying(recurs(9), budget=breaker, on=asyncio.CancelledError):
+            for attempt in Retrying(recurs(9), limit=breaker, on=asyncio.CancelledError):
                 with attempt:
                     call()
 
@@ -299,14 +312,14 @@ def test_an_error_that_is_no_exception_is_a_failure_where_it_is_retried(kind: st
 def test_an_attempt_that_is_cancelled_is_no_failure() -> None:
     breaker = Breaker(1, spaced(30))
     with pytest.raises(KeyboardInterrupt):
-        Retrying(recurs(9), budget=breaker)(interrupts)
+        Retrying(recurs(9), limit=breaker)(interrupts)
     assert breaker.request().admit() is None
 
 
 def test_a_refused_result_is_a_failure() -> None:
     breaker = Breaker(2, spaced(30))
     with no_waits(), pytest.raises(Exception, match="not accepted"):
-        Retrying(recurs(1), budget=breaker, on_result=lambda result: result is None)(lambda: None)
+        Retrying(recurs(1), limit=breaker, on_result=lambda result: result is None)(lambda: None)
     assert reason(breaker.request().admit()) is RefusalReason.BREAKER_OPEN
 
 
@@ -325,13 +338,13 @@ def test_an_open_breaker_admits_no_call(kind: str) -> None:
 
     def run(**options: Any) -> Any:
         if kind == "call":
-            return Retrying(recurs(9), budget=breaker, **options)(call)
-        return asyncio.run(AsyncRetrying(recurs(9), budget=breaker, **options)(call_later))
+            return Retrying(recurs(9), limit=breaker, **options)(call)
+        return asyncio.run(AsyncRetrying(recurs(9), limit=breaker, **options)(call_later))
 
     with no_waits(), pytest.raises(KeyError) as failed:
         run()
     state = state_of(failed.value)
-    assert state is not None and state.ending is Ending.BUDGET_REFUSED
+    assert state is not None and state.ending is Ending.LIMIT_REFUSED
     assert len(calls) == 3
     with pytest.raises(NotAdmitted) as raised:
         run()
@@ -350,7 +363,7 @@ def test_a_loop_is_not_admitted() -> None:
     breaker = Breaker(1, spaced(30))
     admitted(breaker).failed()
     with pytest.raises(NotAdmitted):
-        for attempt in Retrying(recurs(3), budget=breaker):
+        for attempt in Retrying(recurs(3), limit=breaker):
             with attempt:
                 raise AssertionError("no attempt is made")
 
@@ -362,7 +375,7 @@ def test_a_retry_that_is_cancelled_gives_all_back() -> None:
         raise KeyError()
 
     async def leave() -> None:
-        task = asyncio.ensure_future(AsyncRetrying(spaced(60), budget=limit)(fails_later))
+        task = asyncio.ensure_future(AsyncRetrying(spaced(60), limit=limit)(fails_later))
         await asyncio.sleep(0.05)
         task.cancel()
         with pytest.raises(asyncio.CancelledError):
@@ -375,7 +388,7 @@ def test_a_retry_that_is_cancelled_gives_all_back() -> None:
 def test_a_retried_function() -> None:
     answers = iter([KeyError(), 5])
 
-    @retry(recurs(3), budget=InFlight.envoy())
+    @retry(recurs(3), limit=InFlight.envoy())
     def fetch() -> Any:
         answer = next(answers)
         if isinstance(answer, Exception):
@@ -391,7 +404,7 @@ def test_each_run_of_a_repeat_is_a_call() -> None:
     calls: list[int] = []
 
     @repeat(recurs(9))
-    @retry(recurs(2), budget=breaker)
+    @retry(recurs(2), limit=breaker)
     def look() -> int:
         calls.append(len(calls))
         if len(calls) > 2:
@@ -409,7 +422,7 @@ def test_a_repeat_is_a_request_that_draws_for_each_further_run() -> None:
     # Of 10 tokens: 10 after the first success, 8 and 9 after the next run, 7 and 8 after the last.
     bucket = Bucket(capacity=10, cost=2, credit=1)
     with no_waits():
-        assert repeat(recurs(2), budget=bucket)(lambda: 5)() == 5
+        assert repeat(recurs(2), limit=bucket)(lambda: 5)() == 5
     request = admitted(bucket)
     assert [reason(request.draw()) for _ in range(5)] == [None] * 4 + [RefusalReason.LEVEL_LOW]
 
@@ -417,7 +430,7 @@ def test_a_repeat_is_a_request_that_draws_for_each_further_run() -> None:
 # Threads
 
 
-def race(limit: Limit, times: int) -> int:
+def race(limit: CallLimit, times: int) -> int:
     """How many draws are granted, where each of eight threads makes so many calls, and each draws once."""
     counts = [0] * THREADS
 
@@ -501,6 +514,11 @@ def test_a_throttle_counts_each_call() -> None:
         lambda: Breaker(0, spaced(1)),
         lambda: Breaker(1, spaced(1), probes=16),
         lambda: Breaker(1, stop()),
+        lambda: Breaker(1, recurs(3)),
+        lambda: Breaker(1, forever()),
+        lambda: Breaker(1, spaced(30).jittered(0, 1)),
+        lambda: Breaker(1, exponential(0.1).jittered(0, 0.5)),
+        lambda: Breaker(1, spaced(30).cap(0)),
         lambda: Breaker(10**5000, spaced(1)),
         lambda: Breaker(1, spaced(1), probe_deadline=-1),
         lambda: Throttle(0.9, 60),
@@ -517,20 +535,34 @@ def test_terms_out_of_range(make: Callable[[], Any]) -> None:
     "make, told",
     [
         (lambda: InFlight.envoy(-5), "expected budget_percent from 0 to 100, got -5"),
-        (lambda: InFlight.envoy(0.05), "expected 0 or at least 0.1 as budget_percent, got 0.05"),
+        (lambda: InFlight.envoy(0.05), "budget_percent: expected per cent, 0 or from 1 to 100, got 0.05"),
+        (lambda: InFlight.envoy(0.2), "got 0.2: write 20 for a share of 0.2"),
+        (lambda: Bucket(500, refund=ANY_NO), "refund: expected True or False, got 'no'"),
+        (lambda: Bucket(500, refund=ANY_ONE), "refund: expected True or False, got 1"),
+        (lambda: Bucket(0), "expected a capacity of at least the cost, 1, got 0"),
+        (lambda: Bucket(5, timeout_cost=10), "expected a capacity of at least the timeout_cost, 10, got 5"),
+        (lambda: Bucket(5, floor=6), "expected a capacity of at least the floor, 6, got 5"),
+        (lambda: Bucket.grpc(0, 0.1), "max_tokens: expected 1 token or more, got 0"),
+        (lambda: Bucket.grpc(10, 11), "expected token_ratio from 0 to 10, got 11"),
         (lambda: InFlight.envoy(20, -1), "min_retry_concurrency: expected 0 to 4294967295, got -1"),
         (lambda: InFlight(3, 20), "expected the share from 0 to 1, got 20"),
         (lambda: Breaker(1, spaced(1), probe_deadline=-1), "probe_deadline: expected 0 to 4611686018427387903 milli"),
         (lambda: Breaker(5, 30), "open_for: expected a policy, as spaced(30), got 30"),
+        (lambda: Breaker(5, spaced(30).jittered(0, 1)), f"open_for: {NEVER_OPEN.format('spaced(30).jittered(0, 1)')}"),
         (lambda: Breaker(5, spaced(30), clock=ANY_FIVE), "clock: expected a function, got 5"),
         (lambda: Throttle(2, 60, random=ANY_FIVE), "random: expected a function, got 5"),
-        (lambda: Retrying(recurs(1), budget=ANY_CLASS), "budget: expected an object, got the class Bucket"),
-        (lambda: Retrying(recurs(1), budget=ANY_LIST), "both(..) makes one of several limits"),
+        (lambda: Retrying(recurs(1), limit=ANY_CLASS), "limit: expected an object, got the class Bucket"),
+        (lambda: Retrying(recurs(1), limit=ANY_LIST), "both(..) makes one of several limits"),
     ],
 )
 def test_what_is_told_of_wrong_terms(make: Callable[[], Any], told: str) -> None:
     with pytest.raises((TermsError, TypeError), match=re.escape(told)):
         make()
+
+
+def test_a_breaker_is_open_where_one_of_its_times_is_not_0() -> None:
+    assert Breaker(1, spaced(30).jittered(0.5, 1)).terms[3] == [15_000] * 64
+    assert Breaker(1, (recurs(1) & spaced(1)).and_then(recurs(2))).terms[3] == [1000, 0, 0]
 
 
 def test_open_times_are_the_waits_of_the_policy() -> None:
@@ -588,8 +620,8 @@ def test_a_request_that_is_dropped_gives_its_handle_back() -> None:
 
 @pytest.mark.parametrize("kind", ["request", "loop"])
 def test_what_the_collector_finds_gives_its_handle_back(kind: str, monkeypatch: Any) -> None:
-    def drops(limit: Limit) -> None:
-        attempts = iter(Retrying(recurs(3), budget=limit))
+    def drops(limit: CallLimit) -> None:
+        attempts = iter(Retrying(recurs(3), limit=limit))
         cycle: List[Any] = [admitted(limit) if kind == "request" else (next(attempts), attempts)]
         cycle.append(cycle)
 
@@ -671,7 +703,7 @@ def test_several_limits_begin_anew_in_a_forked_child_after_each_of_them() -> Non
 def test_a_call_that_is_forked_goes_on_by_the_child_s_limit(limit: Any) -> None:
     runs, ended, child = 0, 0, -1
 
-    @retry(recurs(2), on=OSError, budget=limit)
+    @retry(recurs(2), on=OSError, limit=limit)
     def call() -> None:
         nonlocal runs, child
         runs += 1

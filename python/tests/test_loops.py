@@ -19,7 +19,7 @@ def fails(attempt: Attempt) -> None:
 
 def test_the_retry_of_a_loop_that_is_left_ends() -> None:
     quota = Quota(10, 0, 10**6)
-    retrying, retrying_async = Retrying(recurs(5), budget=quota), AsyncRetrying(recurs(5), budget=quota)
+    retrying, retrying_async = Retrying(recurs(5), limit=quota), AsyncRetrying(recurs(5), limit=quota)
 
     async def main() -> Any:
         async for attempt in retrying_async:
@@ -64,13 +64,13 @@ def test_what_the_collector_frees_serves_no_other_retry() -> None:
     retrying = Retrying(recurs(5))
     attempts: Any = iter(retrying)
     fails(next(attempts))
-    idle = list(machine._machines)
+    idle = list(machine.idle)
     cycle = [attempts]
     cycle.append(cycle)
     del attempts, cycle
     gc.collect()
     # (another thread could begin a retry in a machine before the collector frees what it has)
-    assert retrying.statistics.cancelled == 1 and list(map(id, machine._machines)) == list(map(id, idle))
+    assert retrying.statistics.cancelled == 1 and list(map(id, machine.idle)) == list(map(id, idle))
 
 
 def test_an_attempt_has_one_block() -> None:
@@ -94,8 +94,8 @@ class Pending:
 @pytest.mark.parametrize("how", [{}, {"before_sleep": print}], ids=["plain", "with a hook"])
 def test_what_is_closed_in_an_attempt_ends(on: Any, how: Any) -> None:
     quota = Quota(10, 0, 10**6)
-    retrying_async: Any = AsyncRetrying(recurs(3), on=on, budget=quota, **how)
-    retrying = Retrying(recurs(3), on=on, budget=quota, **how)
+    retrying_async: Any = AsyncRetrying(recurs(3), on=on, limit=quota, **how)
+    retrying = Retrying(recurs(3), on=on, limit=quota, **how)
 
     async def waits() -> None:
         await Pending()

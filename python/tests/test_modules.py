@@ -4,11 +4,15 @@ from __future__ import annotations
 
 import ast
 import re
+import subprocess
+import sys
 from pathlib import Path
 from typing import Iterator, List, Set
 
 import pytest
-from conftest import TOP
+from conftest import TOP, python_environment
+
+import hikebox
 
 SOURCES = TOP / "python" / "src"
 MODULES = sorted(SOURCES.rglob("*.py"))
@@ -33,7 +37,7 @@ def declared(tree: ast.AST) -> Iterator[str]:
 
 
 #: Members of libraries and of the language that have no other name: of argparse, of requests and of urllib3, too.
-THEIRS = {"_replace", "_exit", "_asdict", "_fields"}
+THEIRS = {"_replace", "_exit", "_asdict", "_fields", "_getframe"}
 THEIRS |= {"_actions", "_body_position"}
 
 
@@ -61,6 +65,40 @@ def test_a_module_with_one_user_has_30_lines() -> None:
     assert [path.stem for path in small if path.stem not in outside and len(users_of(path)) < 2] == []
 
 
-@pytest.mark.parametrize("path", MODULES, ids=NAMES)
-def test_a_module_is_under_500_lines(path: Path) -> None:
-    assert len(path.read_text().splitlines()) < 500
+#: What plays storms, and what shows them: what retries calls needs none of it.
+STORMS = re.compile(r"^hikebox/(storms/|lab/|cli/|sweeps\.py|__init__\.py$)")
+
+
+@pytest.mark.parametrize("name", [name for name in NAMES if not STORMS.search(name)])
+def test_what_retries_calls_imports_nothing_of_storms(name: str) -> None:
+    text = (SOURCES / name).read_text()
+    assert not re.search(r"^ *(from|import) .*\b(storms|sweeps|lab|cli)\b", text.replace("hikebox.cli.main", ""), re.M)
+
+
+def loaded_by(text: str) -> List[str]:
+    """The modules of the package that a new interpreter loads for this."""
+    words = [sys.executable, "-X", "importtime", "-c", text]
+    ran = subprocess.run(words, env=python_environment(), capture_output=True, text=True, check=True)
+    return re.findall(r"\| +(hikebox[\w.]*)$", ran.stderr, re.M)
+
+
+def test_import_hikebox_loads_nothing_of_storms_of_the_lab_or_of_adapters() -> None:
+    loaded = loaded_by("import hikebox")
+    assert "hikebox.retrying" in loaded
+    parts = ("storms", "lab", "adapters", "cli", "sweeps", "leased")
+    assert [name for name in loaded if name.startswith(tuple(f"hikebox.{part}" for part in parts))] == []
+
+
+def test_hikebox_plan_loads_nothing_of_storms_or_of_the_lab() -> None:
+    loaded = loaded_by("from hikebox.cli.main import main; main(['plan', 'recurs(3)'])")
+    assert "hikebox.policy.parsing" in loaded
+    parts = ("storms", "lab", "adapters", "sweeps", "leased", "cli.run", "cli.storm", "cli.scenario")
+    assert [name for name in loaded if name.startswith(tuple(f"hikebox.{part}" for part in parts))] == []
+
+
+def test_storms_are_loaded_when_they_are_asked_for() -> None:
+    asks = "import hikebox; assert 'Storm' in dir(hikebox); from hikebox import storm; assert hikebox.storm is storm"
+    assert "hikebox.storms.storm" in loaded_by(asks)
+    assert "hikebox.storms.storm" in loaded_by("from hikebox import *; storm(once())")
+    with pytest.raises(AttributeError, match="^module 'hikebox' has no attribute 'nonsense'$"):
+        getattr(hikebox, "nonsense")

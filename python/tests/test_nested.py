@@ -18,8 +18,8 @@ import hikebox
 from hikebox import (
     AsyncRetrying,
     Budget,
-    BudgetClosed,
-    BudgetInUse,
+    LimitClosed,
+    LimitInUse,
     InFlight,
     NotAdmitted,
     Quota,
@@ -109,28 +109,28 @@ def test_a_close_at_any_step_of_which_a_retry_begins_closes_or_changes_nothing(k
     for step in range(1, 1000):
         budget = BUDGETS[kind]()
         drawn = [budget.draw(), budget.draw()]
-        retrying = AsyncRetrying(recurs(3) & spaced(1), budget=budget, sleep=lambda seconds: Waits())
+        retrying = AsyncRetrying(recurs(3) & spaced(1), limit=budget, sleep=lambda seconds: Waits())
         retries: List[Any] = []
 
         def begins() -> None:
             coroutine = retrying(fails_later)
             try:
                 coroutine.send(None)
-            except BudgetClosed:
+            except LimitClosed:
                 return
             retries.append(coroutine)
 
         def closes() -> None:
             try:
                 closed.append(budget.close() == 2 + (0 if not retries else 100))
-            except BudgetInUse:
+            except LimitInUse:
                 closed.append(False)
 
         if not does_at(step, closes, begins):
             break
         if closed[-1]:
             assert not retries or budget.granted == 2
-            with pytest.raises(BudgetClosed):
+            with pytest.raises(LimitClosed):
                 budget.draw()
         else:
             assert len(retries) == 1
@@ -170,9 +170,9 @@ def test_after_a_close_that_was_interrupted_all_goes_on(kind: str) -> None:
 def test_calls_under_a_closed_budget_leave_nothing_behind() -> None:
     budget = Budget(5)
     budget.close()
-    retrying = Retrying(recurs(1), budget=budget)
+    retrying = Retrying(recurs(1), limit=budget)
     for _ in range(10):
-        with pytest.raises(BudgetClosed):
+        with pytest.raises(LimitClosed):
             retrying(fails)
     assert not budget.passes._retries
 
@@ -210,7 +210,7 @@ def test_a_coroutine_that_is_collected_with_its_budget_ends_quietly(kind: str) -
     def makes() -> None:
         # (the budget is older than the coroutine, so the collector ends it first)
         budget: Any = Budget(5) if kind == "budget" else Quota(5, 0, 60)
-        retrying = AsyncRetrying(recurs(3) & spaced(10), budget=budget, sleep=lambda seconds: Waits(), **how)
+        retrying = AsyncRetrying(recurs(3) & spaced(10), limit=budget, sleep=lambda seconds: Waits(), **how)
         given.append(retrying.counts)
         own: List[Any] = []
         coroutine = job(retrying, own)
@@ -238,7 +238,7 @@ def drawn_to_the_end(budget: Any) -> List[int]:
 
 
 def retries(budget: Any, **how: Any) -> None:
-    Retrying(recurs(1), budget=budget, fallback=lambda state: None, **how)(fails)
+    Retrying(recurs(1), limit=budget, fallback=lambda state: None, **how)(fails)
 
 
 def hands_back(quota: Any) -> None:
@@ -303,14 +303,14 @@ def test_a_call_at_any_step_of_which_its_budget_is_closed_succeeds_or_finds_it_c
         budget = BUDGETS[kind]()
 
         def closes() -> None:
-            with contextlib.suppress(BudgetInUse):
+            with contextlib.suppress(LimitInUse):
                 budget.close()
 
         try:
             if not does_at(step, lambda: CALLS[call][0](budget), closes):
                 break
             found.append(False)
-        except BudgetClosed:
+        except LimitClosed:
             found.append(True)
         budget.close()
         assert not budget.passes._retries, step
@@ -327,7 +327,7 @@ def test_a_retry_at_any_step_of_whose_end_its_quota_is_closed_hands_its_ticket_b
         def closes() -> None:
             try:
                 tried.append(quota.close() == 0)
-            except BudgetInUse:
+            except LimitInUse:
                 tried.append(False)
 
         if not does_at(step, lambda: drawing.end(True), closes):
@@ -369,9 +369,13 @@ def test_a_clock_that_fails_in_a_child_keeps_no_other_budget_from_beginning_anew
 
 def admits(limit: Any) -> None:
     try:
-        Retrying(recurs(1), budget=limit)(fails)
+        Retrying(recurs(1), limit=limit)(fails)
     except (Fails, NotAdmitted):
         pass
+
+
+def wins(limit: Any) -> None:
+    assert Retrying(recurs(1), limit=limit)(lambda: 7) == 7
 
 
 def by_hand(limit: Any) -> None:
@@ -393,15 +397,15 @@ def at_once(limit: Any) -> List[bool]:
     return granted
 
 
-@pytest.mark.parametrize("call", [admits, by_hand])
-def test_a_child_that_is_forked_at_any_step_has_a_limit_of_its_own(call: Any) -> None:
+@pytest.mark.parametrize("call, steps", [(admits, 50), (wins, 25), (by_hand, 50)])
+def test_a_child_that_is_forked_at_any_step_has_a_limit_of_its_own(call: Any, steps: int) -> None:
     step, said = 0, [True, True, False, False]
     while said is not None:
         assert said == [True, True, False, False], step
         step += 1
         limit = InFlight(2, 0)
         said = said_by_child(step, lambda: call(limit), lambda: at_once(limit))
-    assert step > 50
+    assert step > steps
 
 
 def test_a_request_that_is_ended_at_any_step_of_its_end_leaves_its_handle_once() -> None:
@@ -419,9 +423,9 @@ def test_a_request_that_is_ended_at_any_step_of_its_end_leaves_its_handle_once()
 # Exceptions at any step
 
 
-@pytest.mark.parametrize("call", [admits, by_hand])
+@pytest.mark.parametrize("call, steps", [(admits, 50), (wins, 25), (by_hand, 50)])
 @pytest.mark.parametrize("several", [False, True])
-def test_no_slot_is_lost_where_an_exception_ends_a_request_at_any_step(call: Any, several: bool) -> None:
+def test_no_slot_is_lost_where_an_exception_ends_a_request_at_any_step(call: Any, steps: int, several: bool) -> None:
     def interrupts() -> None:
         raise Interrupt()
 
@@ -439,7 +443,7 @@ def test_no_slot_is_lost_where_an_exception_ends_a_request_at_any_step(call: Any
             assert at_once(limit) == [True, False, False, False], step
     finally:
         sys.unraisablehook = hook
-    assert step > 50
+    assert step > steps
 
 
 # Counts

@@ -145,7 +145,8 @@ def test_another_node_is_a_row(tmp_path: Path) -> None:
     assert nodes(copy).returncode == 0 and nodes(copy, "--check").returncode == 0
     after = files_of(copy)
     assert {name for name in after if after[name] != before.get(name)} == made
-    row = '| `{"pause":[LANE,D,"KIND",A]}` | none | A, but later; KIND is "long_one" or "short_one" |\n'
+    begins = '| `{"pause":[LANE,D,"KIND",A]}` | `A.paused(D, "long_one")` | none |'
+    row = begins + ' A, but later; KIND is "long_one" or "short_one" |\n'
     assert row in (copy / "docs" / "COOKBOOK.md").read_text()
     for name, rows in ROWS.items():
         text = re.sub(r" \\\n +", " ", (copy / name).read_text().replace('\\"', '"'))
@@ -224,7 +225,6 @@ def test_each_expression_of_the_table_builds_its_node() -> None:
             assert Policy.parse(repr(policy)).to_dict() == tree
 
 
-def test_the_page_on_python_has_each_builder() -> None:
-    page = (TOP / "docs" / "PYTHON.md").read_text()
-    table = page[page.index("| Python | JSON |") :].partition("\n\n")[0]
-    assert {name for name in builders_of("python") if f"{name}(" not in table} == {"exponential_milli"}
+def test_the_cookbook_has_each_builder() -> None:
+    section = (TOP / "docs" / "COOKBOOK.md").read_text().partition("## All nodes\n")[2]
+    assert {name for name in builders_of("python") if not re.search(rf"\b{name}\b", section)} == set()

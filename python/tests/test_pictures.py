@@ -177,6 +177,10 @@ def looks_at_picture(words: List[str], folder: Path, monkeypatch: pytest.MonkeyP
 def test_the_cookbook_has_a_picture_of_each_policy(tmp_path: Path, monkeypatch: pytest.MonkeyPatch) -> None:
     commands = commands_of("COOKBOOK.md", "plan")
     page = (TOP / "docs" / "COOKBOOK.md").read_text()
+    drawn = {words[words.index("--svg") + 1] for words in commands}
+    for name in re.findall(r"\]\(pictures/([\w-]+)\.svg\)", page):
+        if f"docs/pictures/{name}.svg" not in drawn:
+            commands.append(["plan", "--svg", f"docs/pictures/{name}.svg", f"plans/{name}.json"])
     plans = [file for file in (TOP / "plans").glob("*.json") if f"plans/{file.name}" in page]
     assert {words[-1] for words in commands} == {f"plans/{file.name}" for file in plans}
     for words in commands:
@@ -236,7 +240,7 @@ def test_a_storm_has_its_verdict_and_its_load(width: int) -> None:
 
 @pytest.mark.parametrize("width", [320, 360, 760, 1400])
 def test_storms_stand_on_the_same_scales(width: int) -> None:
-    root = parsed(storm(FULL).svg(storm(FULL, budget=Quota(10, 0.1, 1)), width=width))
+    root = parsed(storm(FULL).svg(storm(FULL, limit=Quota(10, 0.1, 1)), width=width))
     looks_at_texts(root)
     words = texts(root)
     # What is equal stands once, and a title says what differs.
@@ -259,7 +263,7 @@ def test_a_storm_that_is_cut_says_so_at_its_verdict() -> None:
 
 
 def test_a_title_that_has_no_room_beside_its_verdict_stands_above_it() -> None:
-    root = parsed(storm(recurs(0), budget=Quota(10, 0.1, 1)).svg(width=280))
+    root = parsed(storm(recurs(0), limit=Quota(10, 0.1, 1)).svg(width=280))
     places = {part.text: part.get("y") for part in root.iter(SVG + "text")}
     assert places["quota 10/10%/1s"] != places["83.3 % succeeded"]
 
@@ -276,7 +280,7 @@ def test_a_high_load_alone_is_not_cut() -> None:
 
 
 def test_titles_say_what_differs() -> None:
-    quota = storm(BACK, budget=Quota(10, 0.1, 1))
+    quota = storm(BACK, limit=Quota(10, 0.1, 1))
     for others, wanted in [
         ([storm(BACK), quota], ["no limit", "quota 10/10%/1s"]),
         (
@@ -285,7 +289,7 @@ def test_titles_say_what_differs() -> None:
         ),
         ([storm(BACK, rate=500), storm(BACK, rate=1000)], ["rate 500", "rate 1,000"]),
         ([storm(BACK, outage=(10, 12)), storm(BACK)], ["outage 10000..12000", "outage 10000..20000"]),
-        ([storm(BACK), storm(recurs(1), budget=5)], [f"{BACK!r}, no limit", "recurs(1), budget of 5"]),
+        ([storm(BACK), storm(recurs(1), limit=5)], [f"{BACK!r}, no limit", "recurs(1), budget of 5"]),
         ([storm(BACK)], ["no limit"]),
     ]:
         from hikebox.storms.heads import names_of
@@ -302,12 +306,12 @@ def test_shares_are_whole_only_where_all_or_none_succeeded() -> None:
         return share_text(replace(storm(recurs(0), seconds=1).totals, won=won, requests=requests))
 
     told = [share(*each) for each in [(0, 0), (0, 9), (9, 9), (1, 100_000), (99_999, 100_000), (9885, 10_000), (1, 3)]]
-    assert told == ["0 %", "0 %", "100 %", "0.1 %", "99.9 %", "98.8 %", "33.3 %"]
+    assert told == ["0 %", "0 %", "100 %", "0.1 %", "99.9 %", "98.9 %", "33.3 %"]
 
 
 @pytest.mark.parametrize("width", [320, 760])
 def test_reasons_of_failures_are_told_apart_where_that_is_wanted(width: int) -> None:
-    plain, quota = storm(FULL), storm(FULL, budget=Quota(10, 0.1, 1))
+    plain, quota = storm(FULL), storm(FULL, limit=Quota(10, 0.1, 1))
     root = parsed(plain.svg(quota, width=width, detail=True))
     looks_at_texts(root)
     words = texts(root)
@@ -320,7 +324,7 @@ def test_reasons_of_failures_are_told_apart_where_that_is_wanted(width: int) -> 
 
 @pytest.mark.parametrize("width, cut", [(280, ""), (320, ", up to 4.4×"), (760, ", cut: up to 4.4×")])
 def test_requests_that_were_denied_stand_beside_the_peak_of_a_load_that_is_cut(width: int, cut: str) -> None:
-    throttled = storm(FULL, budget=Throttle(2, period=10))
+    throttled = storm(FULL, limit=Throttle(2, period=10))
     root = parsed(storm(FULL).svg(throttled, width=width, detail=True))
     looks_at_texts(root)
     assert f"{throttled.totals.denied:,} denied{cut}" in texts(root)
@@ -334,7 +338,7 @@ def test_a_narrow_picture_says_in_brief_what_its_scales_count() -> None:
         looks_at_texts(root)
         assert {said, "not back by the end"} <= set(texts(root))
     # (a throttle counts requests that it denies their first call)
-    root = parsed(storm(FULL).svg(storm(FULL, budget=Throttle(2, period=10)), width=280))
+    root = parsed(storm(FULL).svg(storm(FULL, limit=Throttle(2, period=10)), width=280))
     looks_at_texts(root)
     assert {"requests and retries", "up to 4.4×", "calls begun", "cut: up to 8.5×"} <= set(texts(root))
 
@@ -355,7 +359,7 @@ def test_the_requests_of_a_herd_are_summed_up(width: int) -> None:
     looks_at_texts(root)
     words = texts(root)
     assert "requests so far" in words and "requests/s" not in words
-    assert {"37.0 % succeeded", "98.8 % succeeded"} <= set(words)
+    assert {"37.0 % succeeded", "98.9 % succeeded"} <= set(words)
     # There was nothing to recover from.
     assert not [word for word in words if "back" in word] and not painted(root, "away") and not painted(root, "shade")
     won = painted(root, "won")[0].get("d")
@@ -404,7 +408,7 @@ def test_a_request_that_is_denied_its_first_call_is_no_call_of_a_picture() -> No
         (Throttle.google(), "requests and retries", "requests"),
         (Bucket.aws(), "calls begun", "first calls"),
     ]:
-        words = texts(parsed(storm(policy, budget=limit).svg()))
+        words = texts(parsed(storm(policy, limit=limit).svg()))
         assert {strip, key, "retries"} <= set(words)
         assert not {"calls begun", "first calls", "requests and retries", "requests"} - {strip, key} & set(words)
 
@@ -523,7 +527,7 @@ def test_the_program_writes_the_picture_of_storms(tmp_path: Path) -> None:
     words = ["storm", "--quota", "10/10%/1s", "--without", "--svg", str(file), "--width", "500", repr(FULL)]
     done = subprocess.run([sys.executable, "-m", "hikebox", *words], capture_output=True, env=python_environment())
     assert (done.returncode, done.stdout, done.stderr) == (0, b"", b"")
-    assert file.read_text() == storm(FULL).svg(storm(FULL, budget=Quota(10, 0.1, 1)), width=500)
+    assert file.read_text() == storm(FULL).svg(storm(FULL, limit=Quota(10, 0.1, 1)), width=500)
 
 
 STORMS = "STORMS.md"
@@ -547,7 +551,7 @@ def test_the_page_on_storms_has_the_numbers_that_its_commands_print(capsys: pyte
         (TOP / "docs" / STORMS).read_text(),
         flags=re.M | re.S,
     )
-    assert len(found) == 5
+    assert len(found) == 3
     for command, printed in found:
         assert main(shlex.split(command)[1:]) == 0
         assert capsys.readouterr().out == printed
@@ -599,33 +603,39 @@ def test_what_the_page_on_storms_says_of_its_storms_is_so() -> None:
     brown: Any = {"outage": None, "slow": (10, 20, 0.5)}
     assert storm(recurs(0), **brown).totals.recovered_ms == 33_000 and "(from 33 s on)" in page
     assert (
-        storm(recurs(3), budget=Quota(10, 0.1, 1), **brown).totals.recovered_ms == 50_000 and "recover at 50 s" in page
+        storm(recurs(3), limit=Quota(10, 0.1, 1), **brown).totals.recovered_ms == 50_000 and "recover at 50 s" in page
     )
-    half = storm(recurs(3), budget=Quota(10, 0.06, 1), **brown).totals
+    half = storm(recurs(3), limit=Quota(10, 0.06, 1), **brown).totals
     assert (half.recovered_ms, 1000 * half.won // half.requests) == (42_000, 495) and "at 42 s, and 49.5 %" in page
-    borders = [storm(recurs(3), seconds=300, budget=Quota(10, share, 1), **brown).totals for share in (0.22, 0.221)]
+    borders = [storm(recurs(3), seconds=300, limit=Quota(10, share, 1), **brown).totals for share in (0.22, 0.221)]
     assert [each.recovered_ms is not None for each in borders] == [True, False]
     assert "with `--seconds 300` it is 22 %" in page
-    spent = storm(back_off.jittered(0, 1), budget=5000)
+    spent = storm(back_off.jittered(0, 1), limit=5000)
     assert spent.totals.tickets == 5000 and spent.totals.recovered_ms == 20_000 and "used up within the outage" in page
     assert sum(row.retries for row in spent.rows[:20]) == 5000
-    busy = storm(back_off, rate=1500, budget=Quota(10, 0.1, 1))
+    short = storm(back_off, queue=500).totals
+    assert (short.won, short.hundredths, short.recovered_ms) == (48_000, 412, 20_000)
+    assert "all 48,000 requests are won, by 4.12 calls for each, and the peer is back at once" in page
+    pair: Any = {"rate": 400, "capacity": 500, "replicas": 2, "down": 1}
+    assert [storm(recurs(retries), **pair).totals.lost for retries in (0, 1)] == [2000, 0]
+    assert "2,000 of the 24,000 requests are lost" in page and "With one all are won" in page
+    busy = storm(back_off, rate=1500, limit=Quota(10, 0.1, 1))
     assert max(row.retries for row in busy.rows) == 257 and "257 begin in one" in page
 
 
 def test_what_the_page_on_storms_says_of_clients_beside_is_so() -> None:
     page = (TOP / "docs" / STORMS).read_text()
     quota = Quota(10, 0.1, 1)
-    back, never = (storm(FULL, budget=quota, beside=[Population(share, FULL)]) for share in (0.2, 0.21))
+    back, never = (storm(FULL, limit=quota, beside=[Population(share, FULL)]) for share in (0.2, 0.21))
     assert (back.totals.recovered_ms, never.totals.recovered_ms) == (20_000, None)
     assert "With 20 % the peer is back at once, and with 21 % it never is" in page
     for seed, border in [*((seed, 20) for seed in range(8) if seed != 6), (6, 21)]:
         shares = [Population(percent / 100, FULL) for percent in (border, border + 1)]
-        ends = [storm(FULL, budget=quota, seed=seed, beside=[each]).totals.recovered_ms for each in shares]
+        ends = [storm(FULL, limit=quota, seed=seed, beside=[each]).totals.recovered_ms for each in shares]
         assert ends == [20_000, None], seed
     assert "(Of the seeds 0 to 7 seven have this border; with `--words 6` it is 21 %.)" in page
     half = [Population(0.5, FULL)]
-    with_quota, without = (storm(FULL, budget=each, queue=500, beside=half) for each in (quota, None))
+    with_quota, without = (storm(FULL, limit=each, queue=500, beside=half) for each in (quota, None))
     assert (with_quota.totals.recovered_ms, without.totals.recovered_ms) == (27_000, 29_000)
     assert "at 27 s if half of the requests have none, and at 29 s if all have none" in page
     won = [1000 * each.totals.won // each.totals.requests for each in with_quota.populations]

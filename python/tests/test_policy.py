@@ -648,10 +648,20 @@ def test_a_policy_is_neither_true_nor_false() -> None:
         lambda: recurs(3) and spaced(1),
         lambda: recurs(3) or spaced(1),
         lambda: not recurs(3),
+        lambda: recurs(3) + spaced(1),  # type: ignore[operator]
     ]
     for joined in joins:
-        with pytest.raises(TypeError, match="joined by & and |"):
+        with pytest.raises(TypeError, match=r"^join policies by & or \|"):
             joined()
+    with pytest.raises(TypeError, match="unsupported operand"):
+        recurs(3) + 1  # type: ignore[operator]
+
+
+@pytest.mark.parametrize("text", ["recurs(3) and spaced(1)", "recurs(3) or spaced(1)", "recurs(3) + spaced(1)"])
+def test_an_expression_that_joins_otherwise(text: str) -> None:
+    with pytest.raises(PolicyError) as caught:
+        Policy.parse(f"({text}).cap(1)")
+    assert caught.value.hint == f"join policies by & or |, got {text!r}"
 
 
 @pytest.mark.parametrize("wrong, said", [(5, "5"), (10**15, "1000000000000000"), (None, "None"), ([1], r"\[1\]")])

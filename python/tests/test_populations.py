@@ -29,7 +29,7 @@ from hikebox.budgets.terms import Terms
 from hikebox.cli.main import main
 from hikebox.cli.scenario import scenario_of
 from hikebox.limits.kinds import times_of
-from hikebox.storm import play
+from hikebox.storms.storm import play
 from hikebox.storms import cores
 from hikebox.storms.code import in_command, in_python, in_rust, in_scenario
 from hikebox.storms.heads import names_of
@@ -121,7 +121,7 @@ def test_random_storms_are_those_of_the_rules(seed: int) -> None:
 
 
 def test_a_quota_beside_clients_without_one() -> None:
-    few, many = (storm(FULL, budget=TENTH, beside=[Population(share, FULL)]) for share in (0.2, 0.3))
+    few, many = (storm(FULL, limit=TENTH, beside=[Population(share, FULL)]) for share in (0.2, 0.3))
     # (as tests/storms.py plays them)
     assert (few.totals.won, few.totals.recovered_ms) == (41_470, 20_000)
     assert (many.totals.won, many.totals.recovered_ms) == (9967, None)
@@ -137,7 +137,7 @@ def test_a_quota_beside_clients_without_one() -> None:
 def test_populations_under_one_policy_that_are_limited_are_one() -> None:
     none: List[Population] = []
     beside = [Population(0.3, FULL, limited=True), Population(0.2, FULL, patience=0.5, limited=True)]
-    one, three = (storm(FULL, budget=TENTH, beside=given, **BRIEF) for given in (none, beside))
+    one, three = (storm(FULL, limit=TENTH, beside=given, **BRIEF) for given in (none, beside))
     assert (three.rows, three.totals) == (one.rows, one.totals)
     assert one.populations == () and "populations" not in json.loads(one.to_json())
     assert [each.totals.requests for each in three.populations] == [250, 150, 100]
@@ -287,7 +287,7 @@ def test_storms_whose_populations_differ_have_them_in_their_lines(
     tmp_path: Path, capsys: pytest.CaptureFixture[str]
 ) -> None:
     beside = [(), (Population(0.3, recurs(3)),), (Population(0.3, recurs(3), limited=True),)]
-    known = [storm(recurs(3), budget=5, beside=given, **BRIEF) for given in beside]
+    known = [storm(recurs(3), limit=5, beside=given, **BRIEF) for given in beside]
     told = json.loads(in_scenario(known))
     assert "beside" not in told["storm"]
     assert [line.get("beside") for line in told["lines"]] == [
@@ -332,7 +332,7 @@ def test_a_line_and_the_command_line_have_others_than_the_scenario(
 
 
 def test_the_program_prints_all_and_then_each(capsys: pytest.CaptureFixture[str]) -> None:
-    known = storm(recurs(2), budget=TENTH, beside=[Population(0.3, recurs(1), patience=2)], **BRIEF)
+    known = storm(recurs(2), limit=TENTH, beside=[Population(0.3, recurs(1), patience=2)], **BRIEF)
     words = ["storm", *BRIEF_WORDS, "--quota", "10/10%/1s", "--beside", "30@2000=recurs(1)", "recurs(2)"]
     assert main(words) == 0
     told = capsys.readouterr().out
@@ -368,7 +368,7 @@ def test_the_help_the_manual_page_and_the_completions_spell_it_as_the_error_does
     told = " ".join(capsys.readouterr().out.split())
     assert f"--beside {FORM} clients who send PERCENT of the requests" in told
     assert "they wait PATIENCE milliseconds for a call, or as long as the others; " in told
-    assert "with +limited they draw on the same budget, quota or limit, if there is one; " in told
+    assert "with +limited they draw on the same limit, if there is one; " in told
     share = TOP / "python" / "share"
     assert f":{FORM}:" in (share / "hikebox.zsh").read_text()
     assert f'--beside " {FORM}"' in re.sub(r"\\f[RP]|\\", "", (share / "hikebox.1").read_text())
@@ -497,10 +497,10 @@ def test_zsched_prints_the_same(policy: Policy, parameters: Parameters) -> None:
 
 
 def test_a_sweep_and_a_border_are_of_all_requests(monkeypatch: pytest.MonkeyPatch) -> None:
-    base = storm(recurs(3), budget=TENTH, beside=[Population(0.3, recurs(1), patience=0.25)], **BRIEF)
+    base = storm(recurs(3), limit=TENTH, beside=[Population(0.3, recurs(1), patience=0.25)], **BRIEF)
     swept = sweep(base, patience=[0.2, 1])
     for value, got in zip((0.2, 1), swept.lines[0]):
-        wanted = storm(recurs(3), budget=TENTH, patience=value, beside=[Population(0.3, recurs(1), 0.25)], **BRIEF)
+        wanted = storm(recurs(3), limit=TENTH, patience=value, beside=[Population(0.3, recurs(1), 0.25)], **BRIEF)
         assert got == wanted and got.populations == wanted.populations
     shared = "recurs(3), beside 30 % of the requests, not limited, under recurs(1) with patience 250 ms"
     assert swept.table().startswith(f"{shared}\n\nrequests that succeeded")
@@ -544,10 +544,10 @@ def test_a_sweep_says_which_populations_stand_beside(capsys: pytest.CaptureFixtu
 
 def test_a_sweep_goes_along_the_share_of_the_first_population_beside(capsys: pytest.CaptureFixture[str]) -> None:
     beside = [Population(0.5, recurs(0)), Population(0.1, recurs(1))]
-    swept = sweep(storm(FULL, budget=TENTH, beside=beside, **BRIEF), beside=[0.05, 0.4])
+    swept = sweep(storm(FULL, limit=TENTH, beside=beside, **BRIEF), beside=[0.05, 0.4])
     assert swept.values == (5, 40)
     for share, got in zip((0.05, 0.4), swept.lines[0]):
-        assert got == storm(FULL, budget=TENTH, beside=[replace(beside[0], share=share), beside[1]], **BRIEF)
+        assert got == storm(FULL, limit=TENTH, beside=[replace(beside[0], share=share), beside[1]], **BRIEF)
     assert "beside a share of the requests, not limited, under recurs(0) and 10 % of the requests, " in swept.table()
     told = json.loads(swept.to_json())
     assert told["values"] == [5, 40]
@@ -576,11 +576,11 @@ def test_a_sweep_goes_along_the_share_of_the_first_population_beside(capsys: pyt
 
 
 def test_the_border_of_a_share_beside() -> None:
-    base = storm(FULL, budget=TENTH, beside=[Population(0.3, FULL)])
+    base = storm(FULL, limit=TENTH, beside=[Population(0.3, FULL)])
     found = find(base, "beside")
     assert found.value == 20
     for percent in (20, 21):
-        assert dict(found.tried)[percent] == storm(FULL, budget=TENTH, beside=[Population(percent / 100, FULL)])
+        assert dict(found.tried)[percent] == storm(FULL, limit=TENTH, beside=[Population(percent / 100, FULL)])
     assert str(found).startswith("greatest share of the first population beside with which the peer recovers: 20 %\n")
     # as many as the others leave
     some = storm(recurs(0), beside=[Population(0.3, recurs(0)), Population(0.25, recurs(0))], **BRIEF)
@@ -595,7 +595,7 @@ def test_the_border_of_a_share_beside() -> None:
 @pytest.mark.parametrize("width", [320, 500, 760, 1400])
 def test_each_population_has_its_verdict(width: int) -> None:
     beside = [Population(0.3, FULL), Population(0.1, recurs(0), patience=2, limited=True)]
-    drawn = storm(FULL, budget=TENTH, beside=beside, **BRIEF)
+    drawn = storm(FULL, limit=TENTH, beside=beside, **BRIEF)
     root = parsed(drawn.svg(width=width))
     looks_at_texts(root)
     words = texts(root)
@@ -631,7 +631,7 @@ def test_a_storm_alone_stands_beside_one_with_populations() -> None:
 
 
 def test_a_brief_picture_has_verdicts_alone_and_names_in_a_line() -> None:
-    drawn = [storm(FULL, budget=TENTH, beside=[Population(0.3, FULL)], **BRIEF) for _ in range(2)]
+    drawn = [storm(FULL, limit=TENTH, beside=[Population(0.3, FULL)], **BRIEF) for _ in range(2)]
     root = parsed(storm_picture(drawn, title="", width=340, styled=False, is_brief=True))
     looks_at_texts(root)
     words = texts(root)

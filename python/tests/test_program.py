@@ -22,10 +22,11 @@ import pytest
 from conftest import TOP, heed_signals, python_environment
 from test_cli import hikebox
 
-from hikebox import BudgetError, Policy, PolicyError
+from hikebox import LimitError, Policy, PolicyError
 from hikebox.version import VERSION
 from hikebox.cli.seeded import seeded
-from hikebox.cli.values import quota, terms
+from hikebox.cli.limits import limit
+from hikebox.cli.values import terms
 
 PROGRAM = [sys.executable, "-m", "hikebox"]
 
@@ -46,19 +47,19 @@ def test_terms_with_their_units() -> None:
     assert terms("10/0.1%/1.5m") == (10, 0.001, 90.0)
     assert [terms(f"1/1%/2{unit}")[2] for unit in ("ms", "s", "m", "h", "d")] == [0.002, 2, 120, 7200, 172800]
     for bad in ("10/20%/60", "10/0.2/60s", "10/20%/60x", "10/20%", "/20%/60s", "1.5/20%/60s", "10/20 %/60s"):
-        with pytest.raises(BudgetError, match=r"^expected RESERVE/SHARE%/PERIOD, such as .* \(units: ms, s, m, h, d\)"):
+        with pytest.raises(LimitError, match=r"^expected RESERVE/SHARE%/PERIOD, such as .* \(units: ms, s, m, h, d\)"):
             terms(bad)
-    assert repr(quota("10/20%/60s@/nowhere/f")).endswith("'run', 10, 0.2, per=60, lease=1)")
+    assert repr(limit("10/20%/60s@/nowhere/f", None)).endswith("'run', 10, 0.2, per=60, lease=1)")
 
 
 def test_a_quota_without_units_is_refused_with_both_spellings() -> None:
-    status, output, errors = hikebox("run", "--quota", "1/500/100@f", "--", "true")
+    status, output, errors = hikebox("run", "--limit", "1/500/100@f", "--", "true")
     assert (status, output) == (2, "")
     assert errors == (
         "hikebox: '1/500/100' has no units: write 1/50000%/100s (retries a request, and seconds) or 1/50%/100ms "
         "(thousandths and milliseconds, as zsched reads it)\n"
     )
-    assert "1/20%/60s" in hikebox("run", "--quota", "1/0.2/60@f", "--", "true")[2]
+    assert "1/20%/60s" in hikebox("run", "--limit", "1/0.2/60@f", "--", "true")[2]
 
 
 # Plans
@@ -332,7 +333,7 @@ def test_options_are_not_abbreviated(tmp_path: Path) -> None:
 
 def test_a_store_that_can_not_be_reached_is_told_once() -> None:
     said = r"hikebox: run: /dev/null/f\S*: Not a directory; it grants nothing until it can be reached\n"
-    for option in ("--budget=5@/dev/null/f", "--quota=5/10%/60s@/dev/null/f"):
+    for option in ("--limit=5@/dev/null/f", "--limit=5/10%/60s@/dev/null/f"):
         words = ["run", option, "--policy", "recurs(3)", "--", "sh", "-c", "exit 7"]
         status, output, errors = hikebox(*words)
         assert (status, output) == (7, "") and re.fullmatch(said, errors), errors

@@ -16,9 +16,9 @@ from draws import drawn_by, engines_number as number, repeated
 from processes import in_a_forked_child
 from hikebox import (
     AsyncRetrying,
-    BudgetClosed,
-    BudgetError,
-    BudgetInUse,
+    LimitClosed,
+    LimitError,
+    LimitInUse,
     Ending,
     Quota,
     Retrying,
@@ -172,7 +172,7 @@ def test_terms_that_are_refused(terms: Any, text: str) -> None:
     with pytest.raises(ValueError) as caught:
         Quota(*terms)
     assert str(caught.value) == text
-    assert isinstance(caught.value, (TermsError, BudgetError))
+    assert isinstance(caught.value, (TermsError, LimitError))
 
 
 def test_terms_of_wrong_types() -> None:
@@ -188,17 +188,17 @@ def test_terms_of_wrong_types() -> None:
 @KINDS
 def test_a_call_is_a_request_and_its_retries_draw(kind: str, clock: VirtualClock) -> None:
     quota = Quota(1, 0.5, 10, clock=clock)
-    retrying = retrying_of(kind, recurs(3), clock, budget=quota)
+    retrying = retrying_of(kind, recurs(3), clock, limit=quota)
     # three calls are three requests: 1, 2 and 2 tickets in all
     assert [call(kind, retrying) for _ in range(3)] == [
-        (1, "BUDGET_REFUSED"),
-        (1, "BUDGET_REFUSED"),
-        (0, "BUDGET_REFUSED"),
+        (1, "LIMIT_REFUSED"),
+        (1, "LIMIT_REFUSED"),
+        (0, "LIMIT_REFUSED"),
     ]
     assert quota.seen() == Usage(window=0, asked=3, given=2, left=0)
     clock.advance(10)
-    assert call(kind, retrying) == (1, "BUDGET_REFUSED")
-    assert retrying.statistics.budget_refused == 4
+    assert call(kind, retrying) == (1, "LIMIT_REFUSED")
+    assert retrying.statistics.limit_refused == 4
     assert quota.close() == 3
 
 
@@ -207,7 +207,7 @@ def test_retries_draw_at_the_moment_of_the_failure(kind: str, clock: VirtualCloc
     # failures at 5.5, 5.9, 6.7 and 8.3 s: windows 0, 0, 1 and 3 of a second, each with two tickets
     clock.advance(5.5)
     quota = Quota(2, 0, 1, clock=clock)
-    retrying = retrying_of(kind, recurs(3) & exponential(0.4), clock, budget=quota)
+    retrying = retrying_of(kind, recurs(3) & exponential(0.4), clock, limit=quota)
     assert call(kind, retrying) == (3, "SCHEDULE_DONE")
     assert clock.slept == pytest.approx([0.4, 0.8, 1.6])
     assert quota.granted == 3
@@ -218,8 +218,8 @@ def test_retries_draw_at_the_moment_of_the_failure(kind: str, clock: VirtualCloc
 def test_a_quota_by_another_clock_than_the_retrys(kind: str, clock: VirtualClock) -> None:
     other = VirtualClock(1000)
     quota = Quota(2, 1, 1, clock=other)
-    retrying = retrying_of(kind, recurs(9) & spaced(5), clock, budget=quota)
-    assert call(kind, retrying) == (3, "BUDGET_REFUSED")
+    retrying = retrying_of(kind, recurs(9) & spaced(5), clock, limit=quota)
+    assert call(kind, retrying) == (3, "LIMIT_REFUSED")
     assert clock.slept == [5, 5, 5]
     assert quota.seen() == Usage(window=0, asked=1, given=3, left=0)
     assert quota.close() == 3
@@ -228,7 +228,7 @@ def test_a_quota_by_another_clock_than_the_retrys(kind: str, clock: VirtualClock
 def test_a_call_that_succeeds_is_a_request(clock: VirtualClock) -> None:
     quota = Quota(0, 0.5, 10, clock=clock)
 
-    @retry(recurs(2), budget=quota, clock=clock)
+    @retry(recurs(2), limit=quota, clock=clock)
     def fine() -> int:
         return 1
 
@@ -238,32 +238,32 @@ def test_a_call_that_succeeds_is_a_request(clock: VirtualClock) -> None:
 
 def test_a_loop_of_attempts_is_a_request(clock: VirtualClock) -> None:
     quota = Quota(2, 1, 10, clock=clock)
-    for attempt in Retrying(recurs(5), budget=quota, clock=clock):
+    for attempt in Retrying(recurs(5), limit=quota, clock=clock):
         with attempt:
             if attempt.number < 3:
                 raise KeyError()
     assert quota.seen() == Usage(window=0, asked=1, given=2, left=1)
 
     async def main() -> None:
-        async for attempt in AsyncRetrying(recurs(5), budget=quota, clock=clock):
+        async for attempt in AsyncRetrying(recurs(5), limit=quota, clock=clock):
             with attempt:
                 raise KeyError()
 
     with pytest.raises(KeyError) as caught:
         asyncio.run(main())
     state = state_of(caught.value)
-    assert state is not None and (state.granted, state.ending) == (2, Ending.BUDGET_REFUSED)
+    assert state is not None and (state.granted, state.ending) == (2, Ending.LIMIT_REFUSED)
     assert quota.seen() == Usage(window=0, asked=2, given=4, left=0)
 
 
 def test_a_quota_of_the_real_clock() -> None:
     quota = Quota(3, 0, 10**6)
     with pytest.raises(KeyError) as caught:
-        Retrying(forever(), budget=quota)(fails)
+        Retrying(forever(), limit=quota)(fails)
     state = state_of(caught.value)
-    assert state is not None and (state.granted, state.ending) == (3, Ending.BUDGET_REFUSED)
+    assert state is not None and (state.granted, state.ending) == (3, Ending.LIMIT_REFUSED)
     with pytest.raises(KeyError):
-        Retrying(recurs(1) & spaced(0.001), budget=Quota(9, 0, 0.1))(fails)
+        Retrying(recurs(1) & spaced(0.001), limit=Quota(9, 0, 0.1))(fails)
     # windows are of the machine's monotonic clock
     before = int(time.monotonic())
     quota = Quota(1, 0, 1)
@@ -276,7 +276,7 @@ def test_a_sleep_that_takes_no_time_moves_the_retrys_draws() -> None:
     clock = VirtualClock()
     quota = Quota(1, 0, 1, clock=clock)
     how: Any = {"clock": clock, "sleep": lambda _: None, "fallback": granted_and_ending}
-    retrying = Retrying(recurs(4) & spaced(1), budget=quota, **how)
+    retrying = Retrying(recurs(4) & spaced(1), limit=quota, **how)
     assert retrying(fails) == (4, "SCHEDULE_DONE")
     # the fourth failure that is retried is at 3 s by the retry
     assert clock() == 0 and quota.seen() == Usage(window=3, asked=0, given=1, left=0)
@@ -284,7 +284,7 @@ def test_a_sleep_that_takes_no_time_moves_the_retrys_draws() -> None:
 
 def test_a_quota_serves_any_number_of_retries(clock: VirtualClock) -> None:
     quota = Quota(2**32, 0, 3600, clock=clock)
-    retrying = Retrying(recurs(1), budget=quota, clock=clock, fallback=lambda state: state.granted)
+    retrying = Retrying(recurs(1), limit=quota, clock=clock, fallback=lambda state: state.granted)
     for _ in range(70_000):
         assert retrying(fails) == 1
     assert quota.close() == 70_000
@@ -292,13 +292,13 @@ def test_a_quota_serves_any_number_of_retries(clock: VirtualClock) -> None:
 
 def test_retries_that_end_elsewhere_than_they_began_use_no_pass_up(clock: VirtualClock) -> None:
     quota = Quota(2**32, 0, 3600, clock=clock)
-    retrying = Retrying(recurs(1), budget=quota, clock=clock)
+    retrying = Retrying(recurs(1), limit=quota, clock=clock)
     for _ in range(300):
         begun = [iter(retrying) for _ in range(40)]
         for attempts in begun:
             with next(attempts):
                 raise KeyError()
-        with pytest.raises(BudgetInUse):
+        with pytest.raises(LimitInUse):
             quota.close()
         ends = threading.Thread(target=begun.clear)
         ends.start()
@@ -394,7 +394,7 @@ def test_8_threads_draw_in_different_windows_at_once() -> None:
 def test_threads_share_a_retrying_and_a_quota(clock: VirtualClock) -> None:
     quota = Quota(100, 1, 60, clock=clock)
     runs: List[int] = []
-    retrying = Retrying(recurs(30), budget=quota, clock=clock, fallback=lambda state: state.granted)
+    retrying = Retrying(recurs(30), limit=quota, clock=clock, fallback=lambda state: state.granted)
 
     def counted() -> Any:
         runs.append(1)
@@ -419,9 +419,9 @@ def test_coroutines_share_a_quota_and_one_that_is_cancelled_gives_its_tickets_ri
     quota = Quota(100, 0, 10**6)
 
     async def main() -> Any:
-        retrying = AsyncRetrying(recurs(3) & spaced(0.001), budget=quota, fallback=lambda state: state.granted)
+        retrying = AsyncRetrying(recurs(3) & spaced(0.001), limit=quota, fallback=lambda state: state.granted)
         ended = await asyncio.gather(*(retrying(fails_later) for _ in range(10)))
-        waiting = asyncio.ensure_future(AsyncRetrying(forever() & spaced(60), budget=quota)(fails_later))
+        waiting = asyncio.ensure_future(AsyncRetrying(forever() & spaced(60), limit=quota)(fails_later))
         await asyncio.sleep(0.01)
         waiting.cancel()
         with pytest.raises(asyncio.CancelledError):
@@ -441,18 +441,18 @@ def test_as_a_context(clock: VirtualClock) -> None:
     with Quota(3, 0, 60, clock=clock) as quota:
         assert number(quota.draw()) == 0
     assert quota.closed and quota.granted == 1 == quota.close()
-    with pytest.raises(BudgetClosed):
+    with pytest.raises(LimitClosed):
         quota.draw()
-    with pytest.raises(BudgetClosed):
+    with pytest.raises(LimitClosed):
         quota.deposit()
-    with pytest.raises(BudgetClosed):
+    with pytest.raises(LimitClosed):
         quota.seen()
-    with pytest.raises(BudgetClosed):
-        Retrying(recurs(1), budget=quota)(fails)
+    with pytest.raises(LimitClosed):
+        Retrying(recurs(1), limit=quota)(fails)
 
-    with pytest.raises(BudgetInUse):
+    with pytest.raises(LimitInUse):
         with Quota(3, 0, 60, clock=clock) as quota:
-            attempts = iter(Retrying(recurs(3), budget=quota, clock=clock))
+            attempts = iter(Retrying(recurs(3), limit=quota, clock=clock))
             with next(attempts):
                 raise KeyError()
     assert not quota.closed
@@ -485,7 +485,7 @@ def test_a_forked_child_begins_anew() -> None:
     assert bool(quota.draw())
 
     def begins_anew() -> None:
-        retrying = Retrying(recurs(3), budget=quota, fallback=lambda state: state.granted)
+        retrying = Retrying(recurs(3), limit=quota, fallback=lambda state: state.granted)
         assert (retrying(int, "3"), retrying(int, "x"), quota.seen().asked, quota.close()) == (3, 3, 2, 3)
 
     in_a_forked_child(begins_anew)

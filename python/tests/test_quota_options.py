@@ -16,8 +16,8 @@ from processes import in_a_forked_child
 from hikebox import (
     AsyncRetrying,
     Budget,
-    BudgetClosed,
-    BudgetInUse,
+    LimitClosed,
+    LimitInUse,
     Ending,
     Quota,
     RefusalReason,
@@ -128,7 +128,7 @@ def test_terms_that_are_changed_count_for_the_next_draw(clock: VirtualClock) -> 
     assert (quota.terms, quota.reserve, quota.share, quota.per) == ((3, 0, 10_000), 3, 0.0, 10.0)
     assert repr(quota) == "<Quota(3, 0, per=10)>"
     assert quota.close() == 5
-    with pytest.raises(BudgetClosed):
+    with pytest.raises(LimitClosed):
         quota.set_terms(reserve=4)
 
 
@@ -182,7 +182,7 @@ def test_a_forked_child_has_the_terms_in_force() -> None:
 @KINDS
 def test_a_forked_child_hands_none_of_its_parents_tickets_back(kind: str, tmp_path: Path, clock: VirtualClock) -> None:
     quota = made(kind, tmp_path, 1, 0, clock)
-    attempts = iter(Retrying(recurs(3), budget=quota, clock=clock))
+    attempts = iter(Retrying(recurs(3), limit=quota, clock=clock))
     with next(attempts):
         raise KeyError()
 
@@ -265,7 +265,7 @@ def test_a_ticket_that_a_retry_used_does_not_come_back(kind: str, tmp_path: Path
     quota = made(kind, tmp_path, 2, 0, clock)
     ticket = quota.draw()
     with pytest.raises(KeyError):
-        Retrying(recurs(1), budget=quota, clock=clock)(fails)
+        Retrying(recurs(1), limit=quota, clock=clock)(fails)
     assert quota.granted == 2
     ticket.hand_back()
     assert quota.granted == 1
@@ -316,9 +316,9 @@ def test_tickets_of_a_quota_that_was_closed(clock: VirtualClock) -> None:
     quota = Quota(5, 0, LONG, clock=clock)
     ticket = quota.draw()
     assert ticket and quota.close() == 1
-    with pytest.raises(BudgetClosed):
+    with pytest.raises(LimitClosed):
         ticket.hand_back()
-    with pytest.raises(BudgetClosed):
+    with pytest.raises(LimitClosed):
         quota.draw()
 
 
@@ -391,7 +391,7 @@ def broken_off(quota: Any, clock: VirtualClock) -> Any:
             raise KeyboardInterrupt
 
     with pytest.raises(KeyboardInterrupt):
-        Retrying(recurs(9) & spaced(1), budget=quota, clock=clock, sleep=sleep)(fails)
+        Retrying(recurs(9) & spaced(1), limit=quota, clock=clock, sleep=sleep)(fails)
 
 
 def stopped(quota: Any, clock: VirtualClock) -> None:
@@ -403,12 +403,12 @@ def stopped(quota: Any, clock: VirtualClock) -> None:
             stop.set()
 
     how: Any = {"clock": clock, "sleep": clock.sleep, "stop": stop, "fallback": lambda state: state.ending}
-    assert Retrying(recurs(9) & spaced(1), budget=quota, before_sleep=hook, **how)(fails) is Ending.STOPPED
+    assert Retrying(recurs(9) & spaced(1), limit=quota, before_sleep=hook, **how)(fails) is Ending.STOPPED
 
 
 def left(quota: Any, clock: VirtualClock) -> None:
     """A loop that is left after its second attempt."""
-    for attempt in Retrying(recurs(9) & spaced(1), budget=quota, clock=clock, sleep=clock.sleep):
+    for attempt in Retrying(recurs(9) & spaced(1), limit=quota, clock=clock, sleep=clock.sleep):
         with attempt:
             raise KeyError()
         if attempt.number == 2:
@@ -424,7 +424,7 @@ def cancelled(quota: Any, clock: VirtualClock) -> None:
         await asyncio.sleep(60 if len(slept) == 2 else 0)
 
     async def main() -> None:
-        retrying = AsyncRetrying(recurs(9) & spaced(1), budget=quota, clock=clock, sleep=sleep)
+        retrying = AsyncRetrying(recurs(9) & spaced(1), limit=quota, clock=clock, sleep=sleep)
         waiting = asyncio.ensure_future(retrying(later(fails)))
         while len(slept) < 2:
             await asyncio.sleep(0.001)
@@ -453,12 +453,12 @@ def test_a_retry_that_ends_in_its_attempt_has_used_its_ticket(kind: str, tmp_pat
     quota = made(kind, tmp_path, 5, 0, clock)
     call = answers_of(KeyError(), KeyError(), KeyboardInterrupt())
     with pytest.raises(KeyboardInterrupt):
-        Retrying(recurs(9) & spaced(1), budget=quota, clock=clock, sleep=clock.sleep)(call)
+        Retrying(recurs(9) & spaced(1), limit=quota, clock=clock, sleep=clock.sleep)(call)
     assert quota.granted == 2
     # where the policy is done the tickets were used, and where a ticket was refused there is none to come back
     for retries in (1, 9):
         with pytest.raises(KeyError):
-            Retrying(recurs(retries), budget=quota, clock=clock)(fails)
+            Retrying(recurs(retries), limit=quota, clock=clock)(fails)
     assert quota.granted == 5 and not quota.draw()
 
 
@@ -467,7 +467,7 @@ def test_a_retry_that_ends_at_once_where_it_waits_for_nothing(clock: VirtualCloc
     quota = Quota(1, 0, LONG, clock=clock)
     with pytest.raises(KeyboardInterrupt):
         broken_off: Any = waits_are_broken_off
-        Retrying(recurs(9), budget=quota, clock=clock, before_sleep=broken_off)(fails)
+        Retrying(recurs(9), limit=quota, clock=clock, before_sleep=broken_off)(fails)
     assert quota.granted == 0 and bool(quota.draw())
 
 
@@ -509,15 +509,15 @@ def test_a_call_that_succeeds_hands_its_last_ticket_back(
     quota = made(kind, tmp_path, 3, 0, clock, returns_tickets=True)
     # one retry: it hands its ticket back, again and again
     for _ in range(5):
-        assert call_by(way, recurs(5), answers_of(KeyError(), 7), budget=quota, clock=clock) == 7
+        assert call_by(way, recurs(5), answers_of(KeyError(), 7), limit=quota, clock=clock) == 7
     assert quota.granted == 0
     # two retries: the last one's ticket comes back, the first one's not
-    assert call_by(way, recurs(5), answers_of(KeyError(), KeyError(), 7), budget=quota, clock=clock) == 7
+    assert call_by(way, recurs(5), answers_of(KeyError(), KeyError(), 7), limit=quota, clock=clock) == 7
     assert quota.granted == 1
     # one that fails in the end has used its tickets, and one that needs no retry has none
     with pytest.raises(KeyError):
-        call_by(way, recurs(1), answers_of(KeyError(), KeyError()), budget=quota, clock=clock)
-    assert call_by(way, recurs(1), answers_of(7), budget=quota, clock=clock) == 7
+        call_by(way, recurs(1), answers_of(KeyError(), KeyError()), limit=quota, clock=clock)
+    assert call_by(way, recurs(1), answers_of(7), limit=quota, clock=clock) == 7
     assert quota.granted == 2
     assert [bool(quota.draw()) for _ in range(2)] == [True, False]
 
@@ -526,15 +526,15 @@ def test_a_call_that_succeeds_hands_its_last_ticket_back(
 def test_a_call_that_succeeds_keeps_its_tickets_otherwise(kind: str, tmp_path: Path, clock: VirtualClock) -> None:
     quota = made(kind, tmp_path, 3, 0, clock)
     for granted in (1, 2, 3):
-        assert call_by("call", recurs(5), answers_of(KeyError(), 7), budget=quota, clock=clock) == 7
+        assert call_by("call", recurs(5), answers_of(KeyError(), 7), limit=quota, clock=clock) == 7
         assert quota.granted == granted
     with pytest.raises(KeyError):
-        call_by("call", recurs(5), answers_of(KeyError(), 7), budget=quota, clock=clock)
+        call_by("call", recurs(5), answers_of(KeyError(), 7), limit=quota, clock=clock)
 
 
 def test_a_repetition_keeps_its_tickets(clock: VirtualClock) -> None:
     quota = Quota(3, 0, LONG, clock=clock, returns_tickets=True)
-    assert Repeating(recurs(2), budget=quota, clock=clock)(answers_of(1, 2, 3)) == 3
+    assert Repeating(recurs(2), limit=quota, clock=clock)(answers_of(1, 2, 3)) == 3
     assert quota.granted == 2
 
 
@@ -548,36 +548,36 @@ def test_a_dead_callee_dries_the_quota_out(kind: str, way: str, tmp_path: Path, 
     for retries in (1, 0, 0):
         call = answers_of(*[KeyError()] * 9)
         with pytest.raises(KeyError) as caught:
-            call_by(way, recurs(5), call, budget=quota, clock=clock)
+            call_by(way, recurs(5), call, limit=quota, clock=clock)
         assert caught.value.retry_state.granted == retries  # type: ignore[attr-defined]
     assert (quota.seen().asked, quota.seen().left) == (0, 0)
     # a call that succeeds gives its share, at once or after a retry
-    assert call_by(way, recurs(5), answers_of(7), budget=quota, clock=clock) == 7
+    assert call_by(way, recurs(5), answers_of(7), limit=quota, clock=clock) == 7
     assert (quota.seen().asked, quota.seen().left) == (1, 1)
-    assert call_by(way, recurs(5), answers_of(KeyError(), 7), budget=quota, clock=clock) == 7
+    assert call_by(way, recurs(5), answers_of(KeyError(), 7), limit=quota, clock=clock) == 7
     assert (quota.seen().asked, quota.seen().left) == (2, 1)
 
 
 def test_a_result_that_is_refused_is_no_success(clock: VirtualClock) -> None:
     quota = Quota(1, 0.5, LONG, clock=clock, counts_successes=True)
     how: Any = {"on_result": lambda answer: answer != 7, "fallback": lambda state: None, "clock": clock}
-    assert Retrying(recurs(0), budget=quota, **how)(answers_of(1)) is None
+    assert Retrying(recurs(0), limit=quota, **how)(answers_of(1)) is None
     assert quota.seen().asked == 0
-    assert Retrying(recurs(5), budget=quota, **how)(answers_of(1, 7)) == 7
+    assert Retrying(recurs(5), limit=quota, **how)(answers_of(1, 7)) == 7
     assert quota.seen().asked == 1
     # a repetition is one where its last call gave a result
-    assert Repeating(recurs(0), budget=quota, clock=clock)(answers_of(1)) == 1
+    assert Repeating(recurs(0), limit=quota, clock=clock)(answers_of(1)) == 1
     assert quota.seen().asked == 2
     with pytest.raises(KeyError):
-        Repeating(recurs(5), budget=quota, clock=clock)(fails)
+        Repeating(recurs(5), limit=quota, clock=clock)(fails)
     assert quota.seen().asked == 2
 
 
 def test_a_success_is_given_though_its_quota_was_closed_meanwhile(clock: VirtualClock) -> None:
     quota = Quota(1, 0.5, LONG, clock=clock, counts_successes=True)
-    assert Retrying(recurs(5), budget=quota, clock=clock)(quota.close) == 0
-    with pytest.raises(BudgetClosed):
-        Retrying(recurs(5), budget=quota, clock=clock)(fails)
+    assert Retrying(recurs(5), limit=quota, clock=clock)(quota.close) == 0
+    with pytest.raises(LimitClosed):
+        Retrying(recurs(5), limit=quota, clock=clock)(fails)
 
 
 def test_options_are_told_and_stay(tmp_path: Path) -> None:
@@ -602,10 +602,10 @@ def test_options_are_told_and_stay(tmp_path: Path) -> None:
 
 def test_retries_of_a_quota_by_another_clock_are_under_way_until_they_end(clock: VirtualClock) -> None:
     quota = Quota(5, 0, LONG, clock=VirtualClock(7))
-    attempts = iter(Retrying(recurs(3), budget=quota, clock=clock))
+    attempts = iter(Retrying(recurs(3), limit=quota, clock=clock))
     with next(attempts):
         raise KeyError()
-    with pytest.raises(BudgetInUse):
+    with pytest.raises(LimitInUse):
         quota.close()
     with next(attempts):
         pass
@@ -621,7 +621,7 @@ def test_threads_whose_retries_hand_back_and_draw(kind: str, tmp_path: Path) -> 
     won: List[int] = []
 
     def work() -> None:
-        won.append(sum(Retrying(recurs(1), budget=quota)(answers_of(KeyError(), 1)) for _ in range(300)))
+        won.append(sum(Retrying(recurs(1), limit=quota)(answers_of(KeyError(), 1)) for _ in range(300)))
 
     threads = [threading.Thread(target=work) for _ in range(8)]
     for thread in threads:
@@ -733,9 +733,9 @@ def test_a_retry_draws_what_is_carried(by: str, carries: bool, granted: int, clo
     quota = Quota(0, 1, 10, clock=told_by, carries=carries)
     quota.deposit()
     with pytest.raises(KeyError) as caught:
-        Retrying(recurs(9) & spaced(10), budget=quota, clock=clock, sleep=clock.sleep)(fails)
+        Retrying(recurs(9) & spaced(10), limit=quota, clock=clock, sleep=clock.sleep)(fails)
     state: Any = caught.value.retry_state  # type: ignore[attr-defined]
-    assert (state.granted, state.ending) == (granted, Ending.BUDGET_REFUSED)
+    assert (state.granted, state.ending) == (granted, Ending.LIMIT_REFUSED)
     assert clock.slept == [10.0] * granted and quota.close() == granted
 
 

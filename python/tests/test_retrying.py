@@ -21,7 +21,7 @@ from hikebox import (
     AsyncRetrying,
     Breaker,
     Budget,
-    BudgetInUse,
+    LimitInUse,
     Ending,
     NotAdmitted,
     Policy,
@@ -390,7 +390,7 @@ def test_what_can_not_be_decorated() -> None:
     with pytest.raises(TypeError):
         Retrying(recurs(1), on=3)  # type: ignore[arg-type]
     with pytest.raises(TypeError):
-        Retrying(recurs(1), budget=3)  # type: ignore[arg-type]
+        Retrying(recurs(1), limit=3)  # type: ignore[arg-type]
     with pytest.raises(TypeError):
         retry(recurs(1), nonsense=3)(len)  # type: ignore[call-arg]
 
@@ -464,18 +464,18 @@ def test_attempts_in_a_loop_of_a_coroutine(clock: VirtualClock) -> None:
 
 def test_a_loop_that_is_left_gives_its_pass_back() -> None:
     budget = Budget(10)
-    for attempt in Retrying(recurs(5), budget=budget):
+    for attempt in Retrying(recurs(5), limit=budget):
         with attempt:
             if attempt.number < 3:
                 raise KeyError()
             break
     with pytest.raises(KeyError):
-        for attempt in Retrying(recurs(5), budget=budget):
+        for attempt in Retrying(recurs(5), limit=budget):
             with attempt:
                 if attempt.number < 3:
                     raise KeyError()
             raise KeyError("outside")
-    for attempt in Retrying(recurs(5), budget=budget):
+    for attempt in Retrying(recurs(5), limit=budget):
         with attempt:
             raise KeyError()
         break
@@ -487,7 +487,7 @@ def test_a_loop_that_is_left_gives_its_pass_back() -> None:
 @KINDS
 def test_a_budget_bounds_the_retries(kind: str, clock: VirtualClock) -> None:
     budget = Budget(5)
-    calls = made(kind, recurs(3), clock, budget=budget)
+    calls = made(kind, recurs(3), clock, limit=budget)
     endings = []
     for _ in range(3):
         with pytest.raises(OSError) as caught:
@@ -497,10 +497,10 @@ def test_a_budget_bounds_the_retries(kind: str, clock: VirtualClock) -> None:
         endings.append((state.ending, state.attempt_number, state.granted))
     assert endings == [
         (Ending.SCHEDULE_DONE, 4, 3),
-        (Ending.BUDGET_REFUSED, 3, 2),
-        (Ending.BUDGET_REFUSED, 1, 0),
+        (Ending.LIMIT_REFUSED, 3, 2),
+        (Ending.LIMIT_REFUSED, 1, 0),
     ]
-    assert "the budget refused a retry" in notes_of(caught.value)[0]
+    assert "the limit refused a retry" in notes_of(caught.value)[0]
     assert budget.close() == 5
 
 
@@ -515,11 +515,11 @@ def test_a_retry_may_draw_on_something_else(kind: str, clock: VirtualClock) -> N
 
     three = Three()
     with pytest.raises(OSError) as caught:
-        made(kind, recurs(9), clock, budget=three)(Scripted(7))
+        made(kind, recurs(9), clock, limit=three)(Scripted(7))
     state = state_of(caught.value)
-    assert state is not None and (state.ending, state.granted) == (Ending.BUDGET_REFUSED, 3)
+    assert state is not None and (state.ending, state.granted) == (Ending.LIMIT_REFUSED, 3)
     with pytest.raises(OSError):
-        made(kind, recurs(0), clock, budget=three)(Scripted(7))
+        made(kind, recurs(0), clock, limit=three)(Scripted(7))
     assert three.drawn == 4
 
 
@@ -528,13 +528,13 @@ def test_a_coroutine_that_is_cancelled_while_it_waits() -> None:
     call = Scripted(7)
 
     async def main() -> None:
-        retrying = AsyncRetrying(spaced(0.01).and_then(spaced(60)) & recurs(9), budget=budget)
-        slow = AsyncRetrying(recurs(2).and_then(spaced(60)), budget=budget)
+        retrying = AsyncRetrying(spaced(0.01).and_then(spaced(60)) & recurs(9), limit=budget)
+        slow = AsyncRetrying(recurs(2).and_then(spaced(60)), limit=budget)
         task = asyncio.ensure_future(slow(call.later))
         while call.runs < 3:
             await asyncio.sleep(0.001)
         await asyncio.sleep(0.01)
-        with pytest.raises(BudgetInUse):
+        with pytest.raises(LimitInUse):
             budget.close()
         task.cancel()
         with pytest.raises(asyncio.CancelledError):
@@ -549,7 +549,7 @@ def test_a_coroutine_that_is_cancelled_while_it_waits() -> None:
 def test_many_coroutines_at_once_share_a_budget() -> None:
     async def main() -> int:
         with Budget(1000) as budget:
-            retrying = AsyncRetrying(recurs(3), budget=budget)
+            retrying = AsyncRetrying(recurs(3), limit=budget)
             calls = [Scripted(7) for _ in range(500)]
             ended = await asyncio.gather(*(retrying(call.later) for call in calls), return_exceptions=True)
         assert sum(granted_of(error) for error in ended) == 1000
@@ -561,7 +561,7 @@ def test_many_coroutines_at_once_share_a_budget() -> None:
 
 def test_threads_share_a_retrying_and_a_budget() -> None:
     with Budget(3000) as budget:
-        retrying = Retrying(recurs(100), budget=budget)
+        retrying = Retrying(recurs(100), limit=budget)
         granted: List[int] = []
 
         def work() -> None:
@@ -578,12 +578,12 @@ def test_threads_share_a_retrying_and_a_budget() -> None:
     assert sum(granted) == 3000 == budget.granted
     statistics = retrying.statistics
     assert statistics.calls == 80 and statistics.retries == 3000
-    assert statistics.schedule_done + statistics.budget_refused == 80
+    assert statistics.schedule_done + statistics.limit_refused == 80
 
 
 def test_one_budget_serves_more_than_65536_retries() -> None:
     with Budget(100000) as budget:
-        retrying = Retrying(recurs(1), budget=budget, fallback=lambda state: None)
+        retrying = Retrying(recurs(1), limit=budget, fallback=lambda state: None)
         call = Scripted(7)
         for _ in range(70000):
             retrying(call)
@@ -598,7 +598,7 @@ def test_retries_without_a_budget_have_no_bound_but_the_policy() -> None:
 
 def test_statistics() -> None:
     budget = Budget(3)
-    retrying = Retrying(recurs(2), on=OSError, budget=budget, fallback=lambda state: None)
+    retrying = Retrying(recurs(2), on=OSError, limit=budget, fallback=lambda state: None)
     for call in (Scripted(7, "won"), Scripted(7), Scripted(7), Scripted(KeyError())):
         try:
             retrying(call)
@@ -606,7 +606,7 @@ def test_statistics() -> None:
             pass
     seen = retrying.statistics
     assert (seen.calls, seen.attempts, seen.won, seen.schedule_done) == (4, 7, 1, 1)
-    assert (seen.budget_refused, seen.not_retried, seen.cancelled, seen.broken) == (1, 1, 0, 0)
+    assert (seen.limit_refused, seen.not_retried, seen.cancelled, seen.broken) == (1, 1, 0, 0)
     assert retrying.copy().statistics.calls == 0
     budget.close()
 
@@ -667,9 +667,9 @@ def test_an_exception_that_a_retry_raised_can_be_pickled() -> None:
 def test_errors_of_the_package_keep_the_state_of_their_retry_as_copies() -> None:
     breaker = Breaker(1, spaced(60))
     with pytest.raises(OSError):
-        Retrying(recurs(0), budget=breaker)(Scripted(7))
+        Retrying(recurs(0), limit=breaker)(Scripted(7))
     with pytest.raises(NotAdmitted) as refused:
-        Retrying(recurs(1), budget=breaker)(int, "3")
+        Retrying(recurs(1), limit=breaker)(int, "3")
     with pytest.raises(ResultRefused) as not_accepted:
         Retrying(recurs(1), on_result=bool)(int, "3")
     with pytest.raises(PolicyError) as wrong:
@@ -687,7 +687,7 @@ def test_an_attempt_has_one_block() -> None:
     budget = Budget(9)
     attempt = None
     with pytest.raises(RuntimeError, match="^an attempt is over once its `with` block was left"):
-        for attempt in Retrying(recurs(2), budget=budget):
+        for attempt in Retrying(recurs(2), limit=budget):
             with attempt:
                 pass
             with attempt:
@@ -740,7 +740,7 @@ def test_nothing_is_kept_of_a_retry_that_is_over() -> None:
 
 def test_a_retrying_is_shown() -> None:
     assert repr(Retrying(recurs(3))) == "Retrying(recurs(3))"
-    assert "Budget(5)" in repr(AsyncRetrying(recurs(3), budget=Budget(5)))
+    assert "Budget(5)" in repr(AsyncRetrying(recurs(3), limit=Budget(5)))
 
 
 def test_trio() -> None:

@@ -208,7 +208,7 @@ def test_a_full_error_stream_changes_no_run_and_no_status(tmp_path: Path) -> Non
     lines = (
         (["run", "-v", *AT_ONCE, "--", "sh", "-c", script], 7),
         (["run", "--", "no-such-command"], 127),
-        (["run", "--quota", "1/0%/1h@/dev/null/f", *AT_ONCE, "--", "sh", "-c", "exit 7"], 7),
+        (["run", "--limit", "1/0%/1h@/dev/null/f", *AT_ONCE, "--", "sh", "-c", "exit 7"], 7),
         (["run", "--polcy", "recurs(1)"], 2),
         (["plan", "no-such-file"], 4),
         (["check", '{"recurs":-1}'], 3),

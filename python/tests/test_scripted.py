@@ -96,13 +96,13 @@ def ended(tree: Any, runs: List[Run], budget: Union[Budget, Quota], clock: Virtu
         return code
 
     with budget:
-        retrying = Retrying(Policy.from_dict(tree), budget=budget, clock=clock, sleep=clock.sleep, random=lambda: 0.5)
+        retrying = Retrying(Policy.from_dict(tree), limit=budget, clock=clock, sleep=clock.sleep, random=lambda: 0.5)
         try:
             code = retrying(call)
         except Lost as error:
             state = state_of(error)
             assert state is not None and state.ending is not None
-            names = {Ending.SCHEDULE_DONE: "schedule done", Ending.BUDGET_REFUSED: "budget refused"}
+            names = {Ending.SCHEDULE_DONE: "schedule done", Ending.LIMIT_REFUSED: "budget refused"}
             line = f"{names[state.ending]}, failure {error.code}, granted {state.granted}"
         else:
             line = f"won {code}, granted "
@@ -254,11 +254,11 @@ def work(count):
         policy = Policy.from_json('{"meet":[{"recurs":3},{"gather":["list",{"spaced":%d}]}]}' % number)
         policy.preview(3)
         budget = Budget(2)
-        retrying = Retrying(policy, budget=budget, sleep=lambda seconds: None, fallback=lambda state: None)
+        retrying = Retrying(policy, limit=budget, sleep=lambda seconds: None, fallback=lambda state: None)
         retrying(fails)
         Retrying(policy, sleep=lambda seconds: None, fallback=lambda state: None)(fails)
         quota = Quota(2, 1, 60)
-        Retrying(policy, budget=quota, sleep=lambda seconds: None, fallback=lambda state: None)(fails)
+        Retrying(policy, limit=quota, sleep=lambda seconds: None, fallback=lambda state: None)(fails)
         if number % 2:
             budget.close()
             quota.close()

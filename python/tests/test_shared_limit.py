@@ -14,15 +14,29 @@ from typing import Any, List
 
 import pytest
 from conftest import python_environment
-from limited import admitted, draws_as_grpc_says, reason
+from limited import NEVER_OPEN, admitted, draws_as_grpc_says, reason
 from processes import Workers, in_a_forked_child
 from test_cli import hikebox, start  # noqa: F401
 from test_file_store import copy_of, fill, path_of, small_disk  # noqa: F401
 from test_run import wait_for
 
-from hikebox import Breaker, Bucket, InFlight, RefusalReason, exponential, spaced
+from hikebox import (
+    Breaker,
+    Bucket,
+    Budget,
+    CallLimit,
+    InFlight,
+    Limit,
+    Quota,
+    RefusalReason,
+    Retrying,
+    Throttle,
+    exponential,
+    recurs,
+    spaced,
+)
 from hikebox.errors import StoreError
-from hikebox.leased import FileStore
+from hikebox.leased import FileStore, Leased, LeasedQuota
 from hikebox.leased.shared import SharedLimit
 from hikebox.limits import both
 from hikebox.testing import VirtualClock
@@ -41,6 +55,17 @@ def level_of(folder: Path) -> int:
 
 
 # Rows
+
+
+def test_what_a_retry_draws_on_or_asks_is_a_limit(tmp_path: Path) -> None:
+    store = FileStore(tmp_path)
+    grant = [Budget(1), Budget.rising(1), Quota(1, 0, 60), Leased(store, "a", 1), LeasedQuota(store, "a", 1, 0, 60)]
+    kinds = [Bucket.aws(), InFlight.envoy(), Breaker(1, spaced(1)), Throttle.google()]
+    asked = [*kinds, both(kinds[0], kinds[1]), SharedLimit(store, "a", Bucket.aws())]
+    assert all(isinstance(limit, Limit) and not isinstance(limit, CallLimit) for limit in grant)
+    assert all(isinstance(limit, Limit) and isinstance(limit, CallLimit) for limit in asked)
+    for limit in (*grant, *asked):
+        assert Retrying(recurs(1), limit=limit)(lambda: 5) == 5
 
 
 def test_grpc_over_two_processes(tmp_path: Path) -> None:
@@ -343,8 +368,8 @@ def test_eight_runs_at_once_are_retried_as_often_as_there_are_tokens(tmp_path: P
 @pytest.mark.parametrize(
     "words, told",
     [
-        (["--limit", "aws"], "--limit: expected LIMIT@FOLDER, such as aws@/run/lock/jobs, got 'aws'"),
-        (["--limit", "aws@"], "--limit: expected LIMIT@FOLDER"),
+        (["--limit", "aws"], "--limit: expected N or LIMIT@FOLDER, such as 10/20%/60s@/run/lock/jobs, got 'aws'"),
+        (["--limit", "aws@"], "--limit: expected N or LIMIT@FOLDER"),
         *(
             (
                 ["--limit", f"{spelt}@x"],
@@ -365,15 +390,19 @@ def test_eight_runs_at_once_are_retried_as_often_as_there_are_tokens(tmp_path: P
                 "breaker:0/1/30000",
             )
         ),
-        (["--limit", "breaker:5/1/30000@x", "--open", "stop()"], "--limit: open_for: expected a policy that goes on"),
+        (["--limit", "breaker:5/1/30000@x", "--open", "stop()"], "--open: expected a policy that goes on"),
+        (["--limit", "breaker:5/1/30000@x", "--open", "recurs(3)"], f"--open: {NEVER_OPEN.format('recurs(3)')}"),
         (["--limit", "inflight:3/200@x"], "would keep its place among those in flight for ever"),
         (["--limit", "throttle:2000/60000@x"], "it has two words, and a folder keeps one word of a limit"),
         (["--limit", "aws@x", "--open", "spaced(1)"], "--open: expected --limit breaker:.., got --limit aws"),
         (["--open", "spaced(1)"], "--open: expected --limit breaker:.. too, got no --limit"),
         (["--limit", "aws@x", "--limit", "aws@y"], "argument --limit: expected it once, got 'aws@y' too"),
-        (["--limit", "aws@x", "--budget", "3"], "argument --budget: not allowed with argument --limit"),
-        (["--budget", "3@"], "--budget: expected N or N@FOLDER, got '3@'"),
-        (["--budget", "3", "--budget", "4"], "argument --budget: expected it once, got '4' too"),
+        (["--limit", "3@"], "--limit: expected N or LIMIT@FOLDER, such as 10/20%/60s@/run/lock/jobs, got '3@'"),
+        (["--limit", "3", "--limit", "4"], "argument --limit: expected it once, got '4' too"),
+        (["--limit", "4294967297"], "--limit: expected a limit from 0 to 4294967296, got 4294967297, in '4294967297'"),
+        (["--limit", "3@x", "--open", "spaced(1)"], "--open: expected --limit breaker:.., got --limit 3"),
+        (["--limit", "1/1%/1s@x", "--open", "spaced(1)"], "--open: expected --limit breaker:.., got --limit 1/1%/1s"),
+        (["--limit", "1/1%/0s@x"], "--limit: expected a window of at least 0.1 s, got 0.0, in '1/1%/0s'"),
     ],
 )
 def test_a_limit_that_is_spelt_wrong(words: List[str], told: str, tmp_path: Path) -> None:

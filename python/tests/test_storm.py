@@ -18,6 +18,7 @@ from typing import Any, Dict, List, Tuple
 
 import pytest
 from conftest import TOP, heed_signals, python_environment
+from limited import NEVER_OPEN
 
 from hikebox import Breaker, Bucket, Budget, InFlight, Policy, Quota, Storm, StormError, Throttle, both, exponential
 from hikebox import PolicyError, Population, TermsError, milliseconds, recurs, spaced, storm
@@ -27,9 +28,9 @@ from hikebox.storms.code import in_command, in_python, in_rust, in_scenario
 from hikebox.storms.limits import KINDS, LIMIT_WANTED, limit_of
 from hikebox.storms.parameters import SCENARIOS, Parameters, RateSpan, Slow, Span
 from hikebox.storms.texts import setting, side_by_side
-from hikebox.errors import BudgetError
+from hikebox.errors import LimitError
 from hikebox.budgets.terms import Terms
-from hikebox.storm import play
+from hikebox.storms.storm import play
 from hikebox.sweeps import sweep
 
 sys.path.insert(0, str(TOP / "tests"))
@@ -90,7 +91,7 @@ def test_random_storms_are_those_of_the_rules(seed: int) -> None:
 
 def test_the_storm_that_never_ends_and_the_one_that_a_quota_ends() -> None:
     quota = Quota(reserve=10, share=0.1, per=1)
-    never, ends = storm(FULL), storm(FULL, budget=quota)
+    never, ends = storm(FULL), storm(FULL, limit=quota)
     assert (never.totals.calls_per_request, never.totals.recovered_ms) == (7.62, None)
     assert (ends.totals.calls_per_request, ends.totals.recovered_ms) == (1.02, 20_000)
     assert quota.granted == 0 and quota.seen().asked == 0
@@ -116,7 +117,7 @@ def test_times_are_those_of_the_package() -> None:
 
 def test_a_surge_that_never_ends_and_one_that_a_quota_ends() -> None:
     surge: Any = {"outage": None, "rates": [(10, milliseconds(15_000), 2400)]}
-    never, ends = storm(FULL, **surge), storm(FULL, budget=Quota(reserve=10, share=0.1, per=1), **surge)
+    never, ends = storm(FULL, **surge), storm(FULL, limit=Quota(reserve=10, share=0.1, per=1), **surge)
     # (as tests/storms.py plays them)
     assert (never.totals.requests, never.totals.won, never.totals.recovered_ms) == (56_000, 9061, None)
     assert (ends.totals.requests, ends.totals.won, ends.totals.recovered_ms) == (56_000, 12_405, 56_000)
@@ -147,18 +148,18 @@ def test_a_limit_of_the_package_is_one_on_a_storm() -> None:
         (Breaker(5, spaced(30), probe_deadline=1), "breaker:5/1/1000"),
         (Throttle.google(), "throttle:2000/60000"),
     ]:
-        assert storm(FULL, budget=limit, **small).totals == storm(FULL, budget=spelt, **small).totals
+        assert storm(FULL, limit=limit, **small).totals == storm(FULL, limit=spelt, **small).totals
     with pytest.raises(TypeError, match="expected one limit on a storm"):
-        storm(FULL, budget=both(Bucket.aws(), InFlight.envoy()))
-    with pytest.raises(BudgetError, match="such as grpc:100/100, got 'grpc:1'"):
-        storm(FULL, budget="grpc:1")
+        storm(FULL, limit=both(Bucket.aws(), InFlight.envoy()))
+    with pytest.raises(LimitError, match="such as grpc:100/100, got 'grpc:1'"):
+        storm(FULL, limit="grpc:1")
 
 
 @pytest.mark.parametrize("word", ["aws", "grpc:100/100", "inflight:3/200", "breaker:5/1/1000", "throttle:2000/60000"])
 def test_a_storm_under_a_limit_is_spelt_as_a_command_in_python_and_in_rust(word: str) -> None:
     parameters = Parameters(tickets=limit_of(word))
     assert f"--limit {word} " in in_command(FULL, parameters)
-    assert f'budget="{word}"' in in_python(FULL, parameters)
+    assert f'limit="{word}"' in in_python(FULL, parameters)
     assert ".limit(" in in_rust(FULL, parameters)
     shown = json.loads(in_scenario([play(FULL, parameters._replace(seconds=1))]))
     assert shown["lines"][0]["limit"] == word
@@ -167,12 +168,12 @@ def test_a_storm_under_a_limit_is_spelt_as_a_command_in_python_and_in_rust(word:
 def test_a_request_that_is_denied_its_first_call_is_not_told_as_one_denied_a_retry() -> None:
     # Of 800 requests a second from 10 s on, five calls fail. Then the breaker is open until 40 s: 800 requests in each
     # second are denied their first call, and make none.
-    open_for_30 = str(storm(recurs(3), budget="breaker:5/1/1000"))
+    open_for_30 = str(storm(recurs(3), limit="breaker:5/1/1000"))
     assert "48,000 requests: 23,999 won, 1 lost, 24,000 denied, 0 left open\n24,004 calls, " in open_for_30
     assert "; the most requests and retries in a window 803, from 10 s on\n" in open_for_30
-    retries = str(storm(recurs(3), budget=0, seconds=1, rate=1, outage=(0, 1)))
+    retries = str(storm(recurs(3), limit=0, seconds=1, rate=1, outage=(0, 1)))
     assert "0 lost, 1 denied a retry, " in retries and "; the most in a window 1, from 0 ms on\n" in retries
-    assert "0 lost, 1 denied, " in str(storm(recurs(3), budget="grpc:1/100", seconds=1, rate=1, outage=(0, 1)))
+    assert "0 lost, 1 denied, " in str(storm(recurs(3), limit="grpc:1/100", seconds=1, rate=1, outage=(0, 1)))
 
 
 def test_one_of_two_replicas_is_down() -> None:
@@ -201,10 +202,10 @@ def test_a_policy_is_as_for_the_other_calls() -> None:
 
 def test_the_budget_is_a_number_or_one_of_the_package() -> None:
     budget = Budget(100)
-    by_number = storm(recurs(3), budget=100)
-    assert by_number == storm(recurs(3), budget=budget)
+    by_number = storm(recurs(3), limit=100)
+    assert by_number == storm(recurs(3), limit=budget)
     assert by_number.totals.tickets == 100 and budget.granted == 0
-    assert storm(recurs(3), budget=0).totals.calls == 48_000
+    assert storm(recurs(3), limit=0).totals.calls == 48_000
 
 
 def test_a_storm_of_which_no_window_begins_after_the_outage_has_no_verdict() -> None:
@@ -258,13 +259,13 @@ WRONG: List[Tuple[Dict[str, Any], str]] = [
     ({"until": 7201}, "until: expected 0 to 7200000 ms, got 7201000"),
     ({"calls": 0}, "calls: expected 1 to 4294967296, got 0"),
     ({"seed": 2**64}, "seed: expected 0 to 18446744073709551615, got 18446744073709551616"),
-    ({"budget": 2**32 + 1}, "budget: expected 0 to 4294967296, got 4294967297"),
+    ({"limit": 2**32 + 1}, "limit: expected 0 to 4294967296, got 4294967297"),
 ]
 
 
 def test_one_is_told_as_one() -> None:
     one: Any = {"rate": 1, "seconds": 1, "capacity": 1, "patience": 2}
-    alone = storm(recurs(3), outage=None, budget=1, **one)
+    alone = storm(recurs(3), outage=None, limit=1, **one)
     assert [line for line in str(alone).splitlines() if line.startswith("1 ")] == [
         "1 request: 1 won, 0 lost, 0 denied a retry, 0 left open",
         "1 call, 1.00 for each request; the most in a window 1, from 0 ms on",
@@ -272,7 +273,7 @@ def test_one_is_told_as_one() -> None:
     assert repr(alone) == "<Storm of 1 request, 1 succeeded, 1 call: recurs(3)>"
     assert setting(alone.parameters).startswith("1 request a second for 1 s on a peer that does 1 call a second;")
     assert "1 request/s for 1 s, capacity 1 call/s, queue 5,000" in alone.svg()
-    assert "1 ticket given for retries" in str(storm(recurs(3), outage=(0, 1), budget=1, **one))
+    assert "1 ticket given for retries" in str(storm(recurs(3), outage=(0, 1), limit=1, **one))
     assert repr(sweep(alone, rate=[1])) == "<Sweep of 1 storm along rate>"
 
 
@@ -291,7 +292,7 @@ def test_a_number_of_too_many_digits_is_out_of_range() -> None:
     wrong: List[Tuple[Dict[str, Any], str]] = [
         ({"rate": huge}, "rate: expected 1 to 1000000"),
         ({"seed": -huge}, "seed: expected 0 to 18446744073709551615"),
-        ({"budget": huge}, "budget: expected 0 to 4294967296"),
+        ({"limit": huge}, "limit: expected 0 to 4294967296"),
         ({"outage": (0, huge)}, f"outage: {milliseconds_wanted}"),
         ({"window": milliseconds(huge)}, f"window: {milliseconds_wanted}"),
         ({"rates": [(0, 1, huge)]}, "rates: expected 0 to 1000000 requests a second"),
@@ -326,7 +327,7 @@ def test_a_number_of_too_many_digits_is_out_of_range() -> None:
         {"slow": (1, 2)},
         {"slow": (1, 2, "x")},
     ]
-    + [{"budget": 1.5}, {"window": None}],
+    + [{"limit": 1.5}, {"window": None}],
     ids=str,
 )
 def test_what_has_the_wrong_type_is_a_type_error(given: Dict[str, Any]) -> None:
@@ -473,6 +474,11 @@ NAMES = "rate, clients, together, seconds, capacity, queue, patience, outage, sh
         (["--limit", "aws:1"], f"argument --limit: {LIMIT_WANTED}, got 'aws:1'"),
         (["--limit", "aws", "--open", "spaced(1)"], "open: needs --limit breaker:.."),
         (["--open", "spaced(1)"], "open: needs --limit breaker:.."),
+        (
+            ["--limit", "breaker:5/1/30000", "--open", "stop()"],
+            "open: expected a policy that goes on, got recurs(0).nothing()",
+        ),
+        (["--limit", "breaker:5/1/30000", "--open", "forever()"], f"open: {NEVER_OPEN.format('forever()')}"),
         (
             ["--csv", "--limit", "aws", "--budget", "1"],
             "storm: expected one storm, or a sweep, for --csv and --json, got 2 storms",
@@ -683,12 +689,12 @@ def test_a_bad_policy_is_told() -> None:
 
 
 def test_a_quota_without_units_is_told_what_it_would_be() -> None:
-    with pytest.raises(BudgetError, match="has no units"):
+    with pytest.raises(LimitError, match="has no units"):
         tickets_of("10/100/1000")
     for text in ("ten", "9" * 9000, "9" * 9000 + "/1%/1s"):
-        with pytest.raises(BudgetError, match="expected N, RESERVE/SHARE%/PERIOD or a limit"):
+        with pytest.raises(LimitError, match="expected N, RESERVE/SHARE%/PERIOD or a limit"):
             tickets_of(text)
-    with pytest.raises(BudgetError, match="expected a budget from 0 to 4294967296"):
+    with pytest.raises(LimitError, match="expected a budget from 0 to 4294967296"):
         tickets_of("4294967297")
 
 

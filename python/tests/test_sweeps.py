@@ -28,7 +28,7 @@ TENTH = Quota(10, 0.1, 1)
 
 
 def two() -> List[Any]:
-    return [storm(recurs(3), **BRIEF), storm(recurs(3), budget=TENTH, **BRIEF)]
+    return [storm(recurs(3), **BRIEF), storm(recurs(3), limit=TENTH, **BRIEF)]
 
 
 #: What each value of a sweep is in the words of `storm`.
@@ -48,18 +48,18 @@ ALONG: List[Tuple[str, List[Any], Any]] = [
 def test_a_sweep_has_the_numbers_of_single_storms(name: str, values: List[Any], options: Any) -> None:
     swept = sweep(two(), **{name: values})
     for line, budget in zip(swept.lines, (None, TENTH)):
-        single = [storm(recurs(3), **{**BRIEF, **options(value)}, budget=budget) for value in values]
+        single = [storm(recurs(3), **{**BRIEF, **options(value)}, limit=budget) for value in values]
         assert list(line) == single
 
 
 def test_a_limit_is_swept_where_a_storm_has_it() -> None:
     swept = sweep(two(), share=[0, 0.05, 0.5])
     assert [each.totals.tickets for each in swept.lines[0]] == [0, 0, 0]
-    wanted = [storm(recurs(3), budget=Quota(10, share, 1), **BRIEF) for share in (0, 0.05, 0.5)]
+    wanted = [storm(recurs(3), limit=Quota(10, share, 1), **BRIEF) for share in (0, 0.05, 0.5)]
     assert list(swept.lines[1]) == wanted
     reserves = sweep(two(), reserve=[0, 100]).lines[1]
-    assert list(reserves) == [storm(recurs(3), budget=Quota(reserve, 0.1, 1), **BRIEF) for reserve in (0, 100)]
-    budgets = sweep([storm(recurs(3), budget=5, **BRIEF)], budget=[0, 20]).lines[0]
+    assert list(reserves) == [storm(recurs(3), limit=Quota(reserve, 0.1, 1), **BRIEF) for reserve in (0, 100)]
+    budgets = sweep([storm(recurs(3), limit=5, **BRIEF)], budget=[0, 20]).lines[0]
     assert [each.totals.tickets for each in budgets] == [0, 20]
 
 
@@ -135,7 +135,7 @@ def test_it_is_told_as_a_table_csv_and_json() -> None:
 
 @pytest.mark.parametrize("width", [280, 320, 760, 1400])
 def test_its_picture_has_a_line_a_storm(width: int) -> None:
-    storms = [storm(FULL), storm(FULL, budget=TENTH), storm(FULL, budget=5000)]
+    storms = [storm(FULL), storm(FULL, limit=TENTH), storm(FULL, limit=5000)]
     root = parsed(sweep(storms, rate=range(200, 1601, 200)).svg("succeeded", "calls", "recovery", width=width))
     looks_at_texts(root)
     words = texts(root)
@@ -176,10 +176,10 @@ def test_a_table_rounds_no_share_to_all_or_none() -> None:
 
 def test_a_line_does_not_name_the_number_that_is_swept() -> None:
     for along, name in [("share", "quota 10/a share/1s"), ("reserve", "quota a reserve/10%/1s")]:
-        swept = sweep([storm(recurs(3), budget=TENTH, **BRIEF)], **{along: [0, 1]})
+        swept = sweep([storm(recurs(3), limit=TENTH, **BRIEF)], **{along: [0, 1]})
         assert swept.names == (name,) and name in texts(parsed(swept.svg()))
         assert json.loads(swept.to_json())["lines"][0]["limit"] == name
-    swept = sweep(two() + [storm(recurs(3), budget=7, **BRIEF)], budget=[5, 100])
+    swept = sweep(two() + [storm(recurs(3), limit=7, **BRIEF)], budget=[5, 100])
     assert swept.names == ("no limit", "quota 10/10%/1s", "a budget")
 
 
@@ -220,7 +220,7 @@ def test_a_border_has_the_last_value_that_recovers_and_the_first_that_does_not()
     found = find(storm(recurs(3), **brown), "quota")
     assert found.value is not None
     for share, recovers in ((found.value, True), (found.value + 1, False)):
-        played = storm(recurs(3), budget=Quota(10, share / 1000, 1), **brown)
+        played = storm(recurs(3), limit=Quota(10, share / 1000, 1), **brown)
         assert (played.totals.recovered_ms is not None) == recovers
         assert dict(found.tried)[share] == played
 
@@ -300,7 +300,7 @@ def test_names_that_have_no_room_stand_above_the_table() -> None:
 
 def test_equal_storms_of_a_sweep_are_played_once(monkeypatch: pytest.MonkeyPatch) -> None:
     from hikebox.storms import cores
-    from hikebox.storm import play
+    from hikebox.storms.storm import play
 
     calls: List[Any] = []
 
@@ -339,7 +339,7 @@ def test_a_scenario_is_a_file(tmp_path: Path, capsys: pytest.CaptureFixture[str]
     assert [line.tickets for line in read.lines] == [None, Terms(10, 100, 1000)]
     assert main(["storm", "--scenario", file]) == 0
     out = capsys.readouterr().out
-    wanted = [storm(recurs(3), **BRIEF, slow=(2, 3, 0.5), budget=budget).totals for budget in (None, TENTH)]
+    wanted = [storm(recurs(3), **BRIEF, slow=(2, 3, 0.5), limit=budget).totals for budget in (None, TENTH)]
     assert out.startswith("1: wild\n2: tame\n")
     assert [line.split()[1:] for line in out.splitlines() if line.startswith("calls")] == [
         [str(each.calls) for each in wanted]

@@ -17,13 +17,19 @@ from conftest import TOP
 VERSION = (TOP / "VERSION").read_text().strip()
 X86_64 = b"\x7fELF".ljust(18, b"\0") + b"\x3e\0"
 AARCH64 = b"\x7fELF".ljust(18, b"\0") + b"\xb7\0"
+#: What libraries for other systems begin with, and the tag of their wheels.
+OTHERS = {
+    "x86_64-apple-darwin": (b"\xcf\xfa\xed\xfe\x07\0\0\x01", "macosx_10_13_x86_64"),
+    "aarch64-apple-darwin": (b"\xcf\xfa\xed\xfe\x0c\0\0\x01", "macosx_11_0_arm64"),
+    "x86_64-pc-windows-gnu": (b"MZ".ljust(60, b"\0") + b"\x40\0\0\0PE\0\0\x64\x86", "win_amd64"),
+}
 
 
 def build(kind: str, sources: Path, folder: Path, before: str = "", **environment: str) -> Any:
     """What build_backend.py does there, after the statements in `before`."""
     kept = {name: value for name, value in os.environ.items() if not name.startswith("HIKEBOX_")}
     words = ["build_backend.py", kind, str(folder)]
-    code = f"import platform, sys; {before}\nimport build_backend; sys.argv = {words}; build_backend.main()"
+    code = f"import platform, sys, build_backend; {before}\nsys.argv = {words}; build_backend.main()"
     return subprocess.run(
         [sys.executable, "-c", code],
         cwd=sources,
@@ -118,7 +124,23 @@ def test_an_engine_of_ones_own(with_engines: Path, tmp_path: Path) -> None:
     done = build("wheel", with_engines, tmp_path / "b", HIKEBOX_PLATFORM="linux_riscv64")
     assert done.stderr == "hikebox: expected HIKEBOX_LIBRARY to name the libhikebox.so for linux_riscv64, got none\n"
     done = build("wheel", with_engines, tmp_path / "b", HIKEBOX_PLATFORM="aarch64", HIKEBOX_LIBRARY=str(own))
-    assert done.stderr == f"hikebox: expected an engine for aarch64, got one for another processor: {own}\n"
+    assert done.stderr == f"hikebox: expected an engine for aarch64, got one for another platform: {own}\n"
+
+
+@pytest.mark.parametrize("name", OTHERS)
+def test_the_engine_of_another_system(with_engines: Path, tmp_path: Path, name: str) -> None:
+    engine, tag = OTHERS[name]
+    own = tmp_path / "engine"
+    own.write_bytes(engine)
+    for number, given in enumerate((name, tag)):
+        made = tmp_path / str(number)
+        done = build("wheel", with_engines, made, HIKEBOX_PLATFORM=given, HIKEBOX_LIBRARY=str(own))
+        assert done.returncode == 0, done.stderr
+        assert engine_in(made)[::2] == (f"hikebox-{VERSION}-py3-none-{tag}.whl", engine)
+    done = build("wheel", with_engines, tmp_path, HIKEBOX_PLATFORM="x86_64", HIKEBOX_LIBRARY=str(own))
+    assert done.stderr == f"hikebox: expected an engine for x86_64, got one for {name}: {own}\n"
+    done = build("wheel", with_engines, tmp_path, HIKEBOX_PLATFORM=name)
+    assert done.stderr == f"hikebox: expected HIKEBOX_LIBRARY to name the libhikebox.so for {tag}, got none\n"
 
 
 def test_a_source_archive_builds_the_wheel_of_each_machine(with_engines: Path, tmp_path: Path) -> None:

@@ -82,8 +82,84 @@ ROWS = [
     ('{"renew":[100,{"recurs":2}]}', {"took": 50, "steps": 3}, "0: 0 next 0/50: 1 next 50/100: 0 next 100"),
     ('{"renew_idle":[100,{"recurs":2}]}', {"took": 99}, "0: 0 next 0/99: 1 next 99/198: 2 done"),
     ('{"renew_idle":[100,{"recurs":2}]}', {"took": 100, "steps": 3}, "0: 0 next 0/100: 0 next 100/200: 0 next 200"),
+    # what is late by less than an interval, and by more
+    ('{"fixed":100}', {"took": 30, "steps": 3}, "0: 0 next 100/130: 1 next 200/230: 2 next 300"),
+    ('{"fixed":100}', {"took": 250, "steps": 3}, "0: 0 next 100/350: 1 next 350/600: 2 next 600"),
+    ('{"windowed":100}', {"took": 250, "steps": 3}, "0: 0 next 100/350: 1 next 400/650: 2 next 700"),
+    ('{"follow":[{"recurs":2},{"spaced":50}]}', {"steps": 4}, "0: 0 next 0/0: 1 next 0/0: 0 next 50/50: 1 next 100"),
+    ('{"join":[{"recurs":1},{"lone":50}]}', {}, "0: (0, 50) next 0/0: (1, 0) done"),
+    (
+        '{"feed":[{"spaced":10},{"gate":["input",false,"equal",2,"identity"]}]}',
+        {},
+        "0: 0 next 10/10: 1 next 20/20: 2 done",
+    ),
+    ('{"gather":["list",{"recurs":2}]}', {}, "0: [] next 0/0: [0] next 0/0: [0, 1] done"),
+    ('{"first":{"meet":[{"recurs":1},{"spaced":10}]}}', {}, "0: 0 next 10/10: 1 done"),
+    ('{"second":{"join":[{"recurs":1},{"lone":50}]}}', {}, "0: 50 next 0/0: 0 done"),
+    ('{"nothing":{"recurs":1}}', {}, "0: () next 0/0: () done"),
+    ('{"add_out":{"linear":5}}', {"steps": 3}, "0: 5 next 10/10: 10 next 30/30: 15 next 60"),
+    ('{"ends_by":[1000,{"spaced":450}]}', {}, "0: 0 next 450/450: 1 next 900/900: 2 done"),
+    ('{"ends_by":[1000,{"spaced":450}]}', {"from": 7}, "7: 0 next 457/457: 1 next 907/907: 2 done"),
+    ('{"ends_by":[100,{"fixed":100}]}', {}, "0: 0 next 100/100: 1 done"),
+    ('{"ends_by":[100,{"recurs":5}]}', {"took": 60}, "0: 0 next 0/60: 1 next 60/120: 2 done"),
+    ('{"within":[100,{"spaced":60}]}', {}, "0: 0 next 60/60: 1 next 120/120: 2 done"),
+    ('{"renew_idle":[100,{"recurs":2}]}', {"took": 60}, "0: 0 next 0/60: 1 next 60/120: 2 done"),
+    # nodes within nodes
+    (
+        '{"gather":["list",{"renew":[100,{"follow":[{"recurs":1},{"spaced":60}]}]}]}',
+        {"steps": 5},
+        "0: [] next 0/0: [0] next 60/60: [0, 0] next 120/120: [0, 0, 1] next 120/120: [0, 0, 1, 0] next 180",
+    ),
+    (
+        '{"feed":[{"join":[{"recurs":1},{"spaced":10}]},{"first":"identity"}]}',
+        {"steps": 3},
+        "0: 0 next 0/0: 1 next 10/10: 2 next 20",
+    ),
+    (
+        '{"renew_idle":[100,{"exponential":[30,2]}]}',
+        {"steps": 5},
+        "0: 30 next 30/30: 60 next 90/90: 120 next 210/210: 30 next 240/240: 60 next 300",
+    ),
+    (
+        '{"gather":["list",{"gather":["list",{"recurs":3}]}]}',
+        {},
+        "0: [] next 0/0: [[]] next 0/0: [[], [0]] next 0/0: [[], [0], [0, 1]] done",
+    ),
+    (
+        '{"renew":[50,{"follow":[{"recurs":1},{"lone":30}]}]}',
+        {},
+        "0: 0 next 0/0: 30 next 30/30: 0 done",
+    ),
+    (
+        '{"renew":[50,{"follow":[{"recurs":1},{"lone":30}]}]}',
+        {"took": 25, "steps": 5},
+        "0: 0 next 0/25: 30 next 55/80: 0 next 80/105: 30 next 135/160: 0 next 160",
+    ),
 ]
 EACH_ROW = pytest.mark.parametrize("text, how, lines", ROWS)
+
+DECORRELATED = '{"decorrelated":[0,100,3000,10000]}'
+#: What `zsched plan` prints where all four words of each event are this one.
+BY_A_WORD: List[Tuple[str, Dict[str, int], str]] = [
+    *(
+        (f'{{"jitter":[{lane},800,1200,{{"spaced":1000}}]}}', {"steps": 1, "word": word}, f"0: 0 next {start}")
+        for lane in range(4)
+        for word, start in ((0, 800), (2**31, 1000), (2**32 - 1, 1199))
+    ),
+    (
+        '{"add_out":{"cap":[15,{"jitter":[0,500,1500,{"linear":10}]}]}}',
+        {"steps": 3},
+        "0: 10 next 20/20: 20 next 55/55: 30 next 100",
+    ),
+    (DECORRELATED, {"steps": 4}, "0: 200 next 200/200: 350 next 550/550: 575 next 1125/1125: 912 next 2037"),
+    (
+        '{"decorrelated":[0,100,3000,250]}',
+        {"steps": 3},
+        "0: 200 next 200/200: 250 next 450/450: 250 next 700",
+    ),
+    (DECORRELATED, {"steps": 2, "word": 0}, "0: 100 next 100/100: 100 next 200"),
+    (DECORRELATED, {"steps": 2, "word": 2**32 - 1}, "0: 299 next 299/299: 896 next 1195"),
+]
 
 
 @EACH_ROW
@@ -93,7 +169,7 @@ def test_a_preview(text: str, how: Dict[str, int], lines: str) -> None:
     assert "/".join(str(step) for step in Policy.from_json(text).preview(**options)) == lines
 
 
-@EACH_ROW
+@pytest.mark.parametrize("text, how, lines", [*ROWS, *BY_A_WORD])
 def test_zsched_plan(text: str, how: Dict[str, int], lines: str) -> None:
     program = os.environ.get("HIKEBOX_ZSCHED")
     if program is None:

@@ -11,13 +11,17 @@ This package calls an engine, `libhikebox.so`, of which these are proved: a poli
 follows its policy and its budget, and no budget is overdrawn.
 """
 
+from typing import TYPE_CHECKING, Any, List
+
 from ._time import MAX_NUMBER, Duration, Milliseconds, milliseconds
 from .budget import Budget
+from .budgets.limit import Limit
 from .budgets.tickets import Refusal, RefusalReason, Ticket
+from .built import BuildInfo, build_info
 from .errors import (
-    BudgetClosed,
-    BudgetError,
-    BudgetInUse,
+    LimitClosed,
+    LimitError,
+    LimitInUse,
     EngineError,
     Fault,
     HikeboxError,
@@ -31,7 +35,7 @@ from .errors import (
     TicketError,
     TryAgain,
 )
-from .limits import Breaker, Bucket, InFlight, Limit, Request, Throttle, both
+from .limits import Breaker, Bucket, CallLimit, InFlight, Request, Throttle, both
 from .log import after_log, before_log, before_sleep_log
 from .policy import Policy, Step
 from .policy.builders import (
@@ -57,10 +61,29 @@ from .retry.deadline import seconds_left
 from .retry.repeating import AsyncRepeating, Repeating, poll_until, repeat
 from .retry.state import Ending, Outcome, RetryState, Statistics, code_of, state_of
 from .retrying import AsyncRetrying, Attempt, Retrying, Tickets, retry
-from .storm import Population, PopulationReport, Storm, StormRow, StormTotals, storm
 from .version import VERSION
 
+if TYPE_CHECKING:
+    from .storms.storm import Population, PopulationReport, Storm, StormRow, StormTotals, storm
+
 __version__ = VERSION
+
+#: What is loaded when it is first asked for: a program that retries calls plays no storms.
+_OF_STORMS = ("Population", "PopulationReport", "Storm", "StormRow", "StormTotals", "storm")
+
+
+def __getattr__(name: str) -> Any:
+    if name not in _OF_STORMS:
+        raise AttributeError(f"module {__name__!r} has no attribute {name!r}")
+    from .storms import storm as module
+
+    globals().update({each: getattr(module, each) for each in _OF_STORMS})
+    return globals()[name]
+
+
+def __dir__() -> List[str]:
+    return sorted({*globals(), *__all__})
+
 
 __all__ = [
     "MAX_NUMBER",
@@ -70,9 +93,8 @@ __all__ = [
     "Breaker",
     "Bucket",
     "Budget",
-    "BudgetClosed",
-    "BudgetError",
-    "BudgetInUse",
+    "BuildInfo",
+    "CallLimit",
     "Duration",
     "Ending",
     "EngineError",
@@ -80,6 +102,9 @@ __all__ = [
     "HikeboxError",
     "InFlight",
     "Limit",
+    "LimitClosed",
+    "LimitError",
+    "LimitInUse",
     "Milliseconds",
     "NotAdmitted",
     "Outcome",
@@ -114,6 +139,7 @@ __all__ = [
     "before_log",
     "before_sleep_log",
     "both",
+    "build_info",
     "code_of",
     "decorrelated",
     "elapsed",

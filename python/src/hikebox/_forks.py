@@ -46,7 +46,8 @@ def _begin_all() -> None:
         raise failed
 
 
-os.register_at_fork(before=no_fork.acquire, after_in_parent=no_fork.release, after_in_child=_begin_all)
+if hasattr(os, "register_at_fork"):  # on Windows no process forks
+    os.register_at_fork(before=no_fork.acquire, after_in_parent=no_fork.release, after_in_child=_begin_all)
 
 
 class OfOneProcess:

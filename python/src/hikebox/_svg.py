@@ -3,9 +3,6 @@
 from __future__ import annotations
 
 import re
-import unicodedata
-import zlib
-from html import escape
 from typing import Dict, List, NamedTuple, Tuple
 
 __all__ = [
@@ -122,6 +119,8 @@ class Picture:
         self.height = height
         self.title = title
         self.description = description
+        import zlib
+
         #: What its names begin with, so that several pictures can stand in one page.
         self.mark = f"p{zlib.crc32(f'{width} {title} {description}'.encode('utf-8', 'replace')):08x}"
         self._parts: List[str] = []
@@ -184,6 +183,8 @@ class Picture:
 
 def _spelt(words: str) -> str:
     """The text as XML has it: signs that XML does not allow are replaced."""
+    from html import escape
+
     return escape(re.sub("[^\t\n\r\x20-\ud7ff\ue000-\ufffd\U00010000-\U0010ffff]", "\ufffd", words))
 
 
@@ -197,6 +198,10 @@ def width_of(words: str) -> float:
 
 
 def _bold_width_of(letter: str) -> float:
+    if letter.isascii():
+        return _BOLD.get(letter, _USUAL)
+    import unicodedata
+
     # (pictograms stand past the first plane)
     is_square = letter > "\uffff" or unicodedata.east_asian_width(letter) in "WF"
     return _SQUARE if is_square else _BOLD.get(letter, _USUAL)

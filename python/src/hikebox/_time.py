@@ -3,12 +3,24 @@
 from __future__ import annotations
 
 import math
+import time
 from datetime import timedelta
-from typing import Union
+from typing import Callable, Union
 
 from .errors import Fault, PolicyError, shown
 
-__all__ = ["FLOAT_ERROR", "MAX_NUMBER", "Duration", "Milliseconds", "milliseconds", "moment", "seconds", "seconds_text"]
+__all__ = [
+    "FLOAT_ERROR",
+    "GRAIN",
+    "MAX_NUMBER",
+    "Duration",
+    "Milliseconds",
+    "milliseconds",
+    "moment",
+    "moments_of",
+    "seconds",
+    "seconds_text",
+]
 
 #: The longest duration, in milliseconds; also the last moment and the greatest number of a policy.
 MAX_NUMBER = 2**62 - 1
@@ -18,6 +30,10 @@ _MAX_SECONDS = MAX_NUMBER // 1000
 
 #: A float within so many milliseconds of a whole one counts as that: its last digits may be off.
 FLOAT_ERROR = 1e-6
+
+#: By how many milliseconds the last digits of a moment are off, for each second that its clock tells: the more digits
+#: of a float stand before the point, the fewer stand after it.
+GRAIN = 1000 * 2.0**-51
 
 #: So many seconds a millisecond of floating point may be short of one.
 _GRAIN_OFF = 1e-12
@@ -99,11 +115,30 @@ def moment(clock: float) -> int:
 
     >>> moment(0.1 + 0.2), moment(-1), moment(1e30) == MAX_NUMBER
     (300, 0, True)
+    >>> moment(1.7e9 + 0.4), moment(2**40 + 0.1)
+    (1700000000400, 1099511627776100)
     """
-    count = int(clock * 1000 + FLOAT_ERROR)
+    count = int(clock * 1000 + FLOAT_ERROR + abs(clock) * GRAIN)
     if 0 <= count <= MAX_NUMBER:
         return count
     return 0 if count < 0 else MAX_NUMBER
+
+
+def moments_of(clock: Callable[[], float]) -> Callable[[], int]:
+    """A function that returns the `moment` that a clock tells."""
+    if clock is time.monotonic:
+        return _monotonic
+
+    def now() -> int:
+        told = clock()
+        count = int(told * 1000 + FLOAT_ERROR + abs(told) * GRAIN)
+        return count if 0 <= count <= MAX_NUMBER else moment(told)
+
+    return now
+
+
+def _monotonic() -> int:
+    return time.monotonic_ns() // 1_000_000
 
 
 def seconds_text(count: int) -> str:

@@ -9,7 +9,7 @@ from ._engine.calls import MAX_TICKETS
 from ._engine.handles import Pass
 from .budgets.granting import Granting
 from .budgets.tickets import Refusal, RefusalReason, Ticket
-from .errors import BudgetError, EngineError, TermsError, TicketError, shown
+from .errors import EngineError, LimitError, TermsError, TicketError, shown
 
 __all__ = ["Budget"]
 
@@ -18,8 +18,8 @@ class Budget(Granting):
     """A fixed number of tickets. Each retry draws one, so there are never more retries than tickets.
 
     Threads may share it and draw at once, for any number of calls. `Budget(limit)` keeps its limit;
-    `Budget.rising(limit)` makes one that you can raise. Closing it, or leaving its `with` block, returns the exact
-    number of tickets drawn.
+    `Budget.rising(limit)` makes one that you can raise. `close()` returns the exact number of tickets drawn, and
+    leaving its `with` block closes it too.
 
     >>> with Budget(2) as budget:
     ...     budget.draw(), budget.draw(), budget.draw()
@@ -83,7 +83,7 @@ class Budget(Granting):
     def raise_to(self, limit: int) -> int:
         """Raises the limit of a rising budget to this one, unless it is higher already, and returns it."""
         if not self._rising:
-            raise BudgetError("this budget keeps its limit: Budget.rising makes one that can be raised")
+            raise LimitError("this budget keeps its limit: Budget.rising makes one that can be raised")
         _look_at_limit(limit)
         with self.passes.root() as root:
             now = root.raise_to(limit)
@@ -93,10 +93,6 @@ class Budget(Granting):
 
     def expression(self) -> str:
         return f"Budget.rising({self._limit})" if self._rising else f"Budget({self._limit})"
-
-    def moment_of(self, clock: float) -> int:
-        """Returns 0 as the moment at which a retry begins, since a budget has no clock."""
-        return 0
 
 
 def _look_at_limit(limit: int) -> None:

@@ -1,4 +1,4 @@
-"""The package's own exceptions. A retry that fails raises the call's last exception, not one of these."""
+"""The package's own exceptions. A retry that fails raises the call's last exception, or if it has none one of these."""
 
 from __future__ import annotations
 
@@ -9,9 +9,9 @@ if TYPE_CHECKING:
     from .budgets.tickets import Refusal
 
 __all__ = [
-    "BudgetClosed",
-    "BudgetError",
-    "BudgetInUse",
+    "LimitClosed",
+    "LimitError",
+    "LimitInUse",
     "EngineError",
     "Fault",
     "HikeboxError",
@@ -28,10 +28,10 @@ __all__ = [
 
 
 def shown(value: object) -> str:
-    """A value as an error shows it: Python spells no number of thousands of digits.
+    """A value as an error shows it: Python spells no number of thousands of digits, from 3.11 and 3.9.14 on.
 
-    >>> shown(5), shown(-(10**5000))
-    ('5', 'a number of too many digits')
+    >>> shown(5)
+    '5'
     """
     try:
         return repr(value)
@@ -77,23 +77,23 @@ class PolicyError(HikeboxError, ValueError):
         return (type(self), (self.fault, self.place, self.hint), self.__dict__)
 
 
-class BudgetError(HikeboxError):
-    """A call of a budget or a quota failed."""
+class LimitError(HikeboxError):
+    """A call of a limit failed."""
 
 
-class TermsError(BudgetError, ValueError):
-    """A parameter of a budget or a quota is out of range."""
+class TermsError(LimitError, ValueError):
+    """A parameter of a limit is out of range."""
 
 
-class TicketError(BudgetError, ValueError):
+class TicketError(LimitError, ValueError):
     """A ticket can't be handed back: it came back already, is of another quota, or is of a budget."""
 
 
-class BudgetClosed(BudgetError):
+class LimitClosed(LimitError):
     """The budget, or the quota, was closed."""
 
 
-class BudgetInUse(BudgetError):
+class LimitInUse(LimitError):
     """The budget, or the quota, can't be closed: a retry under it is still under way."""
 
 

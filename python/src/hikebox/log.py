@@ -2,10 +2,12 @@
 
 from __future__ import annotations
 
-import logging
-from typing import Any, Callable, Dict
+from typing import TYPE_CHECKING, Any, Callable, Dict
 
 from .retry.state import RetryState
+
+if TYPE_CHECKING:
+    import logging
 
 __all__ = ["after_log", "before_log", "before_sleep_log"]
 

@@ -4,12 +4,13 @@ from __future__ import annotations
 
 import time
 from ctypes import c_uint64
-from dataclasses import dataclass, field
 from functools import partial
 from typing import Callable, Optional, Union
 
-from ._engine.handles import Pass
+from ._engine.calls import OK, refused
+from ._engine.handles import ONE, Pass, pass_deposit
 from ._time import MAX_NUMBER, Duration, moment
+from ._values import dataclass, field
 from .budgets.drawing import ByPass, Drawing
 from .budgets.granting import Granting
 from .budgets.passes import Passes
@@ -66,7 +67,7 @@ class Quota(Granting, CountsRequests):
         attempts that fail just after a border. A window then has at most 2**31 tickets of its own, and leaves at most
         as many.
     `clock`
-        What returns the time in seconds, to be replaced in tests. Windows count from its time when the quota is made.
+        What returns the time in seconds, to be replaced in tests. Windows begin at multiples of `per` by it.
 
     A retry that is cancelled or stopped while it waits hands its ticket back: one more can be drawn in that ticket's
     window, and `granted` is one less. A retry draws its ticket when its attempt fails and begins after its delay, maybe
@@ -75,18 +76,21 @@ class Quota(Granting, CountsRequests):
 
     >>> from hikebox import recurs, retry
     >>> quota = Quota(reserve=10, share=0.2, per=3600)
-    >>> @retry(recurs(3), budget=quota)
+    >>> @retry(recurs(3), limit=quota)
     ... def fetch():
     ...     return "fetched"
     >>> [fetch() for _ in range(5)][-1], quota.seen().left
     ('fetched', 11)
 
-    Threads may share it and draw at once. Closing it, or leaving its `with` block, returns the exact number of all
-    tickets drawn; a service that runs until it is stopped need not close it. A quota belongs to its process: a forked
-    child begins with a quota of its own and nothing counted. `hikebox.leased` has quotas that processes share.
+    Threads may share it and draw at once. `close()` returns the exact number of tickets drawn and not handed back, and
+    leaving its `with` block closes it too; a service that runs until it is stopped need not close it. A quota belongs
+    to its process: a forked child begins with a quota of its own and nothing counted. `hikebox.leased` has quotas that
+    processes share.
     """
 
     __slots__ = ("_in_force", "_clock", "_counts_successes", "_returns_tickets", "_carries")
+
+    reads_clock = True
 
     def __init__(
         self,
@@ -159,15 +163,19 @@ class Quota(Granting, CountsRequests):
             self._deposit_all(requests_of(requests))
             return
         passes = self.passes
-        lent = passes.lend()
         try:
-            lent.deposit(moment(self._clock()))
-        except EngineError:
-            if not passes.look_again(lent):
-                raise
-            self.deposit()
+            lent = passes.idle.pop()
+        except IndexError:
+            lent = passes.lend()
+        try:
+            lent.now.value = moment(self._clock())
+            status = pass_deposit(lent.at, lent.now, ONE)
         finally:
-            passes.give_back(lent)
+            lent.home.append(lent)
+        if status != OK:
+            if not passes.look_again(lent):
+                raise refused("hikebox_pass_deposit", status)
+            self.deposit()
 
     def _deposit_all(self, requests: int) -> None:
         """Counts so many requests, by the pass that counts any number."""
@@ -240,10 +248,6 @@ class Quota(Granting, CountsRequests):
 
     def expression(self) -> str:
         return f"Quota({self.terms}{self.switches()}{', carries=True' * self._carries})"
-
-    def moment_of(self, clock: float) -> int:
-        """The engine's moment of a time of the quota's clock."""
-        return moment(clock)
 
     def retry_drawing(self, awaits: bool) -> Drawing:
         """Returns what draws for a retry with another clock."""

@@ -3,7 +3,6 @@
 from __future__ import annotations
 
 import functools
-import inspect
 from types import FunctionType
 from typing import (
     TYPE_CHECKING,
@@ -25,7 +24,7 @@ from typing import (
 from .policy import Policy
 from .retry.attempts import AsyncAttempts, Attempt, Attempts
 from .retry.drivers import run, run_async
-from .retry.kinds import is_async, is_generator
+from .retry.kinds import is_async, is_generator, unwrapped
 from .retry.options import ABOUT, DEFAULTS, Options, PolicyLike, Tickets
 from .retry.retried import Decorator, Retried
 from .retry.settings import Settings
@@ -47,11 +46,13 @@ def _named_after(kind: type, init: Any) -> Any:
     return own
 
 
-#: The parameters of a `Retrying`, for its signature.
-_PARAMETERS = [
-    inspect.Parameter("policy", inspect.Parameter.POSITIONAL_OR_KEYWORD),
-    *(inspect.Parameter(name, inspect.Parameter.KEYWORD_ONLY, default=plain) for name, plain in DEFAULTS.items()),
-]
+def _takes(first: str, **annotations: Any) -> Any:
+    """A function with the parameters of a `Retrying`. As what another one wraps, it gives it its signature."""
+    made: Dict[str, Any] = {}
+    exec(f"def takes({first}policy, *, {', '.join(DEFAULTS)}): ...", made)
+    takes = made["takes"]
+    takes.__kwdefaults__, takes.__annotations__ = dict(DEFAULTS), annotations
+    return takes
 
 
 def look_at_names(called: str, given: Iterable[str], known: Iterable[str]) -> None:
@@ -96,9 +97,7 @@ class BaseRetrying(Options):
             self.settings = Settings(policy, given, self._AWAITS, self._REPEATS)
             self.counts = Counts()
 
-        own = inspect.Parameter("self", inspect.Parameter.POSITIONAL_OR_KEYWORD)
-        __init__.__signature__ = inspect.Signature([own, *_PARAMETERS])
-        del own
+        __init__.__wrapped__ = _takes("self, ")
         __doc__ = f"{__doc__ or str()}\n\n    {ABOUT}"
 
     #: The policy and the options, and what follows from them.
@@ -160,16 +159,16 @@ class BaseRetrying(Options):
             look_at_names("retry_with", changes, ("policy", *DEFAULTS))
             return self.copy(**changes).wraps(fn)
 
-        wrapped = self._wrapped(fn)
-        wrapped.retry, wrapped.retry_with = self, retry_with
+        wrapped = functools.update_wrapper(self._wrapped(fn), fn)
+        wrapped.__dict__.update(retry=self, retry_with=retry_with)
         return wrapped
 
     def _wrapped(self, fn: Any) -> Any:
         raise NotImplementedError
 
     def __repr__(self) -> str:
-        budget = f", budget={self.budget!r}" if self.budget is not None else ""
-        return f"{type(self).__name__}({self.policy!r}{budget})"
+        limit = f", limit={self.limit!r}" if self.limit is not None else ""
+        return f"{type(self).__name__}({self.policy!r}{limit})"
 
 
 def _made(kind: Type[BaseRetrying], given: Dict[str, Any]) -> BaseRetrying:
@@ -216,7 +215,6 @@ class Retrying(BaseRetrying):
         if is_async(fn):
             raise TypeError(f"{fn!r} is a coroutine function: AsyncRetrying is for those")
 
-        @functools.wraps(fn)
         def wrapped(*args: Any, **kwargs: Any) -> Any:
             return run(self, fn, args, kwargs)
 
@@ -263,10 +261,9 @@ class AsyncRetrying(BaseRetrying):
         return AsyncAttempts(self)
 
     def _wrapped(self, fn: Any) -> Any:
-        if not is_async(inspect.unwrap(fn)):
+        if not is_async(unwrapped(fn)):
             raise TypeError(f"{fn!r} is not a coroutine function: Retrying is for functions")
 
-        @functools.wraps(fn)
         async def wrapped(*args: Any, **kwargs: Any) -> Any:
             return await run_async(self, fn, args, kwargs)
 
@@ -279,7 +276,7 @@ def _takes_what(
     """Gives a function the parameters and the help text of a `Retrying`; a type checker reads them off `init`."""
 
     def give(fn: Any) -> Any:
-        fn.__signature__ = inspect.signature(fn).replace(parameters=_PARAMETERS)
+        fn.__wrapped__ = _takes("", **{"return": fn.__annotations__["return"]})
         fn.__doc__ = f"{(fn.__doc__ or str()).rstrip()}\n\n    {ABOUT}"
         return fn
 
@@ -310,7 +307,8 @@ def decorator(plain: Type[BaseRetrying], awaits: Type[BaseRetrying], name: str, 
     """Returns a decorator that takes one of the two classes, as the function is awaited or not."""
     if not isinstance(policy, Policy) and (callable(policy) or isinstance(policy, (classmethod, staticmethod))):
         raise TypeError(f"{name}() expected a policy, got {policy!r}: write @{name}(recurs(3) & spaced(1))")
-    look_at_names(name, how, DEFAULTS)
+    if how:
+        look_at_names(name, how, DEFAULTS)
     read = Policy.of(policy)
 
     def decorate(fn: Any) -> Any:

@@ -14,7 +14,7 @@ from .errors import PolicyError, StormError, shown
 from .policy import Policy
 from .policy.builders import recurs
 from .policy.checks import whole
-from .storm import Storm, play
+from .storms.storm import Storm, play
 from .storms.axes import AXES, MAX_VALUES, MEASURES, NEVER
 from .storms.code import beside_objects
 from .storms.cores import Told, play_all, silent
@@ -147,7 +147,7 @@ def sweep(storms: Union[Storm, Iterable[Storm]], **values: Iterable[Any]) -> Swe
 
     >>> from hikebox import Quota, exponential, recurs, storm
     >>> policy = recurs(8) & exponential(0.1, 2).cap(10).jittered(0, 1)
-    >>> swept = sweep([storm(policy), storm(policy, budget=Quota(10, 0.1, 1))], rate=[400, 800])
+    >>> swept = sweep([storm(policy), storm(policy, limit=Quota(10, 0.1, 1))], rate=[400, 800])
     >>> [[round(share, 1) for share in line] for line in swept.numbers("succeeded")]
     [[22.7, 18.4], [83.3, 83.3]]
     """

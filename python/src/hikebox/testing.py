@@ -13,7 +13,7 @@ __all__ = ["VirtualClock", "no_waits"]
 @contextlib.contextmanager
 def no_waits() -> Iterator[None]:
     """Skips the waits of all retries of the process, including those of functions decorated before. Each retry goes on
-    at once, as if the time had passed. Nothing else changes: policies, budgets and hooks work as before.
+    at once, as if the time had passed. Nothing else changes: policies, limits and hooks work as before.
 
     >>> from hikebox import recurs, retry, spaced
     >>> @retry(recurs(3) & spaced(3600))
@@ -46,16 +46,18 @@ class VirtualClock:
     def __init__(self, start: float = 0.0) -> None:
         #: The seconds of each sleep.
         self.slept: List[float] = []
-        self._now = start
+        self._start = start
+        #: The seconds since then. (Added to a great start one by one, each would lose its last digits.)
+        self._passed = 0.0
 
     def __call__(self) -> float:
         """The moment, in seconds."""
-        return self._now
+        return self._start + self._passed
 
     def sleep(self, seconds: float) -> None:
         """Moves the clock on by this many seconds, and lists the sleep."""
         self.slept.append(seconds)
-        self._now += seconds
+        self._passed += seconds
 
     async def sleep_async(self, seconds: float) -> None:
         """The same, for `AsyncRetrying`."""
@@ -63,4 +65,4 @@ class VirtualClock:
 
     def advance(self, seconds: float) -> None:
         """Moves the clock on by this many seconds, as while a call runs."""
-        self._now += seconds
+        self._passed += seconds

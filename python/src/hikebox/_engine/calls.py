@@ -23,6 +23,7 @@ from .structs import (
     Next,
     Place,
     Range,
+    Run,
     Storm,
     Stored,
     Totals,
@@ -121,6 +122,7 @@ SIGNATURES: Dict[str, Tuple[Any, ...]] = {
     "hikebox_pass_free": (_HANDLE,),
     "hikebox_retry_new": (_HANDLE, _HANDLE, c_uint64, _HANDLE),
     "hikebox_retry_poll": (_HANDLE, c_uint64, _WORDS, c_uint32, c_uint64, POINTER(Next)),
+    "hikebox_retry_ran": (_HANDLE, POINTER(Run), POINTER(Next)),
     "hikebox_retry_cancel": (_HANDLE,),
     "hikebox_retry_end": (_HANDLE, _HANDLE),
     "hikebox_retry_free": (_HANDLE,),
@@ -142,10 +144,15 @@ SIGNATURES: Dict[str, Tuple[Any, ...]] = {
 }
 
 
+#: The engine's file by `sys.platform`, where it is not that of Linux.
+_FILES = {"darwin": "libhikebox.dylib", "win32": "hikebox.dll"}
+
+
 def library_path() -> str:
     """Where the engine is: the file that HIKEBOX_LIBRARY names, or the one beside these modules."""
+    file = _FILES.get(sys.platform, "libhikebox.so")
     named = os.environ.get("HIKEBOX_LIBRARY")
-    return named if named else os.path.join(os.path.dirname(os.path.dirname(__file__)), "libhikebox.so")
+    return named if named else os.path.join(os.path.dirname(os.path.dirname(__file__)), file)
 
 
 def _load() -> Any:
@@ -184,8 +191,8 @@ def unchecked(call: str) -> Any:
 
 
 library = _load()
-#: The call of the C library, where it is one that has it.
-_trim = getattr(ctypes.PyDLL(None), "malloc_trim", None)
+#: The call of the C library, where it is one that has it. (Windows names no library by None.)
+_trim = None if sys.platform == "win32" else getattr(ctypes.PyDLL(None), "malloc_trim", None)
 
 
 def give_memory_back() -> None:

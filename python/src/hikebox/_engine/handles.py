@@ -9,6 +9,7 @@ from __future__ import annotations
 import ctypes
 import struct
 from ctypes import byref, c_size_t, c_uint8, c_uint64
+from functools import lru_cache
 from typing import Any, Callable, List, NamedTuple, Optional, Sequence, Tuple
 
 from .calls import (
@@ -33,16 +34,28 @@ from .calls import (
 )
 from .structs import Course, Event, Handle, Line, Place, Storm, Totals, Usage, Window
 
-__all__ = ["Decided", "Handle", "Pass", "PolicyHandle", "Storm", "Totals", "Window", "play_storm"]
+__all__ = [
+    "ONE",
+    "Decided",
+    "Handle",
+    "Pass",
+    "PolicyHandle",
+    "Storm",
+    "Totals",
+    "Window",
+    "pass_deposit",
+    "play_storm",
+]
 
 _policy_node = unchecked("hikebox_policy_node")
 _policy_free = unchecked("hikebox_policy_free")
 _pass_draw = unchecked("hikebox_pass_draw")
-_pass_deposit = unchecked("hikebox_pass_deposit")
+pass_deposit = unchecked("hikebox_pass_deposit")
 _pass_hand_back = unchecked("hikebox_pass_hand_back")
 _pass_free = unchecked("hikebox_pass_free")
 
 
+@lru_cache(maxsize=None)
 def _patient(call: str) -> Any:
     """A call that takes long: it lets go of the interpreter's lock."""
     function = ctypes.CDLL(library_path())[call]
@@ -51,8 +64,12 @@ def _patient(call: str) -> Any:
     return function
 
 
-_storm_play = _patient("hikebox_storm_play")
-_storm_play_populations = _patient("hikebox_storm_play_populations")
+def _storm_play(*given: Any) -> Any:
+    return _patient("hikebox_storm_play")(*given)
+
+
+def _storm_play_populations(*given: Any) -> Any:
+    return _patient("hikebox_storm_play_populations")(*given)
 
 
 class Refusal(NamedTuple):
@@ -108,7 +125,8 @@ _unpack_lines = struct.Struct("=QQQ?7x").iter_unpack
 _ARRAYS = tuple(c_uint64 * count for count in range(5))
 _COUNTS = tuple(c_size_t(count) for count in range(5))
 _NO_NUMBERS = _ARRAYS[1]()
-_ONE = c_uint64(1)
+#: One request.
+ONE = c_uint64.from_param(1)
 
 #: The name of a node, and its length.
 Spelt = Tuple[bytes, c_size_t]
@@ -230,7 +248,7 @@ class Pass:
     """A pass of a budget, of a quota or of nothing. Who holds it joins it into another, closes what it is of with it,
     or frees it. Moments are whole milliseconds from 0 to MAX_NUMBER."""
 
-    __slots__ = ("handle", "at", "home", "_now", "_ticket", "_at_ticket")
+    __slots__ = ("handle", "at", "home", "now", "_ticket", "_at_ticket")
 
     #: Where who lends it keeps it while nobody uses it.
     home: List[Pass]
@@ -238,7 +256,7 @@ class Pass:
     def __init__(self) -> None:
         self.handle = Handle()
         self.at = byref(self.handle)
-        self._now = c_uint64()
+        self.now = c_uint64()
         self._ticket = c_uint64()
         self._at_ticket = byref(self._ticket)
 
@@ -267,20 +285,20 @@ class Pass:
 
     def draw(self, now: int = 0) -> Optional[int]:
         """A ticket, or None where the budget or the window has none left. Only a quota reads the moment."""
-        self._now.value = now
-        status = _pass_draw(self.at, self._now, self._at_ticket)
+        self.now.value = now
+        status = _pass_draw(self.at, self.now, self._at_ticket)
         while status == RACES_LOST:  # to as many draws that got a ticket
-            status = _pass_draw(self.at, self._now, self._at_ticket)
+            status = _pass_draw(self.at, self.now, self._at_ticket)
         if status == OK:
             return self._ticket.value
         if status == NO_TICKET:
             return None
         raise refused("hikebox_pass_draw", status)
 
-    def deposit(self, now: int, requests: c_uint64 = _ONE) -> None:
+    def deposit(self, now: int, requests: Any = ONE) -> None:
         """Counts a request of a quota, or so many. The first pass alone counts any number; another one at least one."""
-        self._now.value = now
-        status = _pass_deposit(self.at, self._now, requests)
+        self.now.value = now
+        status = pass_deposit(self.at, self.now, requests)
         if status != OK:
             raise refused("hikebox_pass_deposit", status)
 

@@ -20,7 +20,9 @@ from .calls import (
 from .structs import Asking, Grant, Handle, LeasedTicket, Range, Stored
 
 __all__ = [
+    "BACKWARDS",
     "Grant",
+    "HELD_ALREADY",
     "LeasedPass",
     "LeasedTicket",
     "SIGNATURES",
@@ -119,10 +121,10 @@ class LeasedPass:
         status = _does("hikebox_leased_draw", *given, unless=(LEASE_WANTED, NO_TICKET))
         return ticket if status == OK else now if status == LEASE_WANTED else again.value
 
-    def granted(self, grant: Grant) -> bool:
-        """Takes what the store granted, where that is not of an earlier window: False where it was granted before."""
-        status = _does("hikebox_leased_granted", self.at, byref(grant), unless=(BACKWARDS, HELD_ALREADY))
-        return status != HELD_ALREADY
+    def granted(self, grant: Grant) -> int:
+        """Takes what the store granted: BACKWARDS where that is of an earlier window, HELD_ALREADY where it was granted
+        before, and else OK."""
+        return _does("hikebox_leased_granted", self.at, byref(grant), unless=(BACKWARDS, HELD_ALREADY))
 
     def leave_alone(self, until: int) -> None:
         """The store is not asked before this moment, while there is no ticket at hand."""

@@ -3,13 +3,27 @@
 from __future__ import annotations
 
 from ctypes import POINTER, byref, c_size_t, c_uint32, c_uint64
-from functools import lru_cache
-from typing import Any, Callable, Dict, List, NamedTuple, Optional, Sequence, Tuple
+from typing import Any, Callable, Dict, List, Sequence, Tuple
 
-from .calls import OK, RACES_LOST, TOO_MANY_PASSES, library, refused, unchecked
+from .calls import OK, TOO_MANY_PASSES, library, refused, unchecked
 from .structs import BreakerTerms, BucketTerms, Handle
 
-__all__ = ["LEVEL_LOW", "LimitHandle", "OUT_OF_TURN", "REFUSALS", "SIGNATURES"]
+__all__ = [
+    "LEVEL_LOW",
+    "LimitHandle",
+    "NO_NUMBER",
+    "NO_WORD",
+    "OUT_OF_TURN",
+    "Place",
+    "REFUSALS",
+    "SIGNATURES",
+    "admit",
+    "cancelled",
+    "draw",
+    "ended",
+    "failed",
+    "succeeded",
+]
 
 LEVEL_LOW = 60
 REQUESTS_FULL = 61
@@ -46,22 +60,11 @@ SIGNATURES: Dict[str, Tuple[Any, ...]] = {
 }
 
 
-class _Calls(NamedTuple):
-    """The calls that are made at each attempt, with no check of the arguments' types."""
-
-    admit: Callable[..., int]
-    draw: Callable[..., int]
-    failed: Callable[..., int]
-    succeeded: Callable[..., int]
-    cancelled: Callable[..., int]
-    ended: Callable[..., int]
-    free: Callable[..., int]
-
-
-@lru_cache(maxsize=None)
-def _calls() -> _Calls:
-    """These calls, which a program without limits does not look up."""
-    return _Calls(*(unchecked(f"hikebox_limit_{name}") for name in _Calls._fields))
+#: The calls that are made at each attempt, with no check of the arguments' types. Moments are whole milliseconds from 0
+#: to MAX_NUMBER, costs are thousandths, and random words have 32 bits.
+admit, draw, failed, succeeded, cancelled, ended, free = (
+    unchecked(f"hikebox_limit_{name}") for name in "admit draw failed succeeded cancelled ended free".split()
+)
 
 
 def _checked(call: str) -> Callable[..., int]:
@@ -71,23 +74,13 @@ def _checked(call: str) -> Callable[..., int]:
 
 
 class LimitHandle:
-    """A handle of a limit, or of two at once. One request at a time is asked for with it. Moments are whole
-    milliseconds from 0 to MAX_NUMBER, and random words have 32 bits."""
+    """A handle of a limit, or of several at once, for one request at a time."""
 
-    __slots__ = ("handle", "at", "home", "_calls", "_now", "_cost", "_random", "_number", "_at_number", "__weakref__")
-
-    #: Where its limit keeps it while it has no request.
-    home: List[LimitHandle]
+    __slots__ = ("handle", "at", "__weakref__")
 
     def __init__(self) -> None:
         self.handle = Handle()
         self.at = byref(self.handle)
-        self._calls = _calls()
-        self._now = c_uint64()
-        self._cost = c_uint64()
-        self._random = c_uint32()
-        self._number = c_uint64()
-        self._at_number = byref(self._number)
 
     @classmethod
     def of_bucket(cls, capacity: int, floor: int, debit: int, credit: int, refund: bool) -> LimitHandle:
@@ -121,61 +114,41 @@ class LimitHandle:
         """Takes in another limit, which is asked after this one."""
         _done("hikebox_limit_both", _checked("hikebox_limit_both")(self.at, second.at))
 
-    def split(self) -> LimitHandle:
-        """Another handle of the same, with no request."""
-        part = LimitHandle()
+    def split(self, part: LimitHandle) -> None:
+        """Puts another handle of the same, with no request, into an empty one."""
         status = _checked("hikebox_limit_split")(self.at, part.at)
         if status == TOO_MANY_PASSES:
             raise OverflowError("more requests are under way at once than a limit has handles")
         _done("hikebox_limit_split", status)
-        return part
 
-    def admit(self, now: int, random: int) -> Optional[Refused]:
-        """Asks before the first run of a request: None, or why not."""
-        self._now.value, self._random.value = now, random
-        status = self._calls.admit(self.at, self._now, self._random, self._at_number)
-        while status == RACES_LOST:  # to as many calls of others
-            status = self._calls.admit(self.at, self._now, self._random, self._at_number)
-        return self._answer("hikebox_limit_admit", status)
-
-    def draw(self, now: int, cost: int, random: int) -> Optional[Refused]:
-        """Asks for a retry: None, or why not."""
-        self._now.value, self._cost.value, self._random.value = now, cost, random
-        status = self._calls.draw(self.at, self._now, self._cost, self._random, self._at_number)
-        while status == RACES_LOST:
-            status = self._calls.draw(self.at, self._now, self._cost, self._random, self._at_number)
-        return self._answer("hikebox_limit_draw", status)
-
-    def _answer(self, call: str, status: int) -> Optional[Refused]:
-        if status in REFUSALS or status == OUT_OF_TURN:
-            return status, self._number.value
-        _done(call, status)
-        return None
-
-    def failed(self, now: int) -> None:
-        """Tells that a run of the request failed."""
-        self._now.value = now
-        _done("hikebox_limit_failed", self._calls.failed(self.at, self._now))
-
-    def succeeded(self, now: int) -> None:
-        """Tells that a run of the request succeeded."""
-        self._now.value = now
-        _done("hikebox_limit_succeeded", self._calls.succeeded(self.at, self._now))
-
-    def cancelled(self) -> None:
-        """Tells that the retry drawn last is cancelled while it waits."""
-        if self.handle.held:  # (the collector frees it before a request of the same cycle)
-            _done("hikebox_limit_cancelled", self._calls.cancelled(self.at))
-
-    def ended(self) -> None:
-        """Tells that the request is over, if one is under way."""
-        if self.handle.held:
-            _done("hikebox_limit_ended", self._calls.ended(self.at))
-
-    def __del__(self) -> None:
+    def __del__(self, free: Any = free) -> None:
         handle = getattr(self, "handle", None)  # (which an exception of a signal handler may have left out)
         if handle is not None and handle.held:
-            self._calls.free(self.at)
+            free(self.at)
+
+
+class Place(LimitHandle):
+    """A handle that serves one request after another, with what its calls read and write."""
+
+    __slots__ = ("home", "now", "won_at", "cost", "word", "number", "at_number")
+
+    #: Where its limit keeps it while it has no request.
+    home: List[Place]
+
+    def __init__(self, reads_clock: bool, times_successes: bool, has_costs: bool, reads_random: bool) -> None:
+        LimitHandle.__init__(self)
+        # (what is not read never changes, and is made once)
+        self.now: Any = c_uint64() if reads_clock else NO_NUMBER
+        self.won_at: Any = self.now if times_successes else NO_NUMBER
+        self.cost: Any = c_uint64() if has_costs else NO_NUMBER
+        self.word: Any = c_uint32() if reads_random else NO_WORD
+        self.number = c_uint64()
+        self.at_number = byref(self.number)
+
+
+#: A number and a random word that are not read.
+NO_NUMBER: Any = c_uint64.from_param(0)
+NO_WORD: Any = c_uint32.from_param(0)
 
 
 def _done(call: str, status: int) -> None:

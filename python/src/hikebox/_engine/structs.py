@@ -22,6 +22,7 @@ __all__ = [
     "Place",
     "Population",
     "Range",
+    "Run",
     "Storm",
     "Stored",
     "Told",
@@ -73,6 +74,12 @@ class Line(Structure):
 
 class Next(_Sized):
     _fields_ = [_SIZE, ("what", c_uint32), ("how", c_uint32), *_numbers("until granted runs left")]
+
+
+class Run(Structure):
+    """A run of a retry, from its beginning to its report."""
+
+    _fields_ = [*_numbers("began ended code"), ("report", c_uint32), ("words", Words)]
 
 
 class Usage(_Sized):

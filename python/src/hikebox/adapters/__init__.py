@@ -1,1 +1,1 @@
-"""Policies and budgets for other libraries. Each module here wants the library that it is named after."""
+"""Policies and limits for other libraries. Each module here wants the library that it is named after."""

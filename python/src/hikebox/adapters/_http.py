@@ -6,23 +6,41 @@ import inspect
 import weakref
 from functools import partial
 from threading import get_ident
-from typing import Any, ClassVar, Collection, Dict, Generator, Optional, Type, Union
+from typing import Any, ClassVar, Collection, Dict, Generator, Optional, Tuple, Type, TypeVar, Union
 
 from ..errors import ResultRefused
 from ..http import is_bad, methods_of, retry_after, retry_after_of, statuses_of
 from ..policy import Policy
 from ..retry.deadline import enter, leave
 from ..retry.drivers import answer_of, not_awaitable
-from ..retry.progress import Ask, Progress, Steps
+from ..retry.progress import Progress
 from ..retry.state import Ending, Outcome, RetryState, Statistics
+from ..retry.steps import OVER, RAISE, RUN, Ask, Settled, Steps, asked, steps
 from ..retrying import BaseRetrying, look_at_names
 
-__all__ = ["DRAIN_BYTES", "DRAIN_SECONDS", "Call", "PolicyClient", "drive", "drive_async"]
+__all__ = [
+    "DRAIN_BYTES",
+    "DRAIN_SECONDS",
+    "KEPT",
+    "MIN_TIMEOUT",
+    "TOO_LATE",
+    "Call",
+    "PolicyClient",
+    "drive",
+    "drive_async",
+    "is_kept",
+]
 
 #: A body that nobody wants is read to its end where it is that short and comes that fast, so that its connection serves
 #: the next attempt too. Any other is cut off, with its connection.
 DRAIN_BYTES = 65536
 DRAIN_SECONDS = 0.5
+#: The least timeout that a client takes.
+MIN_TIMEOUT = 0.001
+#: Bodies that can be sent twice.
+KEPT = (type(None), str, bytes, bytearray, memoryview)
+#: What the error says where the deadline has passed before a redirect could be followed.
+TOO_LATE = "the deadline passed before a redirect was followed"
 
 #: What `help()` says of each adapter, after its own text.
 _COMMON = """
@@ -33,12 +51,16 @@ _COMMON = """
         The methods that may be repeated. A request with another method, or with a body that can't be sent again, such
         as a stream, is retried only if no connection was made.
 
-    It takes the options of `Retrying` too, such as `budget` and `deadline`. A request that a limit doesn't admit raises
+    It takes the options of `Retrying` too, such as `limit` and `deadline`. A request that a limit doesn't admit raises
     a `NotAdmitted`. Each wait is the policy's, or the `Retry-After` of the response if that is longer, up to
     `max_retry_after` seconds. The policy's input is the status of the response. When the retry ends, you get the last
     response, or the last error is raised. With a `deadline`, the time that is left is the timeout of each attempt,
     unless the client's own is shorter.
     """
+
+Answer = TypeVar("Answer")
+#: What is to be called, one after another, up to an answer.
+Asks = Generator[Ask, Any, Answer]
 
 #: The parameters of `Retrying`, without `self`.
 _PARAMETERS = frozenset(inspect.signature(BaseRetrying.__init__).parameters) - {"self"}
@@ -99,9 +121,10 @@ class Call:
 class PolicyClient:
     """Makes the requests of a client, and retries them."""
 
-    #: What retries them, and what it retries where nothing is said.
+    #: What retries them, what it retries where nothing is said, and what is raised where a request was never sent.
     _KIND: ClassVar[Type[BaseRetrying]]
     _ON: ClassVar[Any]
+    _NOT_SENT: ClassVar[Tuple[Type[BaseException], ...]]
 
     def __init_subclass__(cls, **how: Any) -> None:
         super().__init_subclass__(**how)
@@ -126,9 +149,9 @@ class PolicyClient:
         self.read_up_to = read_up_to
         given: Dict[str, Any] = {"on": self._ON, "wait": _asked_for, **how}
         #: What retries the requests.
-        self.retrying = self._KIND(policy, **given, on_result=self.is_refused)
+        self.retrying = self._KIND(policy, **given)
         # (a request that must not be made twice is retried where it was never sent)
-        self._careful = self.retrying.copy(on=self._was_not_sent, on_result=None)
+        self._careful = self.retrying.copy(on=self._was_not_sent)
         self._careful.counts = self.retrying.counts
 
     @property
@@ -136,45 +159,61 @@ class PolicyClient:
         """Counts over all requests that are over. A request to which a redirect leads is one of its own."""
         return self.retrying.statistics
 
-    def attempts(self, call: Call, request: Any, may_repeat: bool) -> Steps[Any]:
+    def attempts(self, call: Call, request: Any, may_repeat: bool) -> Asks[Any]:
         """The steps of one request of a call; their answer is its response."""
         if call.is_late():
             raise self._too_late(request)
         owner = self.retrying if may_repeat else self._careful
         progress = Progress(owner, self._attempt, (request,), start=call.start, deadline=call.deadline)
         token = None if call.deadline is None else enter(call.deadline)
+        call.hops += 1
+        driven = steps(progress, is_counted=call.hops > 1)
         try:
-            goes_on = yield from _begins(call, progress)
-            while goes_on:
-                yield from self._one_attempt(call, progress, request)
-                goes_on = yield from _settled(progress.begins())
-            return answer_of(progress)
-        except ResultRefused as refused:
-            return self._refused(refused.result, request)
+            want = yield from asked(driven, driven.send(None))
+            while want is RUN:
+                want = yield from self._one_attempt(call, progress, driven, request)
+            ending = progress.state.ending
+            try:
+                answer = answer_of(progress)
+            except ResultRefused as refused:
+                answer = refused.result
+            else:
+                if ending is not Ending.NOT_RETRIED:
+                    return answer
+            return (yield partial(self._refused, request, ending), answer)
         finally:
             if call.deadline is not None and token is not None:
                 leave(call.deadline, token)
             progress.close()
 
-    def _one_attempt(self, call: Call, progress: Progress, request: Any) -> Steps[None]:
-        """Makes one attempt and judges it. The last one's error is raised."""
+    def _one_attempt(self, call: Call, progress: Progress, driven: Steps, request: Any) -> Asks[Settled]:
+        """Makes one attempt and has it judged, up to the next one or the end. The last one's error is raised."""
         progress.ends_now = call.is_spent()
         try:
             response = yield self._attempt, request
+            is_refused = self.is_refused(response)
+            if not is_refused:
+                yield partial(self._accepts, request), response
         except BaseException as error:
-            if not (yield from _settled(progress.raised(error))):
+            want = yield from asked(driven, driven.send(Outcome(None, error)))
+            if want is RAISE:
                 raise
         else:
-            is_refused = self.is_refused(response)
             call.leads_on = not is_refused and self._leads_on(response)
-            if call.leads_on or (is_refused and progress.settings.on_result is None):
-                _gives(progress, response, Ending.WON if call.leads_on else Ending.NOT_RETRIED)
-                return
-            yield from progress.returned(response)
-            if not progress.over:
+            if call.leads_on or (is_refused and progress.state.retry_object is self._careful):
+                return _gives(progress, response, Ending.WON if call.leads_on else Ending.NOT_RETRIED)
+            want = yield from asked(driven, driven.send(_Answered(response, is_refused)))
+            if isinstance(want, float):
                 yield partial(self._let_go, request), response
-        if not progress.over:
+        if isinstance(want, float):
             call.retries += 1
+            settings = progress.settings
+            if want > 0.0:
+                yield settings.sleeps, want
+            elif settings.pause is not None:
+                yield settings.pause, want
+            want = yield from asked(driven, driven.send(None))
+        return want
 
     def is_refused(self, response: Any) -> bool:
         """Whether the status of a response is retried."""
@@ -184,7 +223,11 @@ class PolicyClient:
     # What each client does in its own way
 
     def _attempt(self, request: Any) -> Any:
-        """Makes the request once."""
+        """Makes the request once, up to the head of its response."""
+        raise NotImplementedError
+
+    def _accepts(self, request: Any, response: Any) -> Any:
+        """The rest of the attempt, where the status of the response is not one that is retried."""
         raise NotImplementedError
 
     def _let_go(self, request: Any, response: Any) -> Any:
@@ -197,24 +240,38 @@ class PolicyClient:
 
     def _was_not_sent(self, error: BaseException) -> bool:
         """Whether the request was never sent."""
-        raise NotImplementedError
+        return isinstance(error, self._NOT_SENT)
 
     def _too_late(self, request: Any) -> Exception:
         """What is raised where the deadline has passed before a redirect could be followed."""
         raise NotImplementedError
 
-    def _refused(self, response: Any, request: Any) -> Any:
-        """What comes of a last response whose status is retried."""
+    def _refused(self, request: Any, ending: Optional[Ending], response: Any) -> Any:
+        """What comes of a last response whose status is retried, also where the request was not."""
         return response
 
     def is_read(self, response: Any) -> bool:
         """Whether the body of a response is read as part of the attempt."""
-        if self.is_refused(response):
-            return False
         if self.read_up_to is None:
             return True
         length = response.headers.get("Content-Length", "")
         return length.isascii() and length.isdigit() and int(length) <= self.read_up_to
+
+
+class _Answered(Outcome):
+    """The outcome of an attempt that gave a response, at whose status was looked."""
+
+    __slots__ = ("is_refused",)
+
+    def __init__(self, response: Any, is_refused: bool) -> None:
+        super().__init__(response)
+        self.is_refused = is_refused
+
+
+def is_kept(body: Any, position: Any) -> bool:
+    """Whether a body can be sent twice. The first time uses up an iterator or a file, but for a file that the client
+    sets back to its `position`; of another object nobody knows."""
+    return isinstance(position, int) or isinstance(body, (*KEPT, list, tuple))
 
 
 def _key() -> str:
@@ -231,28 +288,13 @@ def _asked_for(state: RetryState) -> Optional[float]:
     return retry_after_of(outcome.result()) if error is None else retry_after(error)
 
 
-def _begins(call: Call, progress: Progress) -> Steps[bool]:
-    """What comes before the first attempt of a request: whether it is made."""
-    call.hops += 1
-    settings = progress.settings
-    if not (yield from progress.is_admitted()):
-        return False
-    if call.hops == 1 and settings.deposit is not None:
-        settings.deposit()
-    for hook in settings.hooks_before:
-        yield hook, progress.state
-    return True
-
-
-def _gives(progress: Progress, response: Any, ending: Ending) -> None:
+def _gives(progress: Progress, response: Any, ending: Ending) -> Settled:
     """The request is over, with a response that is neither retried nor a success of the call."""
-    progress.over, progress.answer = True, Outcome(response)
+    progress.answer = Outcome(response)
     progress.state.ending = ending
-    progress.tells(ending is Ending.WON)
-
-
-def _settled(steps: Union[bool, Steps[bool]]) -> Steps[bool]:
-    return steps if isinstance(steps, bool) else (yield from steps)
+    if progress.settings.asks_limit:
+        progress.drawing.succeeded() if ending is Ending.WON else progress.drawing.failed()
+    return OVER
 
 
 async def drive_async(steps: Generator[Ask, Any, Any], awaits: bool = True) -> Any:

@@ -21,13 +21,11 @@ from aiohttp.http_exceptions import HttpProcessingError
 from ..http import METHODS, STATUSES
 from ..policy import Policy
 from ..retry.deadline import seconds_left
+from ..retry.state import Ending
 from ..retrying import AsyncRetrying
-from ._http import DRAIN_BYTES, DRAIN_SECONDS, Call, PolicyClient, drive_async
+from ._http import DRAIN_BYTES, DRAIN_SECONDS, KEPT, Call, PolicyClient, drive_async
 
 __all__ = ["PolicySession"]
-
-#: What is raised where a request was never sent.
-_NOT_SENT = (aiohttp.ClientConnectorError,)
 
 
 def _is_no_http(error: Exception) -> bool:
@@ -37,12 +35,10 @@ def _is_no_http(error: Exception) -> bool:
 
 #: Connections that broke or took too long.
 _BROKEN = (aiohttp.ClientConnectionError, aiohttp.ClientPayloadError, asyncio.TimeoutError, _is_no_http)
-#: Bodies, and parts of a form, that may be sent twice.
-_KEPT = (bytes, bytearray, str, int, float, type(None))
 
 
 class PolicySession(PolicyClient):
-    """Makes the requests of a session, and retries them by a policy, under a budget.
+    """Makes the requests of a session, and retries them by a policy, under a limit.
 
     `read_up_to`
         A body with a `Content-Length` up to this many bytes is read within the attempt, so a body that breaks is
@@ -56,6 +52,7 @@ class PolicySession(PolicyClient):
 
     _KIND = AsyncRetrying
     _ON = _BROKEN
+    _NOT_SENT = (aiohttp.ClientConnectorError,)
 
     def __init__(
         self,
@@ -107,26 +104,26 @@ class PolicySession(PolicyClient):
         call = Call(self.retrying)
         may_repeat = request.method in self.methods and _is_kept(request.how.get("data"))
         response: aiohttp.ClientResponse = await drive_async(self.attempts(call, request, may_repeat))
-        if self.is_refused(response):
-            await request.checks(response)
         return response
 
     def _attempt(self, request: PolicyRequest) -> Any:
-        left = seconds_left()
-        return self._sent(request) if left is None else asyncio.wait_for(self._sent(request), left)
-
-    async def _sent(self, request: PolicyRequest) -> aiohttp.ClientResponse:
         how = {**request.how, "raise_for_status": False}
-        response = await self.session.request(request.method, request.url, **how)
-        if self.is_refused(response):
-            return response
+        return _in_time(self.session.request(request.method, request.url, **how))
+
+    async def _accepts(self, request: PolicyRequest, response: aiohttp.ClientResponse) -> None:
         try:
-            await request.checks(response)
-            if self.is_read(response):
-                response.content = _as_stream(await response.content.read())
+            await _in_time(self._reads(request, response))
         except BaseException:
-            response.close()
+            _release(response)
             raise
+
+    async def _reads(self, request: PolicyRequest, response: aiohttp.ClientResponse) -> None:
+        await request.checks(response)
+        if self.is_read(response):
+            response.content = _as_stream(await response.content.read())
+
+    async def _refused(self, request: PolicyRequest, ending: Optional[Ending], response: Any) -> Any:
+        await request.checks(response)
         return response
 
     async def _let_go(self, request: PolicyRequest, response: aiohttp.ClientResponse) -> None:
@@ -136,12 +133,9 @@ class PolicySession(PolicyClient):
         except (aiohttp.ClientError, asyncio.TimeoutError):
             pass  # nobody wants it
         finally:
-            response.release()
+            _release(response)
         if body is not None:
             response.content = _as_stream(body)
-
-    def _was_not_sent(self, error: BaseException) -> bool:
-        return isinstance(error, _NOT_SENT)
 
 
 class PolicyRequest:
@@ -152,7 +146,9 @@ class PolicyRequest:
     def __init__(self, client: PolicySession, method: str, url: Any, how: Dict[str, Any]) -> None:
         self.method = method.upper()
         self.url = url
-        self.how = how
+        form = how.get("data")
+        #: What the session is given. A form makes its body once.
+        self.how = {**how, "data": form()} if isinstance(form, aiohttp.FormData) else how
         self._client = client
         own = how.get("raise_for_status")
         self._check: Any = client.session.raise_for_status if own is None else own
@@ -172,14 +168,30 @@ class PolicyRequest:
         return self._response
 
     async def __aexit__(self, *_: Any) -> None:
-        self._response.release()
+        if isinstance(self._response, aiohttp.ClientResponse):  # (else a fallback gave it)
+            _release(self._response)
+
+
+def _in_time(made: Any) -> Any:
+    """What is awaited, for as long as the deadline has left."""
+    left = seconds_left()
+    return made if left is None else asyncio.wait_for(made, left)
 
 
 def _is_kept(body: Any) -> bool:
     """Whether a body may be sent twice. A form with a file may not, since the file is closed once it is sent."""
     if isinstance(body, (dict, list, tuple)):
         return all(_is_kept(part) for part in (body.values() if isinstance(body, dict) else body))
-    return isinstance(body, _KEPT)
+    return isinstance(body, (*KEPT, int, float))
+
+
+def _release(response: aiohttp.ClientResponse) -> None:
+    """Lets a response go. aiohttp pools its connection once its body has come whole, read or not, and reads nothing
+    more from it while too much of that is unread. A body that is still to come ends with its connection."""
+    content = response.content
+    if content.is_eof() and content.exception() is None:
+        content.read_nowait()
+    response.close()
 
 
 async def _drained(response: aiohttp.ClientResponse) -> Optional[bytes]:

@@ -18,16 +18,12 @@ from ..http import METHODS, STATUSES
 from ..policy import Policy
 from ..retry.deadline import seconds_left
 from ..retrying import AsyncRetrying, Retrying
-from ._http import DRAIN_BYTES, DRAIN_SECONDS, Call, PolicyClient, drive, drive_async
+from ._http import DRAIN_BYTES, DRAIN_SECONDS, MIN_TIMEOUT, TOO_LATE, Call, PolicyClient, drive, drive_async
 
 __all__ = ["AsyncPolicyTransport", "PolicyTransport"]
 
-#: What is raised where a request was never sent.
-_NOT_SENT = (httpx.ConnectError, httpx.ConnectTimeout, httpx.PoolTimeout)
 #: Connections that broke or took too long.
 _BROKEN = (httpx.NetworkError, httpx.TimeoutException, httpx.RemoteProtocolError, httpx.ProxyError)
-#: The least timeout that a client takes.
-_MIN_TIMEOUT = 0.001
 
 
 class _Timeouts(Dict[str, Optional[float]]):
@@ -38,7 +34,7 @@ class _Timeouts(Dict[str, Optional[float]]):
     def get(self, name: str, default: Any = None) -> Any:
         own = super().get(name, default)
         bounds = [bound for bound in (own, seconds_left(), self.most) if bound is not None]
-        return max(min(bounds), _MIN_TIMEOUT) if bounds else None
+        return max(min(bounds), MIN_TIMEOUT) if bounds else None
 
     def __getitem__(self, name: str) -> Any:
         return self.get(name)
@@ -48,6 +44,7 @@ class _PolicyTransport(PolicyClient):
     """What both transports have in common."""
 
     _ON = _BROKEN
+    _NOT_SENT = (httpx.ConnectError, httpx.ConnectTimeout, httpx.PoolTimeout)
 
     def __init__(
         self,
@@ -78,16 +75,13 @@ class _PolicyTransport(PolicyClient):
     def _leads_on(self, response: httpx.Response) -> bool:
         return bool(response.has_redirect_location)
 
-    def _was_not_sent(self, error: BaseException) -> bool:
-        return isinstance(error, _NOT_SENT)
-
     def _too_late(self, request: httpx.Request) -> Exception:
-        late: Exception = httpx.ReadTimeout("the deadline passed before a redirect was followed", request=request)
+        late: Exception = httpx.ReadTimeout(TOO_LATE, request=request)
         return late
 
 
 class PolicyTransport(_PolicyTransport, httpx.BaseTransport):
-    """Retries a client's requests by a policy, under a budget.
+    """Retries a client's requests by a policy, under a limit.
 
     `transport`
         Makes the requests; `httpx.HTTPTransport()` by default.
@@ -108,8 +102,10 @@ class PolicyTransport(_PolicyTransport, httpx.BaseTransport):
         response: httpx.Response = drive(self._steps(request))
         return response
 
-    def _attempt(self, request: httpx.Request) -> httpx.Response:
-        response = self.transport.handle_request(request)
+    def _attempt(self, request: httpx.Request) -> Any:
+        return self.transport.handle_request(request)
+
+    def _accepts(self, request: httpx.Request, response: httpx.Response) -> None:
         if self.is_read(response):
             body = _Body(request)
             try:
@@ -118,7 +114,6 @@ class PolicyTransport(_PolicyTransport, httpx.BaseTransport):
             finally:
                 response.stream.close()
             response.stream = body.as_stream()
-        return response
 
     def _let_go(self, request: httpx.Request, response: httpx.Response) -> None:
         with _Kept(request, response) as kept:
@@ -149,8 +144,10 @@ class AsyncPolicyTransport(_PolicyTransport, httpx.AsyncBaseTransport):
         response: httpx.Response = await drive_async(self._steps(request))
         return response
 
-    async def _attempt(self, request: httpx.Request) -> httpx.Response:
-        response = await self.transport.handle_async_request(request)
+    def _attempt(self, request: httpx.Request) -> Any:
+        return self.transport.handle_async_request(request)
+
+    async def _accepts(self, request: httpx.Request, response: httpx.Response) -> None:
         if self.is_read(response):
             body = _Body(request)
             try:
@@ -159,7 +156,6 @@ class AsyncPolicyTransport(_PolicyTransport, httpx.AsyncBaseTransport):
             finally:
                 await response.stream.aclose()
             response.stream = body.as_stream()
-        return response
 
     async def _let_go(self, request: httpx.Request, response: httpx.Response) -> None:
         with _Kept(request, response) as kept:

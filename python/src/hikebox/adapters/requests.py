@@ -16,23 +16,29 @@ from typing import Any, Collection, Dict, Optional, Union
 import requests
 from requests.adapters import HTTPAdapter
 from requests.utils import rewind_body
-from urllib3.exceptions import ConnectTimeoutError, HTTPError, MaxRetryError, ProxyError, ResponseError
+from urllib3.exceptions import (
+    ConnectTimeoutError,
+    HTTPError,
+    MaxRetryError,
+    NewConnectionError,
+    ProxyError,
+    ResponseError,
+)
 from urllib3.response import HTTPResponse
 from urllib3.util.timeout import Timeout
 
 from ..http import METHODS, STATUSES
 from ..policy import Policy
 from ..retry.deadline import seconds_left
+from ..retry.state import Ending
 from ..retrying import Retrying
-from ._http import DRAIN_BYTES, DRAIN_SECONDS, Call, PolicyClient, drive
+from ._http import DRAIN_BYTES, DRAIN_SECONDS, MIN_TIMEOUT, TOO_LATE, Call, PolicyClient, drive, is_kept
 
 __all__ = ["PolicyAdapter"]
 
 #: The parameters of HTTPAdapter that a PolicyAdapter takes.
 _POOLS = ("pool_connections", "pool_maxsize", "pool_block")
 _BROKEN = (requests.ConnectionError, requests.Timeout, requests.exceptions.ChunkedEncodingError)
-#: The least timeout that a client takes.
-_MIN_TIMEOUT = 0.001
 
 
 class _Hop:
@@ -46,7 +52,7 @@ class _Hop:
 
 
 class PolicyAdapter(PolicyClient, HTTPAdapter):
-    """Retries a session's requests by a policy, under a budget.
+    """Retries a session's requests by a policy, under a limit.
 
     `raise_on_status`
         Whether to raise `requests.exceptions.RetryError` if the last response has such a status.
@@ -55,11 +61,13 @@ class PolicyAdapter(PolicyClient, HTTPAdapter):
     adapter takes `pool_connections`, `pool_maxsize` and `pool_block` of `HTTPAdapter`.
 
     The requests of a redirect share the deadline and the number of retries, and count as one request of a quota. You
-    can copy a session with an adapter, and pickle it if its budget can be pickled.
+    can copy a session with an adapter, and pickle it if its limit can be pickled.
     """
 
     _KIND = Retrying
     _ON = _BROKEN
+    # (of a body in parts requests lets the errors of urllib3 through)
+    _NOT_SENT = (requests.ConnectTimeout, ConnectTimeoutError, NewConnectionError)
     __attrs__ = [
         *HTTPAdapter.__attrs__,
         "on_status",
@@ -104,9 +112,7 @@ class PolicyAdapter(PolicyClient, HTTPAdapter):
 
     def _may_repeat(self, request: Any) -> bool:
         """Whether the request may be made twice: its method allows that, and its body is still there."""
-        body = request.body
-        is_kept = body is None or isinstance(body, (bytes, str)) or isinstance(request._body_position, int)
-        return str(request.method).upper() in self.methods and is_kept
+        return str(request.method).upper() in self.methods and is_kept(request.body, request._body_position)
 
     def _attempt(self, hop: _Hop) -> Any:
         hop.attempts += 1
@@ -114,10 +120,11 @@ class PolicyAdapter(PolicyClient, HTTPAdapter):
             rewind_body(hop.request)
         left = seconds_left()
         how = hop.how if left is None else {**hop.how, "timeout": _at_most(hop.how["timeout"], left)}
-        response = HTTPAdapter.send(self, hop.request, stream=hop.stream, **how)
-        if not hop.stream and not self.is_refused(response):
+        return HTTPAdapter.send(self, hop.request, stream=hop.stream, **how)
+
+    def _accepts(self, hop: _Hop, response: Any) -> None:
+        if not hop.stream:
             _read(response)
-        return response
 
     def _let_go(self, hop: _Hop, response: Any) -> None:
         raw = response.raw
@@ -131,20 +138,17 @@ class PolicyAdapter(PolicyClient, HTTPAdapter):
         return bool(response.is_redirect)
 
     def _was_not_sent(self, error: BaseException) -> bool:
-        if isinstance(error, requests.ConnectTimeout):
-            return True
         reason = getattr(error.args[0], "reason", None) if error.args else None
         if isinstance(reason, ProxyError):
             reason = reason.original_error
-        return isinstance(error, requests.ConnectionError) and isinstance(reason, ConnectTimeoutError)
+        return isinstance(error, self._NOT_SENT) or isinstance(reason, self._NOT_SENT)
 
     def _too_late(self, hop: _Hop) -> Exception:
-        text = "the deadline passed before a redirect was followed"
-        late: Exception = requests.ReadTimeout(text, request=hop.request)
+        late: Exception = requests.ReadTimeout(TOO_LATE, request=hop.request)
         return late
 
-    def _refused(self, response: Any, hop: _Hop) -> Any:
-        if not self.raise_on_status:
+    def _refused(self, hop: _Hop, ending: Optional[Ending], response: Any) -> Any:
+        if not self.raise_on_status or ending is Ending.NOT_RETRIED:
             return response
         _drain(response.raw)
         response.close()
@@ -155,7 +159,7 @@ class PolicyAdapter(PolicyClient, HTTPAdapter):
 
 def _at_most(timeout: Any, left: float) -> Timeout:
     """The timeout of an attempt that has so many seconds left."""
-    left = max(left, _MIN_TIMEOUT)
+    left = max(left, MIN_TIMEOUT)
     if isinstance(timeout, Timeout):
         made = timeout.clone()
         if not isinstance(made.total, (int, float)) or made.total > left:

@@ -16,7 +16,7 @@ nobody there 3
 from __future__ import annotations
 
 import time
-from typing import Any, Callable, Dict, Tuple, Union
+from typing import Any, Callable, Dict, Optional, Tuple, Union
 
 from tenacity.stop import stop_base
 from tenacity.wait import wait_base
@@ -25,10 +25,10 @@ from ..leased import LeasedQuota
 from ..limits import look_at_no_limit
 from ..policy import Policy
 from ..quota import Quota
-from ..retry.drivers import settle
 from ..retry.progress import Progress
 from ..retry.state import Outcome
 from ..retrying import Retrying
+from ._waits import Waits
 
 __all__ = ["before_deposit", "stop_and_wait"]
 
@@ -36,12 +36,12 @@ __all__ = ["before_deposit", "stop_and_wait"]
 def stop_and_wait(policy: Union[Policy, str, bytes, Dict[str, Any]], **how: Any) -> Tuple[stop_base, wait_base]:
     """Returns the `stop` and the `wait` of a policy. Pass both to one `tenacity.retry` or `Retrying`.
 
-    `how` is what `hikebox.Retrying` takes: `budget`, `code`, `retry_after`, `deadline`, `clock`, `random`. The policy
+    `how` is what `hikebox.Retrying` takes: `limit`, `code`, `retry_after`, `deadline`, `clock`, `random`. The policy
     is asked once for each failed attempt, whichever of the two tenacity calls first. You may join other stops and
     waits by tenacity's `|` and `+`. tenacity calls neither for a call that succeeds or a wait that ends early. So with
     a quota, `before_deposit` counts each request at its first attempt, and no ticket comes back.
     """
-    look_at_no_limit("stop_and_wait()", how.get("budget"), "tenacity")
+    look_at_no_limit("stop_and_wait()", how.get("limit"), "tenacity")
     shared = _Shared(Retrying(policy, **how))
     return _Stop(shared), _Wait(shared)
 
@@ -52,7 +52,7 @@ def before_deposit(quota: Union[Quota, LeasedQuota]) -> Callable[[Any], None]:
     >>> import tenacity
     >>> from hikebox import Quota, recurs
     >>> quota = Quota(reserve=0, share=0.5, per=3600)
-    >>> stop, wait = stop_and_wait(recurs(2), budget=quota)
+    >>> stop, wait = stop_and_wait(recurs(2), limit=quota)
     >>> @tenacity.retry(before=before_deposit(quota), stop=stop, wait=wait)
     ... def fetch():
     ...     return "fetched"
@@ -70,13 +70,13 @@ def before_deposit(quota: Union[Quota, LeasedQuota]) -> Callable[[Any], None]:
 class _Answer:
     """What the policy said of one attempt."""
 
-    __slots__ = ("progress", "attempt", "goes_on", "delay")
+    __slots__ = ("waits", "attempt", "wait")
 
     def __init__(self, progress: Progress) -> None:
-        self.progress = progress
+        self.waits = Waits(progress)
         self.attempt = 0
-        self.goes_on = True
-        self.delay = 0.0
+        #: The seconds until the next attempt, or None where none follows.
+        self.wait: Optional[float] = 0.0
 
 
 class _Shared:
@@ -93,18 +93,9 @@ class _Shared:
             # tenacity's moments are those of this clock
             start = state.start_time if self.retrying.clock is time.monotonic else None
             answer = answers[self] = _Answer(Progress(self.retrying, start=start))
-        if answer.attempt == state.attempt_number or not answer.goes_on:
-            return answer
-        progress = answer.progress
-        # (tenacity has made the attempt, which may have begun past the deadline)
-        is_late = answer.attempt > 0 and not progress.waited()
-        progress.state.attempt_number = answer.attempt = state.attempt_number
-        answer.goes_on = not is_late and settle(progress.judges(_outcome(state.outcome)))
-        answer.delay = settle(progress.delay()) if answer.goes_on else 0.0
-        if answer.goes_on:
-            progress.uses_ticket()
-        else:
-            progress.close()
+        if answer.attempt != state.attempt_number and answer.wait is not None:
+            answer.attempt = state.attempt_number
+            answer.wait = answer.waits.after(_outcome(state.outcome), answer.attempt)
         return answer
 
 
@@ -118,7 +109,7 @@ class _Stop(stop_base):
         self.shared = shared
 
     def __call__(self, retry_state: Any) -> bool:
-        return not self.shared.answer(retry_state).goes_on
+        return self.shared.answer(retry_state).wait is None
 
 
 class _Wait(wait_base):
@@ -126,4 +117,4 @@ class _Wait(wait_base):
         self.shared = shared
 
     def __call__(self, retry_state: Any) -> float:
-        return self.shared.answer(retry_state).delay
+        return self.shared.answer(retry_state).wait or 0.0

@@ -8,7 +8,7 @@ from ..errors import EngineError
 from .passes import Keep, Passes
 from .tickets import Refusal, RefusalReason
 
-__all__ = ["ByCall", "ByPass", "Drawing", "ask"]
+__all__ = ["ByCall", "ByPass", "Drawing"]
 
 
 class Drawing(Protocol):
@@ -19,11 +19,6 @@ class Drawing(Protocol):
 
     def end(self, hands_back: bool) -> None:
         """The retry is over: its latest ticket comes back, where that is so and what granted it takes it."""
-
-
-def ask(drawing: Drawing) -> Any:
-    """Draws a ticket."""
-    return drawing.draw()
 
 
 class ByCall:

@@ -4,10 +4,10 @@ from __future__ import annotations
 
 from typing import Any, Callable, TypeVar
 
-from .._engine.handles import Pass, PolicyHandle
-from .._engine.machine import Machine
+from .._engine.handles import Pass
 from .._forks import OfOneProcess, begins_anew_in_a_child
-from ..errors import BudgetInUse
+from ..errors import LimitInUse
+from .limit import Limit
 from .passes import Passes
 
 __all__ = ["Granting"]
@@ -15,10 +15,13 @@ __all__ = ["Granting"]
 Self = TypeVar("Self", bound="Granting")
 
 
-class Granting(OfOneProcess):
+class Granting(OfOneProcess, Limit):
     """A limit that grants tickets until you close it."""
 
     __slots__ = ("passes", "__weakref__")
+
+    #: Whether it goes by a clock.
+    reads_clock = False
 
     #: The engine's passes, which this package hands out to threads.
     passes: Passes
@@ -48,8 +51,8 @@ class Granting(OfOneProcess):
         return self.passes.generation
 
     def close(self) -> int:
-        """Closes it and returns the exact number of tickets drawn. If a retry is under way, it raises a `BudgetInUse`
-        and changes nothing. Closing it again returns the same number."""
+        """Closes it and returns the exact number of tickets drawn and not handed back. If a retry is under way, it
+        raises a `LimitInUse` and changes nothing. Closing it again returns the same number."""
         return self.passes.close()
 
     def __enter__(self: Self) -> Self:
@@ -58,7 +61,7 @@ class Granting(OfOneProcess):
     def __exit__(self, kind: Any, error: Any, trace: Any) -> None:
         try:
             self.close()
-        except BudgetInUse:
+        except LimitInUse:
             if kind is None:
                 raise
 
@@ -69,12 +72,6 @@ class Granting(OfOneProcess):
     def not_pickled(self) -> str:
         kind = self.passes.kind
         return f"a {kind} belongs to its process; hikebox.leased has {kind}s that processes share"
-
-    def begin_retry(self, machine: Machine, policy: PolicyHandle, deadline: int) -> Passes:
-        """Begins a retry of the engine in this machine, with a pass of its own, and returns what ends it."""
-        passes = self.passes
-        passes.begin(machine, policy, deadline)
-        return passes
 
     def expression(self) -> str:
         """Returns the expression that makes one like it."""

@@ -14,7 +14,7 @@ from weakref import ref
 
 from .._engine.handles import Handle, Pass, PolicyHandle
 from .._engine.machine import Loan, Machine, end_retry, free_retry
-from ..errors import BudgetClosed, BudgetError, BudgetInUse, EngineError, TicketError
+from ..errors import EngineError, LimitClosed, LimitError, LimitInUse, TicketError
 
 __all__ = ["UNLIMITED", "Ends", "Grants", "Keep", "Passes", "Unlimited"]
 
@@ -45,7 +45,7 @@ class Passes:
     """
 
     __slots__ = (
-        *("kind", "generation", "_make", "_lock", "_root", "_parts", "_idle", "_kept", "_dropped"),
+        *("kind", "generation", "_make", "_lock", "_root", "_parts", "idle", "_kept", "_dropped"),
         *("_retries", "_ended", "__weakref__"),
     )
 
@@ -62,7 +62,7 @@ class Passes:
         #: All that were.
         self._parts: Set[Pass] = set()
         #: Those that nobody uses now. `pop` and `append` are each one step, so no lock is taken for them.
-        self._idle: List[Pass] = []
+        self.idle: List[Pass] = []
         #: Those that are kept, and of these those whose ticket is gone.
         self._kept: Set[Keep] = set()
         self._dropped: List[Keep] = []
@@ -82,13 +82,13 @@ class Passes:
         return None if self._root.handle.held else self._root.total
 
     def look_open(self) -> None:
-        """Raises a `BudgetClosed` where it was closed."""
+        """Raises a `LimitClosed` where it was closed."""
         if self.closed is not None:
-            raise BudgetClosed(f"this {self.kind} was closed")
+            raise LimitClosed(f"this {self.kind} was closed")
 
     def look_again(self, lent: Pass) -> bool:
         """Whether a call that failed is to be made again, with another pass: a close has taken in the one that it used,
-        and did not come to its end. Raises a `BudgetClosed` where it did."""
+        and did not come to its end. Raises a `LimitClosed` where it did."""
         with self._lock:  # (another thread may be closing it)
             self.look_open()
         return not lent.handle.held
@@ -98,7 +98,7 @@ class Passes:
         if self._dropped:
             self._sweep()
         try:
-            return self._idle.pop()
+            return self.idle.pop()
         except IndexError:
             pass
         return self._split()
@@ -160,12 +160,13 @@ class Passes:
 
     def begin(self, machine: Machine, policy: PolicyHandle, deadline: int) -> None:
         """Begins a retry in this machine, with a pass of its own."""
-        machine.free()
         loan = machine.loan = Loan()
+        loan.granted = 0
         retry = loan.noted = _Retry(loan)
         retry.handle = machine.handle
         with self._lock:
-            self.look_open()
+            if not self._root.handle.held:
+                self.look_open()
             self._retries.add(retry)
             try:
                 begun = machine.begin(policy, self._root, deadline)
@@ -175,7 +176,7 @@ class Passes:
                 raise
             if not begun:
                 self._retries.discard(retry)
-                raise BudgetError(f"more retries draw on one {self.kind} at once than it has passes")
+                raise LimitError(f"more retries draw on one {self.kind} at once than it has passes")
 
     def end(self, machine: Machine, hands_back: bool) -> None:
         """Ends the retry of this machine, which began here. Its latest ticket is handed back where that is so, and it
@@ -183,14 +184,15 @@ class Passes:
         loan = machine.loan
         assert loan is not None
         with self._lock:
-            if self.closed is None:  # (the collector frees a budget before a retry of the same cycle)
+            if self._root.handle.held:  # (the collector frees a budget before a retry of the same cycle)
                 self._ended += 1
                 if hands_back:
                     self._end_and_hand_back(machine)
                 else:
                     machine.end(self._root)
         self._retries.discard(loan.noted)
-        machine.free()
+        if machine.loan is not None:
+            machine.leave()
 
     def _end_and_hand_back(self, machine: Machine) -> None:
         lent = self.lend()
@@ -227,21 +229,21 @@ class Passes:
         return sum(part.count() for part in parts) + sum(loan.granted for loan in loans if loan is not None)
 
     def close(self) -> int:
-        """Ends it: how many tickets were drawn, exactly; a `BudgetInUse` where a retry is under way."""
+        """Ends it: how many tickets were drawn, exactly; a `LimitInUse` where a retry is under way."""
         with self._lock:
             if self.closed is not None:
                 return self.closed
             self._find_all()
             draws = any(kept.is_of_retry for kept in list(self._kept))
             if draws or any(retry.handle.held for retry in list(self._retries)) or not self._joins_all():
-                raise BudgetInUse(f"a retry under this {self.kind} is under way")
+                raise LimitInUse(f"a retry under this {self.kind} is under way")
             return self._root.total
 
     def _joins_all(self) -> bool:
         """Joins all passes into the first one, and closes it: False where a finalizer has begun a retry meanwhile."""
         parts = [part for part in list(self._parts) if part.handle.held]
         # (none of them is lent any more, also where this does not come to its end)
-        self._idle = []
+        self.idle = []
         try:
             for part in parts:
                 self._root.join(part)
@@ -291,11 +293,11 @@ class Passes:
         """A pass more, since all are in use."""
         with self.root() as root:
             part = Pass()
-            part.home = self._idle
+            part.home = self.idle
             self._parts.add(part)
             if root.split(part) is None:
                 self._parts.discard(part)
-                raise BudgetError(f"more threads draw on one {self.kind} at once than it has passes")
+                raise LimitError(f"more threads draw on one {self.kind} at once than it has passes")
             return part
 
     def __del__(self) -> None:
@@ -307,7 +309,10 @@ class Passes:
 
 
 class Ends(Protocol):
-    """What ends a retry of the engine, where it began."""
+    """What begins retries of the engine, and ends them where they began."""
+
+    def begin(self, machine: Machine, policy: PolicyHandle, deadline: int) -> None:
+        """Begins a retry in this machine, with a pass of its own, and a moment past which it plans no attempt."""
 
     def end(self, machine: Machine, hands_back: bool) -> None:
         """Takes the pass of the machine's retry back, with its tickets; the latest one is handed back where that is so,
@@ -317,28 +322,30 @@ class Ends(Protocol):
 class Grants(Protocol):
     """What the engine's retry draws on by itself: a budget, a quota of the same clock, or nothing."""
 
-    def begin_retry(self, machine: Machine, policy: PolicyHandle, deadline: int) -> Ends:
-        """Begins a retry in this machine, with a pass of its own, and a moment past which it plans no attempt; returns
-        what ends it."""
+    @property
+    def reads_clock(self) -> bool:
+        """Whether it draws at moments of its clock."""
 
-    def moment_of(self, clock: float) -> int:
-        """The moment at which a retry begins that begins at so many seconds of its clock."""
+    @property
+    def passes(self) -> Ends:
+        """What begins retries, and ends those that it began."""
 
 
 class Unlimited:
     """Nothing to draw on: the policy alone bounds the retry, or a `Drawing` does."""
 
-    __slots__ = ()
+    __slots__ = ("passes",)
 
-    def begin_retry(self, machine: Machine, policy: PolicyHandle, deadline: int) -> Unlimited:
+    reads_clock = False
+
+    def __init__(self) -> None:
+        self.passes: Ends = self
+
+    def begin(self, machine: Machine, policy: PolicyHandle, deadline: int) -> None:
         machine.begin_unlimited(policy, deadline)
-        return self
 
     def end(self, machine: Machine, hands_back: bool) -> None:
         machine.free()
-
-    def moment_of(self, clock: float) -> int:
-        return 0
 
 
 UNLIMITED = Unlimited()

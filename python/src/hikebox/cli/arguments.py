@@ -3,7 +3,7 @@
 from __future__ import annotations
 
 import argparse
-import difflib
+import os
 import sys
 import textwrap
 from itertools import groupby
@@ -26,7 +26,24 @@ class Once(argparse.Action):
         setattr(namespace, self.dest, values)
 
 
-class Layout(argparse.RawDescriptionHelpFormatter):
+def _columns() -> int:
+    """How wide the terminal is. (argparse asks `shutil`, which takes long to load.)"""
+    columns = os.environ.get("COLUMNS", "")
+    try:
+        return int(columns if columns.isdigit() and int(columns) else os.get_terminal_size(1).columns)
+    except OSError:
+        return 80
+
+
+class _Plain(argparse.HelpFormatter):
+    """A help as wide as the terminal."""
+
+    def __init__(self, prog: str, **how: Any) -> None:
+        how.setdefault("width", _columns() - 2)
+        super().__init__(prog, **how)
+
+
+class Layout(_Plain, argparse.RawDescriptionHelpFormatter):
     """A help whose prose is wrapped for the terminal. Lines that begin with a space stay as they are."""
 
     def _fill_text(self, text: str, width: int, indent: str) -> str:
@@ -44,9 +61,22 @@ class Parser(argparse.ArgumentParser):
     """
 
     prints: Callable[[str], int]
+    #: What adds the options of a command, once its name was read: the others are not loaded for it.
+    fills: Optional[Callable[[Any], None]] = None
 
     def __init__(self, **how: Any) -> None:
+        how.setdefault("formatter_class", _Plain)
         super().__init__(allow_abbrev=False, **how)
+
+    def fill(self) -> None:
+        """Adds its options."""
+        fills, self.fills = self.fills, None
+        if fills is not None:
+            fills(self)
+
+    def parse_known_args(self, *given: Any) -> Any:
+        self.fill()
+        return super().parse_known_args(*given)
 
     def read(self, words: Optional[List[str]]) -> Any:
         """The parsed command line. A word that nobody takes ends the program."""
@@ -86,5 +116,7 @@ class Parser(argparse.ArgumentParser):
 
 
 def _nearest(word: str, known: Iterable[str]) -> str:
+    import difflib
+
     near = difflib.get_close_matches(word, list(known), 1)
     return f"; did you mean {near[0]}?" if near else ""

@@ -1,20 +1,25 @@
-"""Limits on the command line: buckets and breakers that the runs of many processes share."""
+"""Limits on the command line: of one run, and those that the runs of many processes share."""
 
 from __future__ import annotations
 
+import os
 from typing import Dict, Optional
 
-from ..errors import BudgetError, TermsError
+from ..budget import Budget
+from ..budgets.limit import Limit
+from ..errors import LimitError, TermsError
+from ..leased import FileStore, Leased, LeasedQuota
 from ..leased.shared import SharedLimit
-from ..limits import Breaker, Bucket, Limit
+from ..limits import Breaker, Bucket, CallLimit
+from ..limits.kinds import times_of
 from ..policy import Policy
 from ..policy.builders import spaced
 from ..storms.limits import limit_of
-from .values import folder
+from .values import terms
 
 __all__ = ["SPELLINGS", "limit"]
 
-#: How each limit that runs can share is spelt, as on a storm.
+#: How each bucket or breaker that runs can share is spelt, as on a storm.
 SPELLINGS = (
     "aws, grpc:TOKENS/RATIO, bucket:CAPACITY/FLOOR/COST/LATE/DEBIT/CREDIT[+refund], breaker:FAILURES/PROBES/DEADLINE"
 )
@@ -26,39 +31,54 @@ _NOT_SHARED = {
 }
 
 
-def limit(text: str, open_for: Optional[Policy]) -> SharedLimit:
-    """The limit that all runs share which name it and its folder: `grpc:10/100@FOLDER`. A breaker is open for the waits
-    of this policy, or each time for 30 seconds.
+def limit(text: str, open_for: Optional[Policy]) -> Limit:
+    """The limit of a run, `N`, or one that all runs share which name it and its folder: `N@FOLDER`, a quota as
+    `10/20%/60s@FOLDER`, or `grpc:10/100@FOLDER`. A breaker is open for the waits of this policy, or each time for 30
+    seconds.
 
     >>> limit("throttle:2000/60000@/tmp/jobs", None)
     Traceback (most recent call last):
     ...
-    hikebox.errors.BudgetError: --limit: expected a bucket or a breaker, got 'throttle:2000/60000': it has two words, \
+    hikebox.errors.LimitError: --limit: expected a bucket or a breaker, got 'throttle:2000/60000': it has two words, \
 and a folder keeps one word of a limit
     """
     spelt, at, path = text.partition("@")
-    if not (at and path):
-        raise BudgetError(f"--limit: expected LIMIT@FOLDER, such as aws@/run/lock/jobs, got {text!r}")
+    is_number = spelt.isascii() and spelt.isdigit()
+    if not (path if at else is_number):
+        raise LimitError(f"--limit: expected N or LIMIT@FOLDER, such as 10/20%/60s@/run/lock/jobs, got {text!r}")
+    if open_for is not None:
+        if not spelt.startswith("breaker:"):
+            raise LimitError(f"--open: expected --limit breaker:.., got --limit {spelt}")
+        times_of(open_for, "--open")  # (which says what is wrong with it)
+    # (no shell expands a `~` behind the `@`)
+    store = FileStore(os.path.expanduser(path)) if at else None
+    try:
+        if store is None:
+            return Budget(int(spelt))
+        if is_number:
+            return Leased(store, "run", int(spelt), lease=1)
+        if spelt[:1].isdigit():
+            return LeasedQuota(store, "run", *terms(spelt), lease=1)
+        return SharedLimit(store, "run", _call_limit(spelt, open_for))
+    except TermsError as error:
+        raise LimitError(f"--limit: {error}, in {spelt!r}") from None
+
+
+def _call_limit(spelt: str, open_for: Optional[Policy]) -> CallLimit:
     kind = spelt.partition(":")[0]
     if kind in _NOT_SHARED:
-        raise BudgetError(f"--limit: expected a bucket or a breaker, got {spelt!r}: {_NOT_SHARED[kind]}")
-    if open_for is not None and kind != "breaker":
-        raise BudgetError(f"--open: expected --limit breaker:.., got --limit {spelt}")
+        raise LimitError(f"--limit: expected a bucket or a breaker, got {spelt!r}: {_NOT_SHARED[kind]}")
     try:
-        terms = limit_of(spelt)
+        numbers = dict(limit_of(spelt).numbers)
     except TermsError:
-        raise BudgetError(
-            f"--limit: expected one of {SPELLINGS} (ratios and a bucket's numbers in thousandths, the deadline in "
-            f"milliseconds), such as grpc:10/100, got {spelt[:300]!r}"
+        raise LimitError(
+            f"--limit: expected N, RESERVE/SHARE%/PERIOD, or one of {SPELLINGS} (ratios and a bucket's numbers in "
+            f"thousandths, the deadline in milliseconds), such as grpc:10/100, got {spelt[:300]!r}"
         ) from None
-    try:
-        made = _breaker(dict(terms.numbers), open_for) if kind == "breaker" else _bucket(dict(terms.numbers))
-    except TermsError as error:
-        raise BudgetError(f"--limit: {error}, in {spelt!r}") from None
-    return SharedLimit(folder(path), "run", made)
+    return _breaker(numbers, open_for) if kind == "breaker" else _bucket(numbers)
 
 
-def _bucket(numbers: Dict[str, int]) -> Limit:
+def _bucket(numbers: Dict[str, int]) -> CallLimit:
     tokens = {name: number / 1000 for name, number in numbers.items()}
     return Bucket(
         tokens["bucket_capacity"],
@@ -71,7 +91,7 @@ def _bucket(numbers: Dict[str, int]) -> Limit:
     )
 
 
-def _breaker(numbers: Dict[str, int], open_for: Optional[Policy]) -> Limit:
+def _breaker(numbers: Dict[str, int], open_for: Optional[Policy]) -> CallLimit:
     waits = spaced(30) if open_for is None else open_for
     deadline = numbers["deadline"] / 1000
     return Breaker(numbers["failures"], waits, probes=numbers["probes"], probe_deadline=deadline)

@@ -3,27 +3,20 @@
 from __future__ import annotations
 
 import argparse
-import logging
 import os
 import sys
 from itertools import repeat
-from typing import Any, Callable, Iterator, List, NoReturn, Optional, Set, Union
+from typing import Any, Callable, Dict, Iterator, List, NoReturn, Optional, Set, Tuple, Union
 
-from .._svg import MIN_WIDTH, MAX_WIDTH
+from .._svg import MAX_WIDTH, MIN_WIDTH
 from .._time import MAX_NUMBER, milliseconds
-from ..errors import BudgetError, Fault, PolicyError, StoreError, StormError
+from ..budgets.limit import Limit
+from ..errors import Fault, LimitError, PolicyError, StoreError, StormError
 from ..policy import Policy, builders
-from ..policy.picture import plan_picture
-from ..storms.axes import axes_text
-from ..storms.limits import LIMIT_FORMS
 from ..version import VERSION
 from . import values
 from .arguments import Layout, Once, Parser
-from .limits import SPELLINGS, limit
-from .run import MAX_OUTPUT, RunOptions, run_command
 from .seeded import seeded
-from .storm_command import result_of
-from .storm_options import add_storm_options
 from .streams import settle, tell, writes_utf_8
 
 __all__ = ["main"]
@@ -34,7 +27,8 @@ DEFAULT = "recurs(4) & exponential(1, 2).cap(30).jittered()"
 BAD_COMMAND_LINE, BAD_INPUT, BAD_STREAM, NO_MEMORY, NOT_FINISHED = 2, 3, 4, 5, 6
 MAX_BYTES = 1 << 20
 
-_RUN = f"""\
+#: What ends the help of `run` and of `storm`, with what is loaded for them alone.
+_RUN = """\
 Runs the command until it succeeds or no retry is left, and exits with the status of its last attempt. The status is 127
 or 126 if the command can't be run, 124 after a timeout, 75 if a limit did not admit the run, and 128 + N after death by
 signal N.
@@ -42,16 +36,18 @@ signal N.
 Each attempt is a process group of its own. When an attempt fails or takes too long, the whole group is ended before the
 next one begins: by SIGTERM, and after --kill-after by SIGKILL. SIGINT, SIGTERM, SIGHUP and SIGQUIT go to the whole
 group, and no further attempt is made; between two attempts they end hikebox. On a terminal the command is in the
-foreground.
+foreground. On macOS and Windows an attempt is the command alone: what that starts itself is not ended.
 
 The command has HIKEBOX_ATTEMPT, the number of the attempt from 1, and with a deadline, also of a run around this one,
 HIKEBOX_SECONDS_LEFT. A deadline does not end an attempt that is under way.
 
 A policy is the name of a JSON file, JSON, or an expression. By default it is
-  {DEFAULT}
+  {default}
 
-A limit is one of these, spelt as for `hikebox storm`:
-  {SPELLINGS.replace(", ", chr(10) + "  ")}
+A LIMIT is one of these. Buckets and breakers are spelt as for `hikebox storm`.
+  N: at most N retries
+  RESERVE/SHARE%/PERIOD: RESERVE retries in each PERIOD (60s, 1h), and a SHARE of the runs
+  {spellings}
 A bucket's numbers are thousandths of a token, and RATIO is in thousandths. LATE is the cost of a retry after a timeout.
 DEADLINE is in milliseconds. If a breaker refuses a run, the command is not started and the status is 75. Runs can't
 share the other limits of `hikebox storm`: a run that is killed would keep its place in flight for ever, and a throttle
@@ -60,12 +56,12 @@ has two words, of which a folder keeps one.
 examples:
   hikebox run -- curl --fail https://example.org
   hikebox run --policy 'recurs(9) & spaced(2)' --on 1-3 --timeout 30 -- ./job
-  hikebox run --budget 100@/run/lock/nightly -- ./job   # at most 100 retries over all runs that name the folder
-  hikebox run --quota 10/20%/1h@/run/lock/jobs -- ./job   # each hour 10 over all runs, and one for every five runs
+  hikebox run --limit 100@/run/lock/nightly -- ./job   # at most 100 retries over all runs that name the folder
+  hikebox run --limit 10/20%/1h@/run/lock/jobs -- ./job   # each hour 10 over all runs, and one for every five runs
   hikebox run --limit breaker:5/1/30000@/run/lock/jobs -- ./job   # no run for 30 s after 5 failures in a row
 """
 
-_STORM = f"""\
+_STORM = """\
 Plays a storm: requests come to a peer that fails for a while, and each retries by your policy. It makes no call and
 takes no time. Times are in milliseconds, except for --seconds and a quota's PERIOD. An expression has seconds.
 
@@ -74,12 +70,12 @@ which it begins. A call counts in the window in which it ends: it succeeded, was
 the queue was full, or was late because its client had given up. The status is 6 if a storm was cut by --calls.
 
 A LIMIT is one of these:
-{chr(10).join(f"  {form}" for form in LIMIT_FORMS)}
+{forms}
 A bucket's numbers are thousandths of a token, and LATE is the cost of a retry after a late call. RATIO and SHARE are in
 thousandths, DEADLINE and PERIOD in milliseconds.
 
 --sweep plays the storms for each value of a parameter, as NAME=FROM..TO/COUNT or NAME=A,B,C:
-{axes_text()}
+{axes}
 
 examples:
   hikebox storm 'recurs(8) & exponential(0.1, 2).cap(10).jittered(0, 1)'
@@ -107,7 +103,7 @@ def _does(words: Optional[List[str]]) -> int:
         return int(given.does(given))
     except PolicyError as error:
         return _fails(str(error), BAD_INPUT)
-    except (BudgetError, StoreError, StormError) as error:
+    except (LimitError, StoreError, StormError) as error:
         is_file = isinstance(error, StormError) and error.name == "scenario"
         return _fails(str(error), BAD_INPUT if is_file else BAD_COMMAND_LINE)
     except MemoryError:
@@ -135,29 +131,22 @@ def _parser() -> Parser:
     parser = Parser(prog="hikebox", description="Retries commands by policies, within limits.")
     parser.set_defaults(parser=parser)
     parser.add_argument("--version", action="version", version=f"hikebox {VERSION}")
-    commands = parser.add_subparsers(metavar="COMMAND")
-    for adds in (_add_run, _add_plan, _add_check, _add_storm, _add_lab):
-        adds(commands)
+    commands = parser.add_subparsers(metavar="COMMAND", prog="hikebox")
+    for name, (does, words, fills) in _COMMANDS.items():
+        usage = f"hikebox {name} [OPTION..] {words}" if words else None
+        command = commands.add_parser(name, help=does, usage=usage, formatter_class=Layout)
+        command.fills = fills
     return parser
 
 
-def _added(commands: Any, name: str, does: str, words: str, epilog: Optional[str] = None) -> Any:
-    """The parser of a command with options. Its help may end with a text of several lines."""
-    usage = f"hikebox {name} [OPTION..] {words}"
-    return commands.add_parser(name, help=does, usage=usage, epilog=epilog, formatter_class=Layout)
+def _fill_run(run: Any) -> None:
+    from .limits import SPELLINGS
+    from .run import MAX_OUTPUT
 
-
-def _add_run(commands: Any) -> None:
-    run = _added(commands, "run", "run a command until it succeeds", "-- COMMAND [WORD..]", _RUN)
+    run.epilog = _RUN.format(default=DEFAULT, spellings=SPELLINGS.replace(", ", "\n  "))
     run.add_argument("--policy", metavar="POLICY", default=DEFAULT, help="when to run it again")
-    bounds = run.add_mutually_exclusive_group()
-    bounds.add_argument(
-        "--budget", metavar="N[@FOLDER]", help="at most N retries; with FOLDER, over all runs that name it", action=Once
-    )
-    quota = "RESERVE retries in each PERIOD (60s, 1h) over all runs that name FOLDER, and a SHARE of the runs"
-    bounds.add_argument("--quota", metavar="RESERVE/SHARE%/PERIOD@FOLDER", help=quota.replace("%", "%%"), action=Once)
-    bucket = "a bucket or a breaker over all runs that name it and FOLDER (see below)"
-    bounds.add_argument("--limit", metavar="LIMIT@FOLDER", help=bucket, action=Once)
+    bound = "at most N retries of this run; or a limit over all runs that name it and FOLDER (see below)"
+    run.add_argument("--limit", metavar="N|LIMIT@FOLDER", help=bound, action=Once)
     open_for = "how long a breaker is open, each time that it opens (30 s); spelt as for --policy"
     run.add_argument("--open", metavar="POLICY", help=open_for, action=Once)
     run.add_argument("--on", metavar="CODES", type=values.statuses, help="retry only these statuses, such as 1,3-5")
@@ -177,8 +166,7 @@ def _add_run(commands: Any) -> None:
     run.set_defaults(does=_run, parser=run)
 
 
-def _add_plan(commands: Any) -> None:
-    plan = _added(commands, "plan", "play a policy and print what it does, in milliseconds", "[POLICY..]")
+def _fill_plan(plan: Any) -> None:
     several = f"{_POLICY}; - or nothing reads standard input; with several, a picture shows all of them"
     plan.add_argument("file", nargs="*", metavar="POLICY", help=several)
     plan.add_argument("--steps", type=values.number(4096), default=10, metavar="N", help="how many events at most (10)")
@@ -214,26 +202,29 @@ def _add_plan(commands: Any) -> None:
     plan.set_defaults(does=_plan, parser=plan)
 
 
-def _add_check(commands: Any) -> None:
-    check = commands.add_parser("check", help="say what a policy is, or where it is wrong")
+def _fill_check(check: Any) -> None:
     one = f"{_POLICY}; - or nothing reads standard input"
     check.add_argument("file", nargs="?", default="-", metavar="POLICY", help=one)
     check.set_defaults(does=_check, parser=check)
 
 
-def _add_storm(commands: Any) -> None:
-    does = "show what a policy does to a peer that fails for a while"
-    storm = _added(commands, "storm", does, "[POLICY..]", _STORM)
+def _fill_storm(storm: Any) -> None:
+    from ..storms.axes import axes_text
+    from ..storms.limits import LIMIT_FORMS
+    from .storm_options import add_storm_options
+
+    forms = "\n".join(f"  {form}" for form in LIMIT_FORMS)
+    storm.epilog = _STORM.format(forms=forms, axes=axes_text())
     add_storm_options(storm)
     compare = "play this policy too; you can give it again"
     storm.add_argument("--compare", metavar="POLICY", action="append", default=[], help=compare)
-    forms = storm.add_mutually_exclusive_group()
-    forms.add_argument("--csv", action="store_true", help="print the windows of one storm, or a sweep, as CSV")
+    printed = storm.add_mutually_exclusive_group()
+    printed.add_argument("--csv", action="store_true", help="print the windows of one storm, or a sweep, as CSV")
     shown = "print the windows and totals of one storm, a sweep, or what --find found, as JSON"
-    forms.add_argument("--json", action="store_true", help=shown)
-    forms.add_argument("--svg", metavar="FILE", help="write a picture to this file; - is standard output")
+    printed.add_argument("--json", action="store_true", help=shown)
+    printed.add_argument("--svg", metavar="FILE", help="write a picture to this file; - is standard output")
     shown = "print each window with a bar of its calls, in colour on a terminal unless NO_COLOR is set"
-    forms.add_argument("--bars", action="store_true", help=shown)
+    printed.add_argument("--bars", action="store_true", help=shown)
     columns = "the width of the picture, from 280 to 4000 (760), or of the lines of --bars, from 72 to 1000 (80)"
     storm.add_argument("--width", metavar="N", type=values.number(MAX_WIDTH, 72), help=columns)
     storm.add_argument("--detail", action="store_true", help="show in the picture why calls failed")
@@ -245,9 +236,7 @@ def _add_storm(commands: Any) -> None:
     storm.set_defaults(does=_storm, parser=storm)
 
 
-def _add_lab(commands: Any) -> None:
-    does = "serve a page on which you try policies and storms, on this machine, until Ctrl-C"
-    lab = _added(commands, "lab", does, "[LINK]")
+def _fill_lab(lab: Any) -> None:
     lab.add_argument(
         "link",
         nargs="?",
@@ -263,6 +252,20 @@ def _add_lab(commands: Any) -> None:
     lab.set_defaults(does=_lab, parser=lab)
 
 
+#: Each command: what it does, the words that it takes beside options, and what adds its options.
+_COMMANDS: Dict[str, Tuple[str, str, Callable[[Any], None]]] = {
+    "run": ("run a command until it succeeds", "-- COMMAND [WORD..]", _fill_run),
+    "plan": ("play a policy and print what it does, in milliseconds", "[POLICY..]", _fill_plan),
+    "check": ("say what a policy is, or where it is wrong", "", _fill_check),
+    "storm": ("show what a policy does to a peer that fails for a while", "[POLICY..]", _fill_storm),
+    "lab": (
+        "serve a page on which you try policies and storms, on this machine, until Ctrl-C",
+        "[LINK]",
+        _fill_lab,
+    ),
+}
+
+
 def _link(text: str) -> str:
     """A link of the page, also one that carries nothing."""
     if text and "#" not in text and not text.startswith(("http://127.0.0.1:", "http://localhost:")):
@@ -270,27 +273,32 @@ def _link(text: str) -> str:
     return text
 
 
-class _Told(logging.Handler):
+def _tell_warnings() -> None:
     """Tells what the package warns of on standard error, each thing once; how the retry ends the run says itself."""
+    import logging
 
-    def __init__(self) -> None:
-        super().__init__(logging.WARNING)
-        self.told: Set[str] = set()
+    told: Set[str] = set()
 
-    def emit(self, record: logging.LogRecord) -> None:
+    def emit(record: logging.LogRecord) -> None:
         line = record.getMessage()
-        if line not in self.told and not hasattr(record, "hikebox_ending"):
-            self.told.add(line)
+        if line not in told and not hasattr(record, "hikebox_ending"):
+            told.add(line)
             tell(f"hikebox: {line}\n")
+
+    handler = logging.Handler(logging.WARNING)
+    setattr(handler, "emit", emit)
+    logging.getLogger("hikebox").addHandler(handler)
 
 
 def _run(given: Any) -> int:
+    from .run import RunOptions, run_command
+
     command = given.command[1:] if given.command[:1] == ["--"] else given.command
     if not command or not command[0]:
         return _fails(f"run: expected a command, got {repr(command[0]) if command else 'none'}", BAD_COMMAND_LINE)
     options = RunOptions(
         policy=_policy(given.policy),
-        budget=_limit(given),
+        limit=_limit(given),
         on=given.on,
         timeout=given.timeout,
         grace=given.kill_after,
@@ -301,20 +309,22 @@ def _run(given: Any) -> int:
         last_output=given.last_output,
         max_output=given.output_limit,
     )
-    logging.getLogger("hikebox").addHandler(_Told())
+    _tell_warnings()
     try:
         return run_command(command, options)
     except OSError as error:
         return _fails(str(error.strerror), BAD_STREAM)
 
 
-def _limit(given: Any) -> Any:
+def _limit(given: Any) -> Optional[Limit]:
     """What the retries of a run draw on."""
+    from .limits import limit
+
     if given.limit is not None:
         return limit(given.limit, None if given.open is None else _policy(given.open))
     if given.open is not None:
-        raise BudgetError("--open: expected --limit breaker:.. too, got no --limit")
-    return values.budget(given.budget) if given.quota is None else values.quota(given.quota)
+        raise LimitError("--open: expected --limit breaker:.. too, got no --limit")
+    return None
 
 
 def _plan(given: Any) -> int:
@@ -330,6 +340,8 @@ def _plan(given: Any) -> int:
         return lambda: next(words) / 2**32
 
     if given.svg is not None:
+        from ..policy.picture import plan_picture
+
         return _writes(given.svg, plan_picture(*policies, steps=given.steps, random=random, width=given.width, **how))
     told = ""
     for policy in policies:
@@ -339,6 +351,8 @@ def _plan(given: Any) -> int:
 
 
 def _storm(given: Any) -> int:
+    from .storm_command import result_of
+
     result = result_of(given, _policy)
     status = _prints(result.text) if given.svg is None else _writes(given.svg, result.text)
     return _fails(_CUT, NOT_FINISHED) if result.is_cut and status == 0 else status
@@ -360,7 +374,7 @@ def _writes(name: str, text: str) -> int:
         writes_utf_8()
         return _prints(text)
     try:
-        with open(name, "w", encoding="utf-8") as file:
+        with open(name, "w", encoding="utf-8", newline="\n") as file:
             file.write(text)
         return 0
     except OSError as error:
@@ -416,7 +430,8 @@ def _policy(word: str) -> Policy:
 def _read(source: Union[int, str]) -> bytes:
     """The bytes of a file, or of standard input."""
     if source == 0 and os.isatty(0):
-        tell("hikebox: reading a policy as JSON from the terminal; Ctrl-D ends it\n")
+        ends = "Ctrl-Z and Enter end it" if os.name == "nt" else "Ctrl-D ends it"
+        tell(f"hikebox: reading a policy as JSON from the terminal; {ends}\n")
     try:
         with open(source, "rb", closefd=source != 0) as file:
             text = file.read(MAX_BYTES + 1)

@@ -7,7 +7,7 @@ from typing import Any, Dict, List, NamedTuple, Optional, Tuple
 
 from .._engine.calls import MAX_TICKETS
 from ..budgets.terms import terms_of
-from ..errors import BudgetError, PolicyError, StormError
+from ..errors import LimitError, PolicyError, StormError
 from ..policy import Policy
 from ..storms.limits import KINDS, limit_of
 from ..storms.parameters import RANGES, SCENARIOS, Limited, Parameters, RateSpan, Slow, Span
@@ -151,7 +151,7 @@ def _limit(place: str, limit: Any) -> Limited:
     if isinstance(limit, str):
         try:
             return limit_of(limit) if limit.partition(":")[0] in KINDS else terms_of(*terms(limit))
-        except BudgetError as error:
+        except LimitError as error:
             raise StormError(place, str(error)) from None
     if limit is None:
         return None

@@ -10,11 +10,11 @@ from typing import Any, Callable, List, NamedTuple, Optional, Sequence, Tuple
 from ..errors import StormError
 from ..limits.kinds import times_of
 from ..policy import Policy
-from ..storm import Storm
+from ..storms.storm import Storm
 from ..storms.axes import values_of
 from ..storms.bars import bars, has_colour
 from ..storms.cores import Told, play_all
-from ..storms.limits import LimitTerms
+from ..limits.terms import LimitTerms
 from ..storms.parameters import Parameters, limit_text, plural
 from ..storms.populations import Clients
 from ..storms.picture import storm_picture
@@ -85,7 +85,7 @@ def _open_times(given: Any, policy_of: PolicyOf) -> Optional[Tuple[int, ...]]:
         return None
     if not any(isinstance(limit, LimitTerms) and limit.times for limit in given.limits):
         raise StormError("open", "needs --limit breaker:..")
-    return tuple(times_of(policy_of(given.open)))
+    return tuple(times_of(policy_of(given.open), "open"))
 
 
 def _words(given: Any, scenario: Scenario) -> List[str]:

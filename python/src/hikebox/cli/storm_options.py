@@ -9,9 +9,10 @@ from typing import Any, List, NamedTuple, Optional, Tuple
 from .._engine.calls import MAX_TICKETS
 from .._svg import fitted
 from ..budgets.terms import Terms, terms_of
-from ..errors import BudgetError, TermsError
+from ..errors import LimitError, TermsError
 from ..storms.axes import MEASURES
-from ..storms.limits import KINDS, LimitTerms, limit_of
+from ..limits.terms import LimitTerms
+from ..storms.limits import KINDS, limit_of
 from ..storms.parameters import RANGES, Limited, Parameters, RateSpan, Slow, Span
 from ..storms.populations import MAX_PATIENCE, MAX_SHARE, look_at_shares
 from . import values
@@ -32,7 +33,7 @@ _HELP = {
     "replicas": "how many replicas the peer is, to which calls go in turn (1)",
     "down": "how many replicas refuse calls in the outage (all)",
     "window": "the length of a window of the report, in milliseconds (1000)",
-    "until": "when the storm ends, in milliseconds (a minute after the last request)",
+    "until": "when the storm ends, in milliseconds (60 s after --seconds)",
     "calls": "cut the storm after this many calls (16777216)",
     "words": "the seed of the random numbers (0)",
 }
@@ -65,11 +66,11 @@ def add_storm_options(storm: argparse.ArgumentParser) -> None:
     beside = (
         "clients who send PERCENT of the requests and retry by another POLICY, such as 30=recurs(3) or "
         "30@2000+limited=recurs(3); they wait PATIENCE milliseconds for a call, or as long as the others; with "
-        "+limited they draw on the same budget, quota or limit, if there is one; you can give it three times"
+        "+limited they draw on the same limit, if there is one; you can give it three times"
     )
     storm.add_argument("--beside", type=_beside, metavar=_BESIDE_FORM, action="append", default=[], help=beside)
     limits: Any = {"dest": "limits", "action": "append", "default": []}
-    budget = "limit all retries to N; each --budget and --quota is a storm of its own"
+    budget = "limit all retries to N; each limit that you give is a storm of its own"
     storm.add_argument("--budget", type=values.number(MAX_TICKETS), metavar="N", help=budget, **limits)
     quota = "limit the retries in each PERIOD to RESERVE and a SHARE of its requests, such as 10/10%/1s"
     shown = quota.replace("%", "%%")
@@ -121,11 +122,11 @@ def tickets_of(text: str) -> Limited:
         return limit_of(spelt)
     if spelt.isascii() and spelt.isdigit() and len(spelt) <= _MAX_TEXT:
         if int(spelt) > MAX_TICKETS:
-            raise BudgetError(f"expected a budget from 0 to {MAX_TICKETS}, got {spelt}")
+            raise LimitError(f"expected a budget from 0 to {MAX_TICKETS}, got {spelt}")
         return int(spelt)
     if "/" not in spelt or len(spelt) > _MAX_TEXT:
         wanted = "expected N, RESERVE/SHARE%/PERIOD or a limit, such as 10/10%/1s or grpc:100/100"
-        raise BudgetError(f"{wanted}, got {fitted(spelt, 300)!r}")
+        raise LimitError(f"{wanted}, got {fitted(spelt, 300)!r}")
     return terms_of(*values.terms(spelt))
 
 
@@ -183,5 +184,5 @@ def _limit(text: str) -> LimitTerms:
 def _quota(text: str) -> Terms:
     try:
         return terms_of(*values.terms(text))
-    except BudgetError as error:
+    except LimitError as error:
         raise argparse.ArgumentTypeError(str(error)) from None

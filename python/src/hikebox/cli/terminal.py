@@ -5,14 +5,20 @@ from __future__ import annotations
 import ctypes
 import os
 import signal
-from typing import Any, Dict, NamedTuple, NoReturn, Optional
+from typing import Any, Dict, NamedTuple, NoReturn, Optional, Tuple
 
-__all__ = ["Process", "Terminal", "processes"]
+__all__ = ["Process", "Terminal", "processes", "signals_of"]
+
+
+def signals_of(names: str) -> Tuple[signal.Signals, ...]:
+    """The signals of these names that the system has."""
+    return tuple(number for number in (getattr(signal, name, None) for name in names.split()) if number is not None)
+
 
 #: What the terminal sends to the processes in the foreground. Of SIGTSTP hikebox hears as its command stops.
-_SENT = frozenset({signal.SIGINT, signal.SIGQUIT, signal.SIGHUP})
+_SENT = frozenset(signals_of("SIGINT SIGQUIT SIGHUP"))
 #: Asks a witness to tell what it still has, and to end. Real-time signals come after all others.
-_ENOUGH = signal.SIGRTMIN + 5
+_ENOUGH = getattr(signal, "SIGRTMIN", 0) + 5
 #: prctl's PR_SET_PDEATHSIG: the signal of a process whose parent ends.
 _AT_PARENTS_DEATH = 1
 

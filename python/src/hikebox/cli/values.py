@@ -1,23 +1,17 @@
-"""Words of the command line: numbers, durations, exit statuses, budgets and quotas."""
+"""Words of the command line: numbers, durations, exit statuses and the terms of quotas."""
 
 from __future__ import annotations
 
 import argparse
-import os
 import re
-from typing import Callable, FrozenSet, List, Optional, Tuple, Union
+from typing import Callable, FrozenSet, List, Optional, Tuple
 
-from ..budget import Budget
-from ..errors import BudgetError
-from ..leased import FileStore, Leased, LeasedQuota
+from ..errors import LimitError
 
 __all__ = [
-    "budget",
     "duration",
-    "folder",
     "inputs",
     "number",
-    "quota",
     "size",
     "size_text",
     "span",
@@ -100,30 +94,6 @@ def statuses(text: str) -> FrozenSet[int]:
     return frozenset(found)
 
 
-def folder(path: str) -> FileStore:
-    """The store in the folder behind an `@`, where no shell expands a `~`."""
-    return FileStore(os.path.expanduser(path))
-
-
-def budget(text: Optional[str]) -> Union[Budget, Leased, None]:
-    """A budget of this run, `N`, or one that all runs with the same folder share, `N@FOLDER`."""
-    if text is None:
-        return None
-    tickets, at, path = text.partition("@")
-    if not (tickets.isascii() and tickets.isdigit()) or (at and not path):
-        raise BudgetError(f"--budget: expected N or N@FOLDER, got {text!r}")
-    return Leased(folder(path), "run", int(tickets), lease=1) if at else Budget(int(tickets))
-
-
-def quota(text: str) -> LeasedQuota:
-    """A quota that all runs with the same folder share: `10/20%/60s@FOLDER`."""
-    spelt, at, path = text.partition("@")
-    if not (at and path):
-        raise BudgetError(f"--quota: expected RESERVE/SHARE%/PERIOD@FOLDER, as 10/20%/60s@FOLDER, got {text!r}")
-    reserve, share, per = terms(spelt)
-    return LeasedQuota(folder(path), "run", reserve, share, per, lease=1)
-
-
 def span(text: str) -> Optional[float]:
     """The seconds of a time that is spelt with its unit, or None for another text.
 
@@ -148,7 +118,7 @@ def terms(text: str) -> Tuple[int, float, float]:
     >>> terms("1/500/100")
     Traceback (most recent call last):
     ...
-    hikebox.errors.BudgetError: '1/500/100' has no units: write 1/50000%/100s (retries a request, and seconds) or \
+    hikebox.errors.LimitError: '1/500/100' has no units: write 1/50000%/100s (retries a request, and seconds) or \
 1/50%/100ms (thousandths and milliseconds, as zsched reads it)
     """
     found = _SPELT.fullmatch(text)
@@ -160,11 +130,11 @@ def terms(text: str) -> Tuple[int, float, float]:
         reserve, share, count = bare.groups()
         ours = f"{reserve}/{_plain(float(share) * 100)}%/{count}s"
         theirs = f"{reserve}/{_plain(float(share) / 10)}%/{count}ms"
-        raise BudgetError(
+        raise LimitError(
             f"{text!r} has no units: write {ours} (retries a request, and seconds) or {theirs} (thousandths and "
             "milliseconds, as zsched reads it)"
         )
-    raise BudgetError(f"expected RESERVE/SHARE%/PERIOD, such as 10/20%/60s (units: ms, s, m, h, d), got {text!r}")
+    raise LimitError(f"expected RESERVE/SHARE%/PERIOD, such as 10/20%/60s (units: ms, s, m, h, d), got {text!r}")
 
 
 def _exact(value: float) -> float:

@@ -2,25 +2,27 @@
 
 from __future__ import annotations
 
-from typing import Any, Dict, List, NamedTuple, Optional, Sequence, Tuple
+from functools import partial
+from typing import Any, Callable, Dict, List, NamedTuple, Optional, Sequence, Tuple
 
 from .._svg import MIN_WIDTH, MAX_WIDTH
 from ..cli.storm_options import tickets_of
-from ..errors import BudgetError, StormError
+from ..errors import LimitError, StormError
 from ..policy import Policy
 from ..policy.picture import plan_picture
-from ..storm import Storm, play
 from ..storms.axes import AXES
 from ..storms.code import in_command, in_python, in_rust, in_scenario
 from ..storms.heads import names_of
 from ..storms.parameters import RANGES, Limited, Parameters, RateSpan, Slow, Span, plural
 from ..storms.picture import storm_picture
 from ..storms.populations import Clients
+from ..storms.storm import Storm
 from ..storms.sweep_picture import sweep_picture
 from ..storms.texts import population_sentences, recovery_mark, sentences, share_text
 from ..sweeps import swept
 from .cookbook import COOKBOOK
 from .faults import Marked, policy_in
+from .shares import Told, play_telling, silent
 from .stories import STORIES, Story
 
 __all__ = ["BadRequest", "plan_answer", "start_answer", "storm_answer", "sweep_answer"]
@@ -83,7 +85,7 @@ def plan_answer(asked: Json) -> Json:
     answer: Json = {"limit_fault": None}
     try:
         tickets_of(_text(asked, "limit"))
-    except BudgetError as error:
+    except LimitError as error:
         answer["limit_fault"] = str(error)
     if isinstance(found, Marked):
         answer["fault"] = found._asdict()
@@ -92,23 +94,26 @@ def plan_answer(asked: Json) -> Json:
     return answer
 
 
-def storm_answer(asked: Json) -> Json:
+def storm_answer(asked: Json, told: Told = silent) -> Json:
     """The storms of policies in one picture, each with its totals in words and its programs; None for what is none."""
     sides = _sides(asked)
     try:
         wanted = _wanted(asked, sides)
+        bounds = _bounds(_parameters(asked["storm"]))
     except StormError as error:
         return _fault(error)
-    storms = [None if each is None else play(*each) for each in wanted]
-    played = [storm for storm in storms if storm is not None]
+    played = play_telling([each for each in wanted if each is not None], told)
+    rest = iter(played)
+    storms = [None if each is None else next(rest) for each in wanted]
     if not played:
-        return {"sides": [None for _ in storms], "picture": "", "scenario": ""}
+        return {"sides": storms, "picture": "", "scenario": "", "bounds": bounds}
     names = [f"{letter}: {name}" for letter, name in zip(_letters(storms), names_of(played))]
     how: Any = {"width": _width(asked), "styled": False, "is_brief": asked.get("is_brief") is True}
     return {
         "sides": [None if storm is None else _shown(storm) for storm in storms],
         "picture": storm_picture(played, names=names, title="", **how),
         "scenario": in_scenario(played),
+        "bounds": bounds,
     }
 
 
@@ -126,7 +131,10 @@ def sweep_answer(asked: Json) -> Json:
         played = swept(storms, name, values, _letters(sides))
     except StormError as error:
         return _fault(error)
-    return {"picture": sweep_picture(played, ("succeeded",), width=_width(asked), title="", styled=False), "said": ""}
+    # (a side keeps its colour where the other one has no policy)
+    paints = [index for index, side in enumerate(sides) if side is not None]
+    how: Any = {"width": _width(asked), "title": "", "styled": False, "paints": paints}
+    return {"picture": sweep_picture(played, ("succeeded",), **how), "said": ""}
 
 
 def _values(name: str, parameters: Parameters) -> List[int]:
@@ -140,8 +148,46 @@ def _values(name: str, parameters: Parameters) -> List[int]:
 
 def _is_right(name: str, parameters: Parameters, value: int) -> bool:
     """Whether there is a storm with this value."""
+    return bool(value) and _is_played(AXES[name].put(parameters, value))
+
+
+def _bounds(parameters: Parameters) -> Dict[str, Tuple[int, int]]:
+    """From where to where a slider may go, by the numbers that the storm has beside it. The rate of the surge is a part
+    of `rates`."""
+    found = {}
+    for name in RANGES:
+        if getattr(parameters, name) is not None:
+            found[name] = _bounds_of(RANGES[name], getattr(parameters, name), partial(_put, parameters, name))
+    for surge in parameters.rates:
+        put = partial(_put_surge, parameters, surge)
+        found["rates2"] = _bounds_of((0, RANGES["rate"][1]), surge.rate, put)
+    return found
+
+
+def _put(parameters: Parameters, name: str, value: int) -> Parameters:
+    changed: Json = {name: value}
+    return parameters._replace(**changed)
+
+
+def _put_surge(parameters: Parameters, surge: RateSpan, rate: int) -> Parameters:
+    return parameters._replace(rates=(surge._replace(rate=rate),))
+
+
+def _bounds_of(within: Tuple[int, int], now: int, put: Callable[[int], Parameters]) -> Tuple[int, int]:
+    """The least and the greatest number of a storm that it still plays, where it plays the one that it has now."""
+    ends = []
+    for end in within:
+        right, wrong = (end, end) if _is_played(put(end)) else (now, end)
+        while abs(wrong - right) > 1:
+            between = (right + wrong) // 2
+            right, wrong = (between, wrong) if _is_played(put(between)) else (right, between)
+        ends.append(right)
+    return ends[0], ends[1]
+
+
+def _is_played(parameters: Parameters) -> bool:
     try:
-        return bool(value and AXES[name].put(parameters, value).checked())
+        return bool(parameters.checked())
     except StormError:
         return False
 
@@ -198,7 +244,7 @@ def _side(side: Json) -> Optional[_Side]:
     found = policy_in(_text(side, "text"))
     try:
         tickets = tickets_of(_text(side, "limit"))
-    except BudgetError:
+    except LimitError:
         return None
     return None if isinstance(found, Marked) else _Side(found, tickets, side.get("limited") is True)
 

@@ -106,6 +106,19 @@ function toSlider(control, value) {
   return Math.round(200 * Math.log(value / least) / Math.log(control.most / least));
 }
 
+// From where to where each number is played beside the others, by the latest answer.
+let bounds = {};
+
+// The slider of a number goes no further than the storm is played.
+function boundSlider(control) {
+  const slider = byId(idOf(control) + "-slider"), [least, most] = bounds[idOf(control)] || rangeOf(control);
+  const step = control.step || 1, first = control.step ? control.least || 0 : 0, last = control.step ? control.most : 200;
+  let from = first, to = last;
+  while (from < last && fromSlider(control, from) < least) from += step;
+  while (to > from && fromSlider(control, to) > most) to -= step;
+  Object.assign(slider, { min: from, max: to });
+}
+
 function makeControl(control) {
   const id = idOf(control);
   const box = document.createElement("div");
@@ -113,8 +126,7 @@ function makeControl(control) {
   const label = document.createElement("label");
   Object.assign(label, { htmlFor: id, id: id + "-label", textContent: control.label });
   const slider = document.createElement("input");
-  Object.assign(slider, { type: "range", id: id + "-slider", min: control.step ? control.least || 0 : 0,
-    max: control.step ? control.most : 200, step: control.step || 1 });
+  Object.assign(slider, { type: "range", id: id + "-slider", step: control.step || 1 });
   slider.setAttribute("aria-labelledby", label.id);
   const number = document.createElement("input");
   Object.assign(number, { type: "text", id, inputMode: "numeric", autocomplete: "off" });
@@ -146,6 +158,7 @@ function tell(input, place, fault) {
 
 function showControl(control, typed) {
   const id = idOf(control), value = valueOf(control), slider = byId(id + "-slider"), number = byId(id);
+  boundSlider(control);
   if (document.activeElement !== slider || typed !== number) slider.value = toSlider(control, value);
   if (typed !== number && number.getAttribute("aria-invalid") !== "true") number.value = value;
   slider.setAttribute("aria-valuetext", value.toLocaleString("en"));
@@ -310,7 +323,7 @@ async function play() {
   keepLink();
   if (playing) playing.abort();
   const mine = playing = new AbortController();
-  const slow = setTimeout(() => busy("Playing the storm; what you type or move breaks it off."), 1000);
+  const slow = setTimeout(() => { busy("Playing the storm; what you type or move breaks it off."); showDone(mine); }, 1000);
   try {
     const width = widthOf(byId("played"));
     const answer = await ask("storm", { page, turn: ++turns, sides: sidesAsked(), storm: stormAsked(), width, is_brief: width < WIDE }, mine.signal);
@@ -323,6 +336,18 @@ async function play() {
   }
 }
 
+// Shows the share of the storms that is played, where the lab can tell it.
+async function showDone(mine) {
+  const bar = byId("busy").querySelector("progress");
+  bar.removeAttribute("value");
+  while (playing === mine) {
+    const { done } = await ask("done", { page }, mine.signal).catch(() => ({ done: null }));
+    if (playing === mine && done !== null) bar.value = done;
+    byId("done").textContent = playing === mine && done !== null ? `about ${Math.floor(done * 100)} % done.` : "";
+    await new Promise((next) => { setTimeout(next, 300); });
+  }
+}
+
 function busy(said) {
   byId("busy").hidden = !said;
   say(byId("busy-said"), said);
@@ -331,6 +356,7 @@ function busy(said) {
 
 function showPlayed(answer) {
   const fault = answer.fault;
+  if (answer.bounds) { bounds = answer.bounds; CONTROLS.forEach(boundSlider); }
   say(byId("storm-fault"), fault && !CONTROLS.some((control) => control.name === fault.name) ? fault.said : "");
   // (a box that was changed since has a fault of its own)
   for (const control of CONTROLS.filter((control) => fault && control.name === fault.name && isShown(control))) {
@@ -372,10 +398,22 @@ function showSide(side, index) {
   }));
 }
 
+// What is wrong in the boxes, each with the name of the first box that it is told at.
+function faults() {
+  const told = new Map();
+  for (const box of document.querySelectorAll(".controls [aria-invalid=true]")) {
+    const said = byId(box.getAttribute("aria-describedby")).textContent, side = box.closest(".side:not(.beside)");
+    const names = [side && side.querySelector("h2").textContent, !box.matches("textarea") && box.labels[0].firstChild.textContent.trim()];
+    if (!told.has(said)) told.set(said, names.filter(Boolean).join(": "));
+  }
+  const storm = byId("storm-fault").textContent;
+  const sentences = [...told].map(([said, name]) => `${name}: ${said}`);
+  return [...sentences, ...(storm ? [storm] : [])].map((said) => said.endsWith("?") ? said : `${said}.`);
+}
+
 // Says that the picture is not of what stands in the boxes, where one of these is faulty or for this reason.
 function showStale(why = "") {
-  const isFaulty = document.querySelector(".controls [aria-invalid=true]") !== null;
-  const isDrawn = byId("played").firstChild !== null, said = why || (isFaulty ? "What is wrong is marked." : "");
+  const isDrawn = byId("played").firstChild !== null, said = why || faults().join(" ");
   say(byId("stale"), said && isDrawn ? `This picture shows the last valid input. ${said}` : said);
   for (const name of ["played", "swept"]) byId(name).classList.toggle("stale", Boolean(said));
 }

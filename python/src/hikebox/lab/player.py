@@ -1,5 +1,5 @@
-"""A process that plays storms for `hikebox lab`: a line of JSON in, a line of JSON out. It ends when nobody is there to
-ask it, also in the midst of a storm."""
+"""A process that plays storms for `hikebox lab`: a line of JSON in, a line of JSON out. While it plays, it also tells
+the share that is done, as `{"done":0.5}`. It ends when nobody is there to ask it, also in the midst of a storm."""
 
 from __future__ import annotations
 
@@ -8,6 +8,7 @@ import os
 import queue
 import sys
 import threading
+from typing import Any, Dict
 
 from .answers import BadRequest, storm_answer, sweep_answer
 
@@ -28,12 +29,20 @@ def _answer(asked: queue.SimpleQueue[bytes]) -> None:
         line = asked.get()
         try:
             given = json.loads(line)
-            answer = sweep_answer(given) if "along" in given else storm_answer(given)
+            answer = sweep_answer(given) if "along" in given else storm_answer(given, _tells)
         except BadRequest as error:
             answer = {"bad": str(error)}
         except MemoryError:
             answer = {"fault": {"name": "", "said": "there is no memory for a storm of this size"}}
         except Exception as error:
             answer = {"bad": f"{type(error).__name__}: {error}"}
-        sys.stdout.buffer.write(json.dumps(answer).encode() + b"\n")
-        sys.stdout.buffer.flush()
+        _says(answer)
+
+
+def _tells(share: float) -> None:
+    _says({"done": share})
+
+
+def _says(told: Dict[str, Any]) -> None:
+    sys.stdout.buffer.write(json.dumps(told).encode() + b"\n")
+    sys.stdout.buffer.flush()

@@ -3,27 +3,21 @@
 from __future__ import annotations
 
 import json
-import os
-import select
+import queue
 import subprocess
 import sys
 import threading
 from pathlib import Path
 from typing import Any, Callable, Dict, List
 
-__all__ = ["BrokenOff", "Players", "is_readable"]
+from .shares import Told, silent
+
+__all__ = ["BrokenOff", "Players"]
 
 #: What such a process runs, with the folder that the package is in, should it not find that by itself.
 _PROGRAM = "import sys; sys.path.append(sys.argv[1]); from hikebox.lab.player import main; main()"
 #: How often is looked whether a storm is still wanted, in seconds.
 _TICK = 0.05
-
-
-def is_readable(descriptor: int, seconds: float) -> bool:
-    """Whether there is something to read, or an end, within so many seconds."""
-    poll = select.poll()
-    poll.register(descriptor, select.POLLIN)
-    return bool(poll.poll(seconds * 1000))
 
 
 class BrokenOff(Exception):
@@ -41,30 +35,43 @@ class _Player:
             cwd="/",
             start_new_session=True,
         )
+        self._said: queue.SimpleQueue[bytes] = queue.SimpleQueue()
+        self._reader = threading.Thread(target=self._read, daemon=True)
+        self._reader.start()
 
-    def ask(self, asked: Dict[str, Any], is_wanted: Callable[[], bool]) -> Dict[str, Any]:
-        """The answer, as long as it is wanted."""
-        stdin, stdout = self.process.stdin, self.process.stdout
-        assert stdin is not None and stdout is not None
+    def ask(self, asked: Dict[str, Any], is_wanted: Callable[[], bool], told: Told) -> Dict[str, Any]:
+        """The answer, as long as it is wanted. Meanwhile it is told the share of what is done."""
+        assert self.process.stdin is not None
         try:
-            stdin.write(json.dumps(asked).encode() + b"\n")
-            stdin.flush()
+            self.process.stdin.write(json.dumps(asked).encode() + b"\n")
+            self.process.stdin.flush()
         except OSError:
             raise BrokenOff from None
-        said = b""
-        while not said.endswith(b"\n"):
-            if is_readable(stdout.fileno(), _TICK):
-                more = os.read(stdout.fileno(), 1 << 16)
-                if not more:
-                    raise BrokenOff
-                said += more
-            elif not is_wanted():
+        while True:
+            try:
+                line = self._said.get(timeout=_TICK)
+            except queue.Empty:
+                if not is_wanted():
+                    raise BrokenOff from None
+                continue
+            if not line:
                 raise BrokenOff
-        answer: Dict[str, Any] = json.loads(said)
-        return answer
+            answer: Dict[str, Any] = json.loads(line)
+            if "done" not in answer:
+                return answer
+            told(answer["done"])
+
+    def _read(self) -> None:
+        """Reads what it says, up to an end, which is no line. (Windows waits for no pipe beside something else.)"""
+        stdout = self.process.stdout
+        assert stdout is not None
+        for line in stdout:
+            self._said.put(line)
+        self._said.put(b"")
 
     def end(self) -> None:
         self.process.kill()
+        self._reader.join()
         self.process.communicate()
 
 
@@ -78,21 +85,21 @@ class Players:
         self._busy: List[_Player] = []
         self._closed = False
 
-    def play(self, asked: Dict[str, Any], is_wanted: Callable[[], bool]) -> Dict[str, Any]:
+    def play(self, asked: Dict[str, Any], is_wanted: Callable[[], bool], told: Told = silent) -> Dict[str, Any]:
         """The answer to a storm, or a `BrokenOff` once it is not wanted any more."""
         while not self._places.acquire(timeout=_TICK):
             if not is_wanted():
                 raise BrokenOff
         try:
-            return self._play(asked, is_wanted)
+            return self._play(asked, is_wanted, told)
         finally:
             self._places.release()
 
-    def _play(self, asked: Dict[str, Any], is_wanted: Callable[[], bool]) -> Dict[str, Any]:
+    def _play(self, asked: Dict[str, Any], is_wanted: Callable[[], bool], told: Told) -> Dict[str, Any]:
         player = self._lend()
         done = False
         try:
-            answer = player.ask(asked, is_wanted)
+            answer = player.ask(asked, is_wanted, told)
             done = True
             return answer
         finally:

@@ -21,7 +21,7 @@ from urllib.parse import quote
 from .._svg import STYLE
 from ..cli.streams import named
 from .answers import BadRequest, plan_answer, start_answer
-from .players import BrokenOff, Players, is_readable
+from .players import BrokenOff, Players
 
 __all__ = ["Lab", "run_lab"]
 
@@ -58,6 +58,8 @@ class Lab(ThreadingHTTPServer):
         self.players = Players(max(2, min(4, os.cpu_count() or 2)))
         #: The latest storm of each page.
         self._latest: Dict[str, int] = {}
+        #: How much of it is played, from 0 to 1, where that can be told.
+        self.done: Dict[str, float] = {}
         self._lock = threading.Lock()
         super().__init__(("127.0.0.1", port), _Handler)
 
@@ -76,6 +78,7 @@ class Lab(ThreadingHTTPServer):
         with self._lock:
             if len(self._latest) > 1000:
                 self._latest.clear()
+                self.done.clear()
             latest = self._latest.get(page, 0)
             number = latest + 1 if turn is None else turn
             self._latest[page] = max(latest, number)
@@ -138,14 +141,27 @@ class _Handler(BaseHTTPRequestHandler):
                 raise BadRequest("turn: expected a whole number")
             if (name == "sweep") != ("along" in asked):
                 raise BadRequest("along: expected a parameter of a sweep alone")
-            is_newest = self.server.newest(f"{name} {page}", turn)
-            if not is_newest():
-                raise BrokenOff
-            answer = self.server.players.play(asked, lambda: is_newest() and not self._is_gone())
-            if "bad" in answer:
-                raise BadRequest(answer["bad"])
-            return answer
+            return self._played(asked, self.server.newest(f"{name} {page}", turn))
+        if name == "done":
+            return {"done": self.server.done.get(str(asked.get("page")))}
         return None
+
+    def _played(self, asked: Dict[str, Any], is_newest: Callable[[], bool]) -> Dict[str, Any]:
+        """The answer to a storm or a sweep, as long as it is the latest one of its page."""
+        page, done = asked["page"], self.server.done
+
+        def told(share: float) -> None:
+            if is_newest():
+                done[page] = share
+
+        if not is_newest():
+            raise BrokenOff
+        if "along" not in asked:
+            done.pop(page, None)
+        answer = self.server.players.play(asked, lambda: is_newest() and not self._is_gone(), told)
+        if "bad" in answer:
+            raise BadRequest(answer["bad"])
+        return answer
 
     def _name(self) -> Optional[str]:
         """What is asked for, where who asks is the page; otherwise it is refused."""
@@ -200,12 +216,16 @@ class _Handler(BaseHTTPRequestHandler):
 
     def _is_gone(self) -> bool:
         """Whether who asked has closed the connection."""
-        if not is_readable(self.connection.fileno(), 0):
-            return False
+        timeout = self.connection.gettimeout()
+        self.connection.settimeout(0.0)
         try:
             return not self.connection.recv(1, socket.MSG_PEEK)
+        except BlockingIOError:
+            return False
         except OSError:
             return True
+        finally:
+            self.connection.settimeout(timeout)
 
     def log_message(self, format: str, *args: Any) -> None:
         """Nothing: the page is for one person."""
@@ -213,7 +233,8 @@ class _Handler(BaseHTTPRequestHandler):
 
 def run_lab(port: int = 0, link: str = "", opens: bool = True) -> int:
     """Serves the page until Ctrl-C: the exit status. `link` is one of another run, whose part after the `#` is kept."""
-    signal.signal(signal.SIGPIPE, signal.SIG_IGN)
+    if hasattr(signal, "SIGPIPE"):  # which Windows lacks
+        signal.signal(signal.SIGPIPE, signal.SIG_IGN)
     for number in (signal.SIGINT, signal.SIGTERM):
         signal.signal(number, _interrupts)
     lab = Lab(port)
@@ -239,7 +260,8 @@ def _door(folder: Path, address: str) -> Path:
     which all can read, names the file, and not the address with its secret."""
     door = folder / "open.html"
     door.write_text(
-        f'<!DOCTYPE html><title>Hikebox lab</title><meta http-equiv="refresh" content="0; url={escape(address)}">\n'
+        f'<!DOCTYPE html><title>Hikebox lab</title><meta http-equiv="refresh" content="0; url={escape(address)}">\n',
+        encoding="utf-8",
     )
     return door
 
@@ -250,4 +272,5 @@ def _interrupts(*_: Any) -> None:
 
 def _has_screen() -> bool:
     """Whether there is a screen for a browser, or one was named."""
-    return any(os.environ.get(name) for name in ("DISPLAY", "WAYLAND_DISPLAY", "BROWSER"))
+    has_own = sys.platform in ("darwin", "win32")
+    return has_own or any(os.environ.get(name) for name in ("DISPLAY", "WAYLAND_DISPLAY", "BROWSER"))

@@ -5,7 +5,7 @@
 >>> folder = tempfile.TemporaryDirectory()
 >>> store = FileStore(folder.name + "/budgets")
 >>> budget = Leased(store, "nightly", limit=1000)
->>> @retry(recurs(3), budget=budget)
+>>> @retry(recurs(3), limit=budget)
 ... def fetch():
 ...     return "fetched"
 >>> fetch()
@@ -13,7 +13,7 @@
 >>> budget.draw()
 <Ticket 0>
 >>> quota = LeasedQuota(store, "payments", reserve=100, share=0.2, per=10)
->>> @retry(recurs(3), budget=quota)
+>>> @retry(recurs(3), limit=quota)
 ... def pay():
 ...     return "paid"
 >>> pay()

@@ -7,22 +7,27 @@ import os
 import re
 import secrets
 import time
-from typing import Callable, Iterator, Optional, TypeVar, Union
+from collections import OrderedDict
+from typing import Callable, Iterator, Optional, Tuple, TypeVar, Union
 
 from .._engine.leasing import Stored, lease_of_budget, lease_of_quota
 from .._engine.structs import Kept
 from .._forks import no_fork
 from ..budgets.terms import Terms
 from ..errors import StoreError, StoreLost
+from .machine import has_locks, shared_uptime, this_boot
 from .slots import NO_BOOT, Copy, Slot, make_slot, slot_path, sync_folder, unpack
 from .stores import Present, QuotaRange, Range, checked_name, checked_seconds, present_window
 
-__all__ = ["FileStore", "shared_uptime"]
+__all__ = ["FileStore"]
 
 T = TypeVar("T")
 
-#: How often in a row a slot may be deleted while it is opened.
+#: How often a slot or its folder may be deleted while it is opened, however long that takes. A folder that can't be
+#: made so often in a row can't be there at all.
 _TRIES = 100
+#: Of how many names a store keeps what it has seen.
+_MOST_SEEN = 10_000
 
 
 class FileStore:
@@ -32,14 +37,18 @@ class FileStore:
     change of that file under its lock (`flock`). For a budget without windows the change is on the disk before the
     lease is granted. Windows follow the machine's uptime, so a clock that is set or wrong changes nothing, nor does the
     time namespace of a container. The folder must be on a local disk. If you delete it, all its budgets and quotas
-    begin anew. A damaged file grants nothing (`StoreLost`).
+    begin anew. A damaged file grants nothing (`StoreLost`), nor does one that counts less than this store has seen.
 
     `patience` is how many seconds a lease waits for the lock. A relative path becomes absolute when the store is made.
     """
 
     def __init__(self, path: Union[str, os.PathLike[str]], *, patience: float = 5.0) -> None:
+        if not has_locks():
+            raise StoreError("a FileStore needs the file locks of Linux or macOS; on this system share by a RedisStore")
         self.path = _checked_path(path)
         self.patience = checked_seconds("patience", patience)
+        #: The highest count seen by the key of each file: the number of the file, the window, and its count.
+        self._seen: OrderedDict[bytes, Tuple[int, int, int]] = OrderedDict()
         self._look_at_path()
 
     def __repr__(self) -> str:
@@ -52,12 +61,12 @@ class FileStore:
             return self._take_of_all(name, count, limit)
         with self._locked(f"windows of {period} ms of {name}") as slot:
             present, boot = _present(period, clock), this_boot()
-            stored = slot.read().stored(boot)
+            stored = self._stored(slot, present.number, boot)
             granted = lease_of_budget(limit, present.number, count, stored)
             if granted is None:
                 return Range(0, 0, present.until, present.number, lost=True)
             if granted.tickets:
-                slot.write(boot, stored)
+                self._keep(slot, boot, stored)
             return Range(granted.first, granted.tickets, present.until, present.number)
 
     def take_of_quota(
@@ -67,7 +76,7 @@ class FileStore:
         checked_name(name)
         with self._locked(f"quota of {terms.period} ms of {name}") as slot:
             present, boot = _present(terms.period, clock), this_boot()
-            number, stored = present.number, slot.read().stored(boot)
+            number, stored = present.number, self._stored(slot, present.number, boot)
             # comes to the window before any request is told, as none is where the file has a later one
             if lease_of_quota(terms, number, 0, 0, stored) is None:
                 return QuotaRange(0, 0, present.until, number, 0, lost=True)
@@ -75,18 +84,42 @@ class FileStore:
             granted = lease_of_quota(terms, number, told, count, stored)
             assert granted is not None
             if told or granted.tickets:
-                slot.write(boot, stored)
+                self._keep(slot, boot, stored)
             return QuotaRange(granted.first, granted.tickets, present.until, number, stored.asked)
 
     def _take_of_all(self, name: str, count: int, limit: int) -> Range:
         """A range of a budget without windows."""
         with self._locked(f"budget {name}", to_disk=True) as slot:
-            stored = Stored(given=slot.read().given)
+            stored = self._stored(slot, 0, None)
             granted = lease_of_budget(limit, 0, count, stored)
             assert granted is not None
             if granted.tickets:
-                slot.write(NO_BOOT, stored)
+                self._keep(slot, NO_BOOT, stored)
             return Range(granted.first, granted.tickets, None)
+
+    def _stored(self, slot: Slot, window: int, boot: Optional[bytes]) -> Stored:
+        """What a slot keeps, of this start of the machine where that is said. A `StoreLost` where this store has seen a
+        higher count of the window in the same file: then an older copy was put in its place."""
+        copy = slot.read()
+        stored = Stored(given=copy.given) if boot is None else copy.stored(boot)
+        if stored.window > window:  # the present one's count is lost
+            return stored
+        counted = stored.given if stored.window == window else 0
+        file, seen_window, seen = self._seen.get(slot.key, (copy.file, window, 0))
+        if (file, seen_window) == (copy.file, window) and counted < seen:
+            found = f"got {counted} of an older copy; to begin anew, delete the file"
+            raise StoreLost(f"{slot.path}: expected a count of {seen} or more, {found}")
+        self._sees(slot, copy.file, window, counted)
+        return stored
+
+    def _keep(self, slot: Slot, boot: bytes, stored: Stored) -> None:
+        slot.write(boot, stored)
+        self._sees(slot, slot.file, stored.window, stored.given)
+
+    def _sees(self, slot: Slot, file: int, window: int, given: int) -> None:
+        self._seen[slot.key] = (file, window, given)
+        if len(self._seen) > _MOST_SEEN:
+            self._seen.popitem(last=False)
 
     def step(self, key: str, of_this_boot: bool, step: Callable[[Kept], T]) -> T:
         """One step of the limit of this key, which changes what is kept of it. What is kept is of this start of the
@@ -116,13 +149,17 @@ class FileStore:
             raise StoreError(f"{path}: {error.strerror}") from error
 
     def _open(self, path: str, key: bytes, to_disk: bool) -> Slot:
-        for _ in range(_TRIES):
+        turns, unmade, given_up_at = 0, 0, time.monotonic() + self.patience
+        while turns < _TRIES or time.monotonic() < given_up_at:
+            turns += 1
             try:
                 slot = Slot(path, key, to_disk)
             except FileNotFoundError:
                 if os.path.islink(path):
                     raise StoreLost(f"{path}: expected a slot, got a link to nothing") from None
-                self._make(path, key, to_disk)
+                unmade = 0 if _has_folder(path, is_last=unmade + 1 == _TRIES) else unmade + 1
+                if not unmade:
+                    self._make(path, key, to_disk)
                 continue
             try:
                 if slot.lock(self.patience):
@@ -135,20 +172,29 @@ class FileStore:
         raise StoreError(f"{path}: it was deleted again and again")
 
     def _make(self, path: str, key: bytes, to_disk: bool) -> None:
-        folder = os.path.dirname(path)
-        os.makedirs(folder, exist_ok=True)
         # (the folder was deleted just now; or a child, which a signal's handler forked, writes beside it by this name)
         with contextlib.suppress(FileNotFoundError, FileExistsError):
             make_slot(path, _nothing_counted(key), to_disk)
             if to_disk:
                 sync_folder(self.path)
-            _prune(folder, os.path.basename(path))
+            _prune(os.path.dirname(path), os.path.basename(path))
 
     def _look_at_path(self) -> None:
         if os.path.isfile(self.path):
             raise StoreError(
                 f"{self.path}: expected a folder, got a file. Counts are kept in a folder now; name another path."
             )
+
+
+def _has_folder(path: str, is_last: bool) -> bool:
+    """Makes a slot's folder: False where it was deleted meanwhile, or can't be made. The last time raises the error."""
+    try:
+        os.makedirs(os.path.dirname(path), exist_ok=True)
+    except (FileNotFoundError, FileExistsError):
+        if is_last:
+            raise
+        return False
+    return True
 
 
 def _checked_path(path: Union[str, os.PathLike[str]]) -> str:
@@ -180,48 +226,10 @@ _WINDOWS = re.compile(rb"(?:windows|quota) of (\d+) ms of ")
 
 def _nothing_counted(key: bytes) -> Copy:
     """The first counts of this key: of the present window, where it has windows."""
-    found = _WINDOWS.match(key)
+    found, file = _WINDOWS.match(key), secrets.randbits(32)
     if found is None:
-        return Copy(key, 0, 0, 0, 0, NO_BOOT)
-    return Copy(key, 0, shared_uptime() // (int(found[1]) * 10**6), 0, 0, this_boot())
-
-
-def shared_uptime() -> int:
-    """Nanoseconds since the machine started, by the clock that all its processes share. That of a process in a time
-    namespace is shifted."""
-    return time.clock_gettime_ns(time.CLOCK_BOOTTIME) - _shift()
-
-
-def _shift() -> int:
-    """By how many nanoseconds this process's clock is ahead of the machine's."""
-    try:
-        offsets = _content("/proc/self/timens_offsets")
-    except FileNotFoundError:  # a kernel without time namespaces
-        return 0
-    for line in offsets.splitlines():
-        clock, seconds, nanos = line.split()
-        if clock in (b"boottime", b"7"):  # (the first kernels with time namespaces wrote the clock's number)
-            return int(seconds) * 10**9 + int(nanos)
-    return 0
-
-
-#: Linux's name of this start of the machine. A chroot without /proc has none.
-_BOOT_ID = "/proc/sys/kernel/random/boot_id"
-
-
-def this_boot() -> bytes:
-    """A name of this start of the machine."""
-    try:
-        return _content(_BOOT_ID)[:36]
-    except OSError as error:
-        raise StoreError(f"{_BOOT_ID}: {error.strerror}") from error
-
-
-def _content(path: str) -> bytes:
-    """What a small file has."""
-    with open(path, "rb", buffering=0) as file:
-        # (by its place: a child that a signal's handler forks in here reads the same open file)
-        return os.pread(file.fileno(), 4096, 0)
+        return Copy(key, 0, 0, 0, 0, NO_BOOT, file)
+    return Copy(key, 0, shared_uptime() // (int(found[1]) * 10**6), 0, 0, this_boot(), file)
 
 
 #: At how many other files a lease looks that makes a new one.

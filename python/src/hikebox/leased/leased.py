@@ -11,7 +11,8 @@ from ..budgets.terms import CountsRequests, Terms, requests_of, terms_of, ticket
 from ..errors import StoreError, TermsError
 from ..quota import Usage
 from .leases import Leases
-from .stores import QuotaRange, QuotaStore, Range, Store, checked_store, uptime
+from .machine import uptime
+from .stores import QuotaRange, QuotaStore, Range, Store, checked_store
 
 __all__ = ["Leased", "LeasedQuota"]
 
@@ -30,7 +31,8 @@ class Leased(Leases):
         How many tickets this process may draw beyond the limit while the store can't be reached: in all, or with `per`
         in each window.
     `again_after`
-        How many seconds to wait before asking a store again that could not be reached.
+        How many seconds to wait before asking a store again that could not be reached; and without `per` also one that
+        had no ticket left, since the budget may begin anew.
     """
 
     def __init__(

@@ -6,13 +6,15 @@ import contextlib
 import logging
 import math
 import threading
+import time
 from typing import Any, Awaitable, Callable, ClassVar, List, Optional, Tuple, Union
 
 from .._engine.calls import MAX_TICKETS
-from .._engine.leasing import Grant, LeasedPass, LeasedTicket
+from .._engine.leasing import BACKWARDS, HELD_ALREADY, Grant, LeasedPass, LeasedTicket
 from .._forks import begins_anew_in_a_child
-from .._time import MAX_NUMBER, FLOAT_ERROR
+from .._time import MAX_NUMBER
 from ..budgets.drawing import Drawing
+from ..budgets.limit import Limit
 from ..budgets.terms import tickets_of
 from ..budgets.tickets import Refusal, RefusalReason, Ticket, checked_ticket
 from ..errors import StoreError, StoreLost, TicketError
@@ -22,15 +24,18 @@ __all__ = ["Leases", "Moments"]
 
 logger = logging.getLogger("hikebox")
 
-#: How many leases in a row may be over before a ticket is drawn of them.
+#: How many leases in a row may be over when they come.
 _TRIES = 3
 
-#: The engine's moment at which a process begins. Its clock may go back by as many milliseconds.
-_BEGINS = 2**40
+#: The engine's moment at which a process begins. Its clock may go back by as many microseconds, 35 years.
+_BEGINS = 2**50
+
+#: So many moments a float of seconds may be off: a nanosecond.
+_FLOAT_ERROR = 1e-3
 
 
 class Moments:
-    """The engine's moments beside the seconds of a clock."""
+    """The engine's moments, which are microseconds here, beside the seconds of a clock."""
 
     __slots__ = ("_clock", "_origin")
 
@@ -39,27 +44,27 @@ class Moments:
         self._origin = clock()
 
     def now(self) -> int:
-        """The last whole millisecond that has begun."""
+        """The last whole microsecond that has begun."""
         return self.of(self._clock())
 
     def of(self, seconds: Optional[float]) -> int:
-        """The millisecond that these seconds of the clock are in; the last one for None."""
+        """The microsecond that these seconds of the clock are in; the last one for None."""
         if seconds is None:
             return MAX_NUMBER
-        return max(0, min(MAX_NUMBER, math.floor((seconds - self._origin) * 1000 + FLOAT_ERROR) + _BEGINS))
+        return max(0, min(MAX_NUMBER, math.floor((seconds - self._origin) * 1e6 + _FLOAT_ERROR) + _BEGINS))
 
     def after(self, seconds: Optional[float]) -> int:
-        """The first whole millisecond that does not begin before these seconds; the last one for None."""
+        """The first whole microsecond that does not begin before these seconds; the last one for None."""
         if seconds is None:
             return MAX_NUMBER
-        return max(0, min(MAX_NUMBER, math.ceil((seconds - self._origin) * 1000 - FLOAT_ERROR) + _BEGINS))
+        return max(0, min(MAX_NUMBER, math.ceil((seconds - self._origin) * 1e6 - _FLOAT_ERROR) + _BEGINS))
 
     def seconds(self, moment: int) -> Optional[float]:
         """The seconds of the clock at which a moment begins, or None for the last one."""
-        return None if moment >= MAX_NUMBER else (moment - _BEGINS) / 1000 + self._origin
+        return None if moment >= MAX_NUMBER else (moment - _BEGINS) / 1e6 + self._origin
 
 
-class Leases:
+class Leases(Limit):
     """Tickets that all processes with the same store and name share. Threads may share it too."""
 
     #: Whether a ticket that was not used comes back.
@@ -93,9 +98,11 @@ class Leases:
         self.is_asking = False
         self.moments = Moments(self.clock)
         #: What was leased, and what is drawn while the store can't be reached, in windows of the process's own.
-        self.leased = LeasedPass(self.millis or 0)
-        self._spared = LeasedPass(self.millis or 0)
+        self.leased = self._holds_nothing()
+        self._spared = self._holds_nothing()
         self._spares = 0
+        #: How many seconds later the window of the latest lease is over, where that lease came too late.
+        self._waits: Optional[float] = None
         #: What was leased before the store began anew.
         self._past: List[LeasedPass] = []
         #: Why the store grants nothing, where that is not since all is used up; and what it raised.
@@ -104,12 +111,16 @@ class Leases:
         #: What is to be logged once the lock is given up: what handles the log may draw too, on any thread.
         self._notes: List[Tuple[Any, ...]] = []
 
+    def _holds_nothing(self) -> LeasedPass:
+        return LeasedPass(min(MAX_NUMBER, (self.millis or 0) * 1000))
+
     def _take(self) -> Range:
         """A range from the store."""
         raise NotImplementedError
 
     def _granted_none(self, found: Range) -> None:
-        """The store has no ticket left. It is left alone until the window ends, where this does nothing else."""
+        """The store has no ticket left. It is left alone until the window ends, or without windows for `again_after`
+        seconds, where this does nothing else."""
 
     def _is_worth_asking(self) -> bool:
         """Whether the store is asked though it was to be left alone."""
@@ -195,8 +206,8 @@ class Leases:
 
     def _drawn_anew(self) -> Union[Ticket, Refusal]:
         """A ticket: what another thread leased meanwhile, or of a new lease, or one without the store."""
-        tries = 0
-        while tries < _TRIES:
+        late = 0
+        while late < _TRIES:
             generation = self.generation
             found = self._at_hand()
             if isinstance(found, Ticket):
@@ -208,13 +219,18 @@ class Leases:
                 continue
             if not may_ask or not self._lease():
                 break
-            tries += 1
+            if self._waits is not None:
+                late += 1
+                time.sleep(self._waits)
         else:
             self.leave_alone()
         found = self._at_hand()
         if isinstance(found, Ticket):
             return found
-        return self._spare_one() or Refusal(self._reason, self.moments.seconds(found), self._error)
+        # (a budget without windows is asked again too, since it may begin anew, but promises nothing)
+        is_over = self.millis is None and self._reason is RefusalReason.USED_UP
+        again_at = None if is_over else self.moments.seconds(found)
+        return self._spare_one() or Refusal(self._reason, again_at, self._error)
 
     def leave_alone(self, until: Optional[float] = None) -> None:
         """The store is not asked for `again_after` seconds, or until this moment where that is before."""
@@ -223,7 +239,7 @@ class Leases:
 
     def _lease(self) -> bool:
         """Asks the store for a range: whether to draw again. Where it granted none it is left alone for a while."""
-        generation, leased = self.generation, self.leased
+        generation, leased, began = self.generation, self.leased, self.clock()
         try:
             self.is_asking = True
             found = self._take()
@@ -233,21 +249,34 @@ class Leases:
             self.is_asking = False
         if generation != self.generation:  # a signal's handler forked meanwhile: in the child it is the parent's
             return True
+        grant = Grant(found.window, found.first, found.tickets, self.moments.of(found.until))
+        status = leased.granted(grant)
+        if status == HELD_ALREADY:
+            self._begin_leases_anew(grant, generation)
+        self._waits = None
+        if status == BACKWARDS:  # the store's clock was set back
+            self._waits = 0.0
+        elif found.until is not None and grant.until <= self.moments.now():
+            # the store told its time after `began`, so that its window is over by then
+            self._waits = max(0.0, found.until - began)
+        self._answered(found)
+        return found.tickets > 0
+
+    def _answered(self, found: Range) -> None:
+        """The store answered: it is left alone for a while, where it has no ticket."""
         was_lost = self._reason is RefusalReason.LOST
         self._reason = RefusalReason.LOST if found.lost else RefusalReason.USED_UP
         self._error = None
-        grant = Grant(found.window, found.first, found.tickets, self.moments.of(found.until))
-        if not leased.granted(grant):
-            self._begin_leases_anew(grant, generation)
         if not found.tickets:
-            # (tickets end with the millisecond before the window's end, and others may be had in the one after)
-            self.leased.leave_alone(self.moments.after(found.until))
+            if found.until is None:  # it may begin anew
+                self.leave_alone()
+            else:  # (tickets end with the microsecond before the window's end, and others may be had in the one after)
+                self.leased.leave_alone(self.moments.after(found.until))
             self._granted_none(found)
         if found.lost and not was_lost:
             self._notes.append(
                 ("%s: the store may have lost its count of this window, and grants nothing of it", self.name)
             )
-        return found.tickets > 0
 
     def _failed(self, error: StoreError) -> bool:
         """The store failed: there is no reason to draw again."""
@@ -261,7 +290,7 @@ class Leases:
 
     def _begin_leases_anew(self, grant: Grant, generation: int) -> None:
         """The store granted what it had granted before, so it began anew, as where its folder was deleted."""
-        leased = LeasedPass(self.millis or 0)
+        leased = self._holds_nothing()
         leased.granted(grant)
         if generation == self.generation:
             self._past.append(self.leased)

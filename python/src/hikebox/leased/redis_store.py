@@ -3,25 +3,97 @@
 from __future__ import annotations
 
 import contextlib
-from typing import Any, Callable, Iterator, List, Optional, Tuple
+from typing import Any, Callable, Iterator, Optional, Tuple
 
 from .._engine.calls import MAX_TICKETS
-from .._engine.leasing import Stored, lease_of_budget
 from ..budgets.terms import Terms
 from ..errors import StoreError, StoreLost
 from .stores import Present, QuotaRange, Range, present_window
 
 __all__ = ["GRANT", "RedisStore"]
 
-#: By how many seconds at most a Redis server was started later than it says.
-_UPTIME_OFF = 2
-
 #: What a count in Redis begins at, so that one that was lost, and began anew at 0, is seen.
 _BASE = 2**52
 
-#: Counts requests of a quota's window and grants tickets of it, in one step: KEYS[1] is the window; ARGV are the
-#: requests, the tickets wanted, the reserve, the share, the most of both, and the milliseconds that the key is kept.
-#: Its numbers are exact, as they stay below 2^53.
+#: Begins a budget: KEYS are its count and the name of the server's start; ARGV[1] is the first count.
+BEGIN = """
+local server = string.match(redis.call('INFO', 'server'), 'run_id:(%x+)')
+return redis.call('MSET', KEYS[1], ARGV[1], KEYS[2], server)
+"""
+
+#: A lease of a budget without windows: KEYS as above; ARGV are the tickets wanted and the limit. It answers the count
+#: before and the tickets, or why not. On a server that keeps each write it is without its third part.
+TAKE = (
+    f"""
+local counted, server = unpack(redis.call('MGET', KEYS[1], KEYS[2]))
+local given = (tonumber(counted) or 0) - {_BASE}
+if given < 0 or not server then
+  return 'none'
+end
+""",
+    """
+if not string.find(redis.call('INFO', 'server'), 'run_id:' .. server, 1, true) then
+  return 'restarted'
+end
+""",
+    """
+local tickets = math.max(0, math.min(tonumber(ARGV[1]), ARGV[2] - given))
+if tickets > 0 then
+  redis.call('INCRBY', KEYS[1], string.format('%.0f', tickets))
+end
+return {given, tickets}
+""",
+)
+
+#: The present window, whose length in microseconds is ARGV[1]: `micros`, the server's time; `number`, its number; and
+#: `is_whole`, whether the server was started before it, and up to two seconds later than INFO says.
+WINDOW = """
+local now, info = redis.call('TIME'), redis.call('INFO', 'server')
+local micros = now[1] * 1000000 + now[2]
+local number = (micros - micros % ARGV[1]) / ARGV[1]
+local is_whole = number * ARGV[1] >= micros - (string.match(info, 'uptime_in_seconds:(%d+)') - 2) * 1000000
+"""
+
+#: The present window of a quota: the server's time, and the name of its start where the window is whole.
+LOOK = (
+    WINDOW
+    + """
+return {now[1], now[2], is_whole and string.match(info, 'run_id:(%x+)')}
+"""
+)
+
+#: A lease of a budget by windows: KEYS[1] is its name; ARGV are the window's length, the tickets wanted, the limit, and
+#: the milliseconds that the window's key is kept. It answers the server's time, the count before, and the tickets, -1
+#: where the window is not whole.
+TAKE_OF_WINDOW = (
+    WINDOW
+    + """
+if not is_whole then
+  return {now[1], now[2], 0, -1}
+end
+local key = KEYS[1] .. ':' .. string.format('%.0f', number)
+local given = redis.call('INCRBY', key, ARGV[2]) - ARGV[2]
+local tickets = math.max(0, math.min(tonumber(ARGV[2]), ARGV[3] - given))
+if tickets < tonumber(ARGV[2]) then
+  redis.call('DECRBY', key, string.format('%.0f', ARGV[2] - tickets))
+end
+if given == 0 then
+  redis.call('PEXPIRE', key, ARGV[4])
+end
+return {now[1], now[2], given, tickets}
+"""
+)
+
+#: What a script begins with that goes on in one start of the server: ARGV[7] is its name.
+IN_START = """
+if not string.find(redis.call('INFO', 'server'), 'run_id:' .. ARGV[7], 1, true) then
+  return 'restarted meanwhile'
+end
+"""
+
+#: Counts requests of a quota's window and grants tickets of it: KEYS[1] is the window; ARGV are the requests, the
+#: tickets wanted, the reserve, the share, the most of both, and the milliseconds that the key is kept. Its numbers are
+#: exact, as they stay below 2^53.
 GRANT = """
 local asked = redis.call('HINCRBY', KEYS[1], 'asked', ARGV[1])
 local given = tonumber(redis.call('HGET', KEYS[1], 'given') or '0')
@@ -36,7 +108,7 @@ return {given, tickets, asked}
 
 
 class RedisStore:
-    """Counts in a Redis server, for the processes of many machines: each lease is one atomic step.
+    """Counts in a Redis server, for the processes of many machines: each lease is one atomic step, a script.
 
     Pass a client of the `redis` library, with a `socket_timeout`. Only the server's clock counts, for windows too.
 
@@ -48,105 +120,123 @@ class RedisStore:
     """
 
     def __init__(self, client: Any, *, prefix: str = "hikebox", durable: bool = False) -> None:
-        self.client = client
+        self.client = _checked_client(client)
         self.prefix = prefix
         self.durable = durable
+        take = TAKE[0] + TAKE[2] if durable else "".join(TAKE)
+        scripts = map(client.register_script, (BEGIN, take, TAKE_OF_WINDOW, LOOK))
+        self._begin, self._take, self._take_of_window, self._look = scripts
 
     def __repr__(self) -> str:
         return f"RedisStore({self.client!r})"
 
     def begin(self, name: str) -> None:
         """Begins a budget of this name with no ticket leased. Call it once for each budget, in one process."""
-        key = self._key(name)
         with _errors():
-            server = self.client.info("server")["run_id"]
-            pipe = self.client.pipeline(transaction=True)
-            pipe.set(key, _BASE)
-            pipe.set(key + ":server", server)
-            pipe.execute()
+            self._begin(keys=self._keys(name), args=[_BASE])
 
     def forget(self, name: str) -> None:
         """Takes a budget away: from then on it grants nothing."""
         with _errors():
-            self.client.delete(self._key(name), self._key(name) + ":server")
+            self.client.delete(*self._keys(name))
 
     def take(self, name: str, count: int, limit: int, period: Optional[int], clock: Callable[[], float]) -> Range:
         """A range of this name's tickets, or of its present window's."""
         with _errors():
             if period is None:
-                return self._of_budget(name, count, limit)
-            present, server = self._window(period, clock)
-            if server is None:
+                found = self._take(keys=self._keys(name), args=[count, limit])
+                return Range(*_leased(_answered(found, name), count, limit), None)
+            before, keys = clock(), [f"{self._key(name)}:{period}"]
+            found = self._take_of_window(keys=keys, args=[period * 1000, count, limit, 2 * period])
+            present = _present(found[:2], period, before, clock())
+            if found[3] < 0:
                 return Range(0, 0, present.until, present.number, lost=True)
-            pipe = self._transaction()
-            key = f"{self._key(name)}:{period}:{present.number}"
-            pipe.incrby(key, count)
-            pipe.pexpire(key, 2 * period)
-            after = int(self._answers(pipe, server)[0])
-            return _below(limit, after - count, count, present)
+            return Range(*_leased(found[2:], count, limit), present.until, present.number)
 
     def take_of_quota(
         self, name: str, terms: Terms, count: int, asked: Callable[[float], int], clock: Callable[[], float]
     ) -> QuotaRange:
         """Adds requests to the present window of this name's quota, and takes a range of its tickets."""
         with _errors():
-            present, server = self._window(terms.period, clock)
+            before = clock()
+            *now, server = self._look(keys=[self._key(name)], args=[terms.period * 1000])
+            present = _present(now, terms.period, before, clock())
             if server is None:
                 return QuotaRange(0, 0, present.until, present.number, 0, lost=True)
             key = f"{self._key(name)}:quota:{terms.period}:{present.number}"
-            wanted = (asked(present.began_by), count, terms.reserve, terms.share, MAX_TICKETS, 2 * terms.period)
-            pipe = self._transaction(once=key + ":once")
-            pipe.eval(GRANT, 1, key, *wanted)
-            (found,) = self._answers(pipe, server)
-            before, tickets, requests = _granted(found, terms, count)
-            return QuotaRange(before, tickets, present.until, present.number, requests)
+            wanted = (asked(present.began_by), count, terms.reserve, terms.share, MAX_TICKETS, 2 * terms.period, server)
+            found = _answered(self._once("EVAL", IN_START + GRANT, 1, key, *wanted), name)
+            given, tickets, requests = _granted(found, terms, count)
+            return QuotaRange(given, tickets, present.until, present.number, requests)
+
+    def _once(self, *command: Any) -> Any:
+        """What the server answers to a command. A client may repeat one to which it got no answer, and would count its
+        requests twice. So this one is sent by a connection of the client's pool."""
+        pool = self.client.connection_pool
+        try:
+            connection = pool.get_connection()
+        except TypeError:  # before version 5.3 it wants the name of the command
+            connection = pool.get_connection(command[0])
+        try:
+            connection.send_command(*command)
+            return connection.read_response()
+        except BaseException:
+            connection.disconnect()
+            raise
+        finally:
+            pool.release(connection)
 
     def _key(self, name: str) -> str:
         return f"{self.prefix}:{{{name}}}"
 
-    def _of_budget(self, name: str, count: int, limit: int) -> Range:
-        key = self._key(name)
-        pipe = self.client.pipeline(transaction=True)
-        pipe.get(key + ":server")
-        pipe.info("server")
-        pipe.incrby(key, count)
-        server, info, after = pipe.execute()
-        before = int(after) - count - _BASE
-        if server is None or before < 0:
-            raise StoreLost(f"Redis has no count of {name!r}: begin() makes one")
-        begun_on = server.decode() if isinstance(server, bytes) else server
-        if not self.durable and begun_on != info["run_id"]:
-            raise StoreLost(f"Redis was restarted since {name!r} was begun, and may have lost some of its count")
-        return _below(limit, before, count)
+    def _keys(self, name: str) -> Tuple[str, str]:
+        """Those of a budget without windows: its count, and the start of the server on which it was begun."""
+        return self._key(name), self._key(name) + ":server"
 
-    def _window(self, period: int, clock: Callable[[], float]) -> Tuple[Present, Optional[str]]:
-        """The present window, and the name of this start of the server: None where the window may have begun before
-        it."""
-        before = clock()
-        pipe = self._transaction()
-        pipe.time()
-        info, (whole, micros) = pipe.execute()
-        present = present_window(period, before, int(whole) * 10**9 + int(micros) * 1000, clock())
-        started_by = (int(whole) - int(info["uptime_in_seconds"]) + _UPTIME_OFF) * 10**6 + int(micros)
-        return present, info["run_id"] if present.number * period * 1000 >= started_by else None
 
-    def _transaction(self, once: str = "") -> Any:
-        """A transaction whose first answer tells about the server. With a key that nobody writes it is made once: a
-        client that repeats what it got no answer to repeats none that watches a key, since requests would be counted
-        twice."""
-        pipe = self.client.pipeline(transaction=True)
-        if once:
-            pipe.watch(once)
-            pipe.multi()
-        pipe.info("server")
-        return pipe
+def _checked_client(client: Any) -> Any:
+    """A client that answers when it is called, or a `TypeError`."""
+    import inspect
 
-    def _answers(self, pipe: Any, server: str) -> List[Any]:
-        """The further answers of a transaction, where the server is still in this start."""
-        info, *answers = list(pipe.execute())
-        if info["run_id"] != server:
-            raise StoreLost("Redis was restarted while it was asked")
-        return answers
+    executes, registers = (getattr(client, call, None) for call in ("execute_command", "register_script"))
+    if isinstance(client, type) or not (callable(executes) and callable(registers)):
+        raise TypeError(f"expected a client such as redis.Redis(..), got {client!r}")
+    if inspect.iscoroutinefunction(executes):
+        raise TypeError(
+            f"expected a client that waits for its answers, redis.Redis(..), got one of asyncio: {client!r}"
+        )
+    return client
+
+
+def _present(now: Any, period: int, before: float, after: float) -> Present:
+    """The window of a server's time, which was told between these moments."""
+    whole, micros = now
+    return present_window(period, before, int(whole) * 10**9 + int(micros) * 1000, after)
+
+
+#: What a script answers where the count may be lost, and what that means.
+_LOST = {
+    "none": "Redis has no count of {!r}: begin() makes one",
+    "restarted": "Redis was restarted since {!r} was begun, and may have lost some of its count",
+    "restarted meanwhile": "Redis was restarted while it was asked for a lease of {!r}",
+}
+
+
+def _answered(found: Any, name: str) -> Any:
+    """What a script found, unless it says that the count is lost."""
+    said = found.decode(errors="replace") if isinstance(found, bytes) else found
+    if isinstance(said, str) and said in _LOST:
+        raise StoreLost(_LOST[said].format(name))
+    return found
+
+
+def _leased(found: Any, count: int, limit: int) -> Tuple[int, int]:
+    """The tickets given before and those leased, where the script can have answered this."""
+    if isinstance(found, list) and len(found) == 2:
+        before, tickets = map(int, found)
+        if before >= 0 and 0 <= tickets <= max(0, min(count, limit - before)):
+            return before, tickets
+    raise StoreError(f"Redis: expected a count and at most {count} tickets, got {found!r}")
 
 
 def _granted(found: Any, terms: Terms, count: int) -> Tuple[int, int, int]:
@@ -159,15 +249,6 @@ def _granted(found: Any, terms: Terms, count: int) -> Tuple[int, int, int]:
     raise StoreError(f"Redis: expected the count of a window and at most {count} tickets of it, got {found!r}")
 
 
-def _below(limit: int, before: int, count: int, present: Optional[Present] = None) -> Range:
-    """The lease of a server that has counted so many tickets, and `count` more for it."""
-    granted = lease_of_budget(limit, 0, count, Stored(given=before))
-    assert granted is not None
-    if present is None:
-        return Range(granted.first, granted.tickets, None)
-    return Range(granted.first, granted.tickets, present.until, present.number)
-
-
 @contextlib.contextmanager
 def _errors() -> Iterator[None]:
     """What the client raises, as a `StoreError`."""
@@ -176,6 +257,4 @@ def _errors() -> Iterator[None]:
     except StoreError:
         raise
     except Exception as error:
-        # (of a connection that broke where a key is watched, a client says that alone)
-        why = (error.__context__ if type(error).__name__ == "WatchError" else None) or error
-        raise StoreError(f"Redis: {why}") from error
+        raise StoreError(f"Redis: {error}") from error

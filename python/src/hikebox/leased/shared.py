@@ -8,11 +8,12 @@ from typing import List, Optional, Tuple
 
 from .._engine.kept import ADMIT, CANCELLED, DRAW, FAILED, SUCCEEDED, HeldRequest, Kept, Step
 from .._engine.kept import breaker_steps, bucket_steps
-from .._engine.limits import LimitHandle, Refused
+from .._engine.limits import OUT_OF_TURN, LimitHandle, Refused
 from ..budgets.tickets import Refusal, RefusalReason
 from ..errors import StoreError, StoreLost
-from ..limits import Breaker, Bucket, Limit
-from .file_store import FileStore, shared_uptime
+from ..limits import Breaker, Bucket, CallLimit, Request
+from .file_store import FileStore
+from .machine import shared_uptime
 from .stores import checked_name
 
 __all__ = ["SharedLimit"]
@@ -25,7 +26,7 @@ _UNREACHED = -1
 _MAX_TIMES_TEXT = 100
 
 
-class SharedLimit(Limit):
+class SharedLimit(CallLimit):
     """A bucket or a breaker that all processes with the same folder, name and limit share.
 
     Each call of a request is one change of a file under its lock, so all calls of all processes act as one sequence. A
@@ -39,7 +40,7 @@ class SharedLimit(Limit):
 
     reads_clock = True
 
-    def __init__(self, store: FileStore, name: str, of: Limit) -> None:
+    def __init__(self, store: FileStore, name: str, of: CallLimit) -> None:
         self.store = store
         self.name = checked_name(name)
         self.of = of
@@ -54,14 +55,8 @@ class SharedLimit(Limit):
     def make(self) -> LimitHandle:
         return self.of.make()
 
-    def parts(self) -> List[Limit]:
+    def parts(self) -> List[CallLimit]:
         return []
-
-    def lend(self) -> LimitHandle:
-        return _SharedHandle(self)  # type: ignore[return-value]
-
-    def give_back(self, lent: LimitHandle) -> None:
-        """Lets it go, since each request begins with one of its own."""
 
     def cost_of(self, error: Optional[BaseException]) -> int:
         return self.of.cost_of(error)
@@ -98,52 +93,85 @@ class SharedLimit(Limit):
         return f"SharedLimit({self.store!r}, {self.name!r}, {self.of.expression()})"
 
 
-class _SharedHandle:
-    """One request of a shared limit: it has the calls of a `LimitHandle`."""
+class _SharedRequest(Request):
+    """A request of a shared limit."""
 
-    __slots__ = ("_limit", "_request", "_is_missed")
+    __slots__ = ("_of", "_held_there", "_is_missed", "_generation")
 
     def __init__(self, limit: SharedLimit) -> None:
-        self._limit = limit
-        self._request = HeldRequest()
+        super().__init__(limit)
+        self._of = limit
+        self._held_there = HeldRequest()
         #: Whether it began while the store could not be reached, so that it is admitted later.
         self._is_missed = False
+        self._generation = limit.generation
 
-    def admit(self, now: int, random: int) -> Optional[Refused]:
-        answer = self._step(ADMIT, now)
+    def admit(self) -> Optional[Refusal]:
+        answer = self._step(ADMIT)
+        if answer is not None and answer[0] == OUT_OF_TURN:
+            raise RuntimeError("expected a request that has ended, got one under way")
         self._is_missed = answer is not None and answer[0] == _UNREACHED
-        return None if self._is_missed else answer
+        self._is_admitted = answer is None or self._is_missed
+        return None if answer is None or self._is_missed else self._of.refused(*answer)
 
-    def draw(self, now: int, cost: int, random: int) -> Optional[Refused]:
+    def draw(self, error: Optional[BaseException] = None) -> Optional[Refusal]:
+        self._look_at_fork()
         if self._is_missed:
-            refused = self.admit(now, random)
-            if self._is_missed or refused is not None:
-                return refused or (_UNREACHED, 0)
-        return self._step(DRAW, now, cost)
+            refusal = self.admit()
+            if self._is_missed or refusal is not None:
+                return refusal or self._of.refused(_UNREACHED, 0)
+        answer = self._step(DRAW, self._of.cost_of(error))
+        if answer is None or answer[0] != OUT_OF_TURN:
+            return None if answer is None else self._of.refused(*answer)
+        if self._refusal is None:
+            raise RuntimeError("expected a request that was admitted, got none under way")
+        return self._refusal
 
-    def failed(self, now: int) -> None:
-        self._tells(FAILED, now)
+    def failed(self) -> None:
+        self._tells(FAILED)
 
-    def succeeded(self, now: int) -> None:
-        self._tells(SUCCEEDED, now)
+    def succeeded(self) -> None:
+        self._tells(SUCCEEDED)
+
+    def won(self) -> None:
+        self._tells(SUCCEEDED)
+        self.ended()
 
     def cancelled(self) -> None:
-        self._tells(CANCELLED, 0)
+        self._tells(CANCELLED)
 
     def ended(self) -> None:
         # (nothing changes in the store: neither a bucket nor a breaker counts who is under way)
-        self._request = HeldRequest()
+        self._held_there = HeldRequest()
+        self._is_admitted, self._refusal = False, None
 
-    def _tells(self, call: int, now: int) -> None:
+    def end(self, hands_back: bool) -> None:
+        if hands_back:
+            self.cancelled()
+        self.ended()
+
+    def _tells(self, call: int) -> None:
+        self._look_at_fork()
         if not self._is_missed:
-            self._step(call, now)
+            self._step(call)
 
-    def _step(self, call: int, now: int, cost: int = 0) -> Optional[Refused]:
-        answer, self._request = self._limit.step(call, now, cost, self._request)
+    def _look_at_fork(self) -> None:
+        """In a forked child: begins a request of its own, where its parent's was admitted."""
+        if self._generation != self._of.generation:
+            self._generation, self._held_there = self._of.generation, HeldRequest()
+            if self._is_admitted:
+                self._refusal = self.admit()
+
+    def _step(self, call: int, cost: int = 0) -> Optional[Refused]:
+        now = 0 if call == CANCELLED else self._of.now()
+        answer, self._held_there = self._of.step(call, now, cost, self._held_there)
         return answer
 
 
-def _terms_and_steps(of: Limit) -> Tuple[str, Step]:
+SharedLimit.REQUEST = _SharedRequest
+
+
+def _terms_and_steps(of: CallLimit) -> Tuple[str, Step]:
     """The terms of a limit as its key spells them, and its steps."""
     if isinstance(of, Bucket):
         *levels, refund = of.terms

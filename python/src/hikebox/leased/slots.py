@@ -1,15 +1,14 @@
 """A slot: the file of one count, which survives a kill, a full disk and the loss of either half.
 
-A slot is 1024 bytes, two copies of 512. A copy has a turn, the counts, the key that they are of, and a checksum. A
-write raises the turn and overwrites the first copy and then the second, in place, so a full disk can't stop or damage
-it. A read takes the valid copy of the greater turn.
+A slot is 1024 bytes, two copies of 512. A copy has a turn, the counts, their key, the number of the file, and a
+checksum. A write raises the turn and overwrites both copies in place, so a full disk can't stop or damage it. A
+read takes the valid copy of the greater turn.
 """
 
 from __future__ import annotations
 
 import contextlib
 import errno
-import fcntl
 import io
 import os
 import secrets
@@ -21,6 +20,7 @@ from typing import NamedTuple, Optional
 from .._engine.leasing import Stored
 from .._forks import begins_anew_in_a_child, no_fork
 from ..errors import StoreError, StoreLost
+from .machine import sync, try_lock, unlock
 
 __all__ = ["NO_BOOT", "SIZE", "Copy", "Slot", "make_slot", "slot_path", "unpack"]
 
@@ -28,8 +28,8 @@ _MAGIC = b"hikebox slot 1\n\0"
 _COPY = 512
 SIZE = 2 * _COPY
 #: A copy up to its checksum: the magic, the turn, the window, the tickets given, the requests asked, the boot, the
-#: length of the key, and the key.
-_BODY = struct.Struct("<16s4Q36sH2x416s4x")
+#: length of the key, the key, and the number of the file.
+_BODY = struct.Struct("<16s4Q36sH2x416sL")
 _CHECK = struct.Struct("<I")
 #: The boot of a count that goes on after the machine is restarted.
 NO_BOOT = bytes(36)
@@ -50,10 +50,12 @@ class Copy(NamedTuple):
     given: int
     asked: int
     boot: bytes
+    #: A random number that the file is made with: one that is made anew has another.
+    file: int = 0
 
     def pack(self) -> bytes:
         """Its 512 bytes."""
-        body = _BODY.pack(_MAGIC, *self[1:], len(self.key), self.key)
+        body = _BODY.pack(_MAGIC, *self[1:6], len(self.key), self.key, self.file)
         return body + _CHECK.pack(zlib.crc32(body))
 
     def stored(self, boot: bytes) -> Stored:
@@ -65,8 +67,8 @@ def _unpack_copy(data: bytes) -> Optional[Copy]:
     body = data[: _BODY.size]
     if _CHECK.unpack(data[_BODY.size :]) != (zlib.crc32(body),):
         return None
-    magic, turn, window, given, asked, boot, length, key = _BODY.unpack(body)
-    return Copy(key[:length], turn, window, given, asked, boot) if magic == _MAGIC else None
+    magic, turn, window, given, asked, boot, length, key, file = _BODY.unpack(body)
+    return Copy(key[:length], turn, window, given, asked, boot, file) if magic == _MAGIC else None
 
 
 def unpack(data: bytes, key: Optional[bytes] = None) -> Optional[Copy]:
@@ -120,9 +122,9 @@ def make_slot(path: str, first: Copy, to_disk: bool) -> None:
     beside = os.path.join(folder, f".new-{os.getpid()}-{secrets.token_hex(8)}")
     with contextlib.closing(_File.opened(beside, "x+")) as file:
         try:
-            _write_at(file.fileno(), first.pack() * 2, 0)
+            _write(file.fileno(), 2 * first.pack())
             if to_disk:
-                os.fsync(file.fileno())
+                sync(file.fileno())
             with contextlib.suppress(FileExistsError):
                 os.link(beside, path)
         finally:
@@ -138,7 +140,7 @@ def sync_folder(path: str) -> None:
     with no_fork:
         folder = os.open(path, os.O_RDONLY | os.O_DIRECTORY | os.O_CLOEXEC)
         try:
-            os.fsync(folder)
+            sync(folder)
         finally:
             os.close(folder)
 
@@ -146,13 +148,14 @@ def sync_folder(path: str) -> None:
 class Slot:
     """The file of a key, or of any, for one user at a time: open, and locked by `lock`."""
 
-    __slots__ = ("path", "_key", "_to_disk", "_turn", "_file")
+    __slots__ = ("path", "key", "_to_disk", "_read", "_file")
 
     def __init__(self, path: str, key: bytes = b"", to_disk: bool = False) -> None:
         self.path = path
-        self._key = key
+        self.key = key
         self._to_disk = to_disk
-        self._turn = 0
+        #: What was read of it.
+        self._read = Copy(key, 0, 0, 0, 0, NO_BOOT)
         self._file = _File.opened(path, "r+")
 
     def lock(self, patience: float) -> bool:
@@ -161,35 +164,37 @@ class Slot:
         while True:
             # (a process that was held up for as long tries once more)
             is_last = time.monotonic() >= given_up_at
-            try:
-                fcntl.flock(self._file.fileno(), fcntl.LOCK_EX | fcntl.LOCK_NB)
+            if try_lock(self._file.fileno()):
                 return self._is_named()
-            except BlockingIOError:
-                if is_last:
-                    raise StoreError(f"{self.path}: could not acquire its lock in {patience:g} s") from None
-                time.sleep(_PAUSE)
+            if is_last:
+                raise StoreError(f"{self.path}: could not acquire its lock in {patience:g} s")
+            time.sleep(_PAUSE)
 
     def read(self) -> Copy:
         """Its counts, where it is the slot of its key."""
         data = self.content()
-        copy = unpack(data, self._key)
+        copy = unpack(data, self.key)
         if copy is None:
             other = unpack(data)
             found = "something else" if other is None else f"the slot of {other.key.decode(errors='replace')!r}"
-            raise StoreLost(f"{self.path}: expected the slot of {self._key.decode()!r}, got {found}")
+            raise StoreLost(f"{self.path}: expected the slot of {self.key.decode()!r}, got {found}")
         if copy.turn == _LAST_TURN:
             raise StoreLost(f"{self.path}: expected a turn before the last one, got {copy.turn}")
-        self._turn = copy.turn
+        self._read = copy
         return copy
 
     def write(self, boot: bytes, stored: Stored) -> None:
         """Writes these counts in the place of those that were read."""
-        self._turn += 1
-        copy = Copy(self._key, self._turn, stored.window, stored.given, stored.asked, boot).pack()
-        _write_at(self._file.fileno(), copy, 0)
-        _write_at(self._file.fileno(), copy, _COPY)
+        turn, file = self._read.turn + 1, self._read.file
+        copy = Copy(self.key, turn, stored.window, stored.given, stored.asked, boot, file)
+        _write(self._file.fileno(), 2 * copy.pack())
         if self._to_disk:
-            os.fsync(self._file.fileno())
+            sync(self._file.fileno())
+
+    @property
+    def file(self) -> int:
+        """The number of the file, once it was read."""
+        return self._read.file
 
     def content(self) -> bytes:
         """What the file has, up to one byte more than a slot."""
@@ -202,7 +207,7 @@ class Slot:
     def close(self) -> None:
         """Unlocks and closes the file. (To close it is not enough, where a child was forked that has it open too.)"""
         if not self._file.closed:
-            fcntl.flock(self._file, fcntl.LOCK_UN)
+            unlock(self._file.fileno())
             self._file.close()
 
     def _is_named(self) -> bool:
@@ -212,6 +217,6 @@ class Slot:
             return False
 
 
-def _write_at(file: int, data: bytes, place: int) -> None:
-    if os.pwrite(file, data, place) != len(data):
+def _write(file: int, data: bytes) -> None:
+    if os.pwrite(file, data, 0) != len(data):
         raise OSError(errno.ENOSPC, os.strerror(errno.ENOSPC))

@@ -3,7 +3,6 @@
 from __future__ import annotations
 
 import math
-import time
 from typing import Callable, NamedTuple, Optional, Protocol, TypeVar
 
 from ..budgets.terms import Terms
@@ -19,15 +18,9 @@ __all__ = [
     "checked_seconds",
     "checked_store",
     "present_window",
-    "uptime",
 ]
 
 T = TypeVar("T")
-
-
-def uptime() -> float:
-    """Seconds since the machine started, including those in which it slept. Nobody can set this clock."""
-    return time.clock_gettime(time.CLOCK_BOOTTIME)
 
 
 class Range(NamedTuple):

@@ -1,7 +1,7 @@
-"""Limits of other systems: a bucket, a bound on retries in flight, a breaker, a throttle, and several at once."""
+"""Limits that a call asks before its first attempt too: of retries in flight, of other systems, and several at once."""
 
 from .kinds import Breaker, Bucket, InFlight, Throttle
-from .limit import Limit, Request, look_at_no_limit
+from .limit import CallLimit, Request, look_at_no_limit
 from .pairs import both
 
-__all__ = ["Breaker", "Bucket", "InFlight", "Limit", "Request", "Throttle", "both", "look_at_no_limit"]
+__all__ = ["Breaker", "Bucket", "CallLimit", "InFlight", "Request", "Throttle", "both", "look_at_no_limit"]

@@ -12,8 +12,8 @@ from .._time import FLOAT_ERROR, Duration, moment, seconds_text
 from ..budgets.terms import duration_of, thousandths_of, thousandths_text
 from ..errors import TermsError, shown
 from ..policy import Policy
-from ..storms.limits import LimitTerms, breaker, bucket, in_flight, throttle
-from .limit import Limit
+from .limit import CallLimit
+from .terms import LimitTerms, breaker, bucket, in_flight, throttle
 
 __all__ = ["Breaker", "Bucket", "InFlight", "Throttle"]
 
@@ -34,7 +34,7 @@ _TIMEOUTS = (
 _NO_TIMEOUTS = (("urllib3.exceptions", "NewConnectionError"),)
 
 
-class Bucket(Limit):
+class Bucket(CallLimit):
     """A bucket of tokens. Failures take tokens, successes give some back, and a retry takes its cost.
 
     `capacity`
@@ -52,7 +52,7 @@ class Bucket(Limit):
     Tokens are counted in thousandths.
 
     >>> from hikebox import recurs, retry
-    >>> @retry(recurs(3), budget=Bucket.grpc(max_tokens=10, token_ratio=0.1))
+    >>> @retry(recurs(3), limit=Bucket.grpc(max_tokens=10, token_ratio=0.1))
     ... def fetch():
     ...     return "fetched"
     >>> fetch()
@@ -60,6 +60,8 @@ class Bucket(Limit):
     """
 
     __slots__ = ("_terms", "_cost", "_timeout_cost")
+
+    has_costs = True
 
     def __init__(
         self,
@@ -73,15 +75,21 @@ class Bucket(Limit):
         refund: bool = False,
     ) -> None:
         most = thousandths_of("the capacity", capacity, _MAX_CAPACITY)
-        rest = [thousandths_of(f"the {name}", value, most) for name, value in _named(floor, debit, credit)]
-        self._begin_with(most, *rest, refund=bool(refund))
-        self._cost = thousandths_of("the cost", cost, most)
-        self._timeout_cost = self._cost if timeout_cost is None else thousandths_of("the cost", timeout_cost, most)
+        if not isinstance(refund, bool):
+            raise TypeError(f"refund: expected True or False, got {refund!r}")
+        late = cost if timeout_cost is None else timeout_cost
+        parts = {"floor": floor, "debit": debit, "credit": credit, "cost": cost, "timeout_cost": late}
+        counts = [thousandths_of(f"the {name}", value, _MAX_CAPACITY) for name, value in parts.items()]
+        for (name, value), count in zip(parts.items(), counts):
+            if count > most:
+                raise TermsError(f"expected a capacity of at least the {name}, {value!r}, got {capacity!r}")
+        self._begin_with(most, *counts[:3], refund=refund)
+        self._cost, self._timeout_cost = counts[3:]
 
     def _begin_with(self, capacity: int, floor: int, debit: int, credit: int, *, refund: bool) -> None:
         self._terms = (capacity, floor, debit, credit, refund)
         self._cost = self._timeout_cost = 0
-        Limit.__init__(self, time.monotonic)
+        CallLimit.__init__(self, time.monotonic)
 
     @classmethod
     def grpc(cls, max_tokens: int, token_ratio: float) -> Bucket:
@@ -89,12 +97,12 @@ class Bucket(Limit):
         granted while more than half of `max_tokens` are left. As in gRPC, what follows the third decimal of the ratio
         is ignored."""
         most = thousandths_of("max_tokens", max_tokens, _MAX_CAPACITY)
+        if most < 1000:
+            raise TermsError(f"max_tokens: expected 1 token or more, got {max_tokens!r}")
         made = cls.__new__(cls)
         credit = thousandths_of("token_ratio", token_ratio, most)
         if credit > 1 and credit > token_ratio * 1000 + FLOAT_ERROR:
             credit -= 1  # which was rounded up
-        if most < 1000:
-            raise TermsError(f"max_tokens: expected 1 token or more, got {max_tokens!r}")
         made._begin_with(most, most // 2 + 1, 1000, credit, refund=False)
         return made
 
@@ -145,11 +153,7 @@ def _loaded(names: Tuple[Tuple[str, str], ...]) -> Tuple[Type[Any], ...]:
     return tuple([each for each in found if isinstance(each, type)])
 
 
-def _named(floor: float, debit: float, credit: float) -> Tuple[Tuple[str, float], ...]:
-    return (("floor", floor), ("debit", debit), ("credit", credit))
-
-
-class InFlight(Limit):
+class InFlight(CallLimit):
     """Bounds the retries in flight: the greater of a least number and a share of the calls in flight.
 
     A retry is in flight from its draw to the call's next draw or its end, or until it is cancelled in its wait.
@@ -175,8 +179,10 @@ class InFlight(Limit):
         """Envoy's `retry_budget`, with its defaults."""
         least = _count("min_retry_concurrency", min_retry_concurrency, 0)
         percent = thousandths_of("budget_percent", budget_percent, 100_000)
-        if 0 < percent < 100:
-            raise TermsError(f"expected 0 or at least 0.1 as budget_percent, got {budget_percent!r}")
+        if 0 < percent < 1000:
+            wanted = "expected per cent, 0 or from 1 to 100"
+            told = f"write {budget_percent * 100:g} for a share of {budget_percent!r}"
+            raise TermsError(f"budget_percent: {wanted}, got {budget_percent!r}: {told}")
         return cls(least, percent / 100_000)
 
     def make(self) -> LimitHandle:
@@ -190,7 +196,7 @@ class InFlight(Limit):
         return f"InFlight({least}, {thousandths_text(share)})"
 
 
-class Breaker(Limit):
+class Breaker(CallLimit):
     """A circuit breaker. After `failures` in a row it is open: no attempt is made for a while. After that it is half
     open and admits a few probes. When these succeed it is closed; when one fails it is open again.
 
@@ -257,7 +263,7 @@ class Breaker(Limit):
         return f"Breaker({self._failures}, {self._policy!r}{probes}{deadline})"
 
 
-class Throttle(Limit):
+class Throttle(CallLimit):
     """Google's client throttling. It counts calls and those that were accepted over two windows, and refuses a first
     attempt or a retry with the probability (requests - ratio * accepts) / (requests + 1).
 
@@ -276,6 +282,8 @@ class Throttle(Limit):
     __slots__ = ("_ratio", "_period")
 
     reads_clock = True
+    times_successes = True
+    reads_random = True
 
     def __init__(
         self,
@@ -316,11 +324,17 @@ def _count(name: str, value: int, least: int, most: int = _MAX_COUNT) -> int:
     return value
 
 
-def times_of(policy: Policy) -> List[int]:
+def times_of(policy: Policy, name: str = "open_for") -> List[int]:
     """The open times of a breaker: the first waits of a policy, in milliseconds, on a course whose events have the
     input 0 and the random words 0."""
     lines = policy.plan.course(_MAX_TIMES, 0, 0, [(0, 0, 0, 0, 0)])
     times = [line.start - line.moment for line in lines if line.start is not None]
     if not times:
-        raise TermsError(f"open_for: expected a policy that goes on, got {policy!r}")
+        raise TermsError(f"{name}: expected a policy that goes on, got {policy!r}")
+    if not any(times):
+        why = "open times are its waits for the least random numbers, and full jitter makes these 0"
+        raise TermsError(
+            f"{name}: expected a policy with an open time above 0, got {policy!r}: {why}; "
+            "write spaced(30), or jittered(0.5, 1)"
+        )
     return times

@@ -1,28 +1,40 @@
-"""What all limits have in common, and a request of one."""
+"""What a call asks before its first attempt too, and a request of it."""
 
 from __future__ import annotations
 
 import random as _random
 import threading
-from typing import Any, Callable, List, Optional
+from typing import Any, Callable, ClassVar, List, Optional, Type
 
+from .._engine.calls import OK, RACES_LOST, refused
 from .._engine.limits import (
     BREAKER_OPEN,
     LEVEL_LOW,
+    NO_NUMBER,
+    NO_WORD,
     OUT_OF_TURN,
     PROBING,
+    REFUSALS,
     REQUESTS_FULL,
     RETRIES_FULL,
     THROTTLED,
     LimitHandle,
+    Place,
+    admit,
+    cancelled,
+    draw,
+    ended,
+    failed,
+    succeeded,
 )
 from .._forks import OfOneProcess, begins_anew_in_a_child
-from .._time import moment
+from .._time import moments_of
+from ..budgets.limit import Limit
 from ..budgets.tickets import Refusal, RefusalReason
 from ..policy.preview import word_of
-from ..storms.limits import LimitTerms
+from .terms import LimitTerms
 
-__all__ = ["Limit", "Request", "look_at_no_limit"]
+__all__ = ["CallLimit", "Request", "look_at_no_limit"]
 
 _REASONS = {
     LEVEL_LOW: RefusalReason.LEVEL_LOW,
@@ -34,42 +46,73 @@ _REASONS = {
 }
 
 
-class Limit(OfOneProcess):
-    """What calls ask before their first attempt, and again before each retry.
+class CallLimit(OfOneProcess, Limit):
+    """A limit that calls ask before their first attempt, and again before each retry.
 
-    Pass one as `budget` wherever a `Quota` goes. A call that is not admitted raises a `NotAdmitted` and makes no
-    attempt. Threads may share a limit: its calls act as if made one after another. What a call holds is given back
-    once, when it ends or is cancelled. A limit belongs to its process: a forked child begins with a fresh one.
+    A call that is not admitted raises a `NotAdmitted` and makes no attempt. Threads may share a limit: its calls act as
+    if made one after another. What a call holds is given back once, when it ends or is cancelled. A limit belongs to
+    its process: a forked child begins with a fresh one.
 
     `request()` is for calls that you retry by hand.
     """
 
-    __slots__ = ("clock", "random", "generation", "root", "_lock", "_idle", "_split", "__weakref__")
+    __slots__ = ("_clock", "_random", "now", "word", "generation", "root", "idle", "_split", "_lock", "__weakref__")
 
-    #: Whether it looks at its clock.
+    #: Whether it looks at its clock, and that also at a success; whether it draws random numbers; and whether a retry
+    #: may cost something.
     reads_clock = False
+    times_successes = False
+    reads_random = False
+    has_costs = False
+
+    #: What its requests are.
+    REQUEST: ClassVar[Type[Request]]
 
     def __init__(self, clock: Callable[[], float], random: Callable[[], float] = _random.random) -> None:
         for name, function in (("clock", clock), ("random", random)):
             if not callable(function):
                 raise TypeError(f"{name}: expected a function, got {function!r}")
-        #: What returns the time in seconds.
         self.clock = clock
-        #: What returns numbers from 0 up to 1.
         self.random = random
         #: How often it began anew, as in a forked child.
         self.generation = 0
         self._begin()
         begins_anew_in_a_child(self)
 
+    @property
+    def clock(self) -> Callable[[], float]:
+        """What returns the time in seconds."""
+        return self._clock
+
+    @clock.setter
+    def clock(self, clock: Callable[[], float]) -> None:
+        self._clock = clock
+        #: The moment of a call, where it is read, and 0 where not.
+        self.now: Callable[[], int] = int
+        if self.reads_clock:
+            self.now = moments_of(clock)
+
+    @property
+    def random(self) -> Callable[[], float]:
+        """What returns numbers from 0 up to 1."""
+        return self._random
+
+    @random.setter
+    def random(self, random: Callable[[], float]) -> None:
+        self._random = random
+        #: The random word of a call, where one is drawn, and 0 where not.
+        self.word: Callable[[], int] = int
+        if self.reads_random:
+            self.word = lambda: word_of(random())
+
     def _begin(self) -> None:
         self._lock = threading.RLock()
         #: The handle that others are split off.
         self.root = self.make()
-        #: Those that nobody uses now. `pop` and `append` are each one step.
-        self._idle: List[LimitHandle] = []
+        #: Those that nobody uses now, of this process. `pop` and `append` are each one step.
+        self.idle: List[Place] = []
         #: All of them. The collector would free one that a request of the same cycle gives back.
-        self._split: List[LimitHandle] = []
+        self._split: List[Place] = []
 
     def begin_anew(self) -> None:
         """Begins with nothing counted."""
@@ -80,7 +123,7 @@ class Limit(OfOneProcess):
         """Makes the limit in the engine."""
         raise NotImplementedError
 
-    def parts(self) -> List[Limit]:
+    def parts(self) -> List[CallLimit]:
         """Returns the limits that it asks, each a single one of this process."""
         return [self]
 
@@ -92,22 +135,19 @@ class Limit(OfOneProcess):
         """Returns the expression that makes one like it."""
         raise NotImplementedError
 
-    def lend(self) -> LimitHandle:
-        """A handle for one request. `give_back` takes it back."""
+    def lend(self) -> Place:
+        """A place for one request, which goes back to its home."""
         try:
-            return self._idle.pop()
+            return self.idle.pop()
         except IndexError:
             with self._lock:
                 # (in this order: where the process is forked here, it comes back to those of the parent)
-                idle, split = self._idle, self._split
-                made = self.root.split()
+                idle, split = self.idle, self._split
+                made = Place(self.reads_clock, self.times_successes, self.has_costs, self.reads_random)
                 made.home = idle
+                self.root.split(made)
                 split.append(made)
                 return made
-
-    def give_back(self, lent: LimitHandle) -> None:
-        """Takes back a handle that has no request."""
-        lent.home.append(lent)
 
     def cost_of(self, error: Optional[BaseException]) -> int:
         """What a retry after this error costs, in thousandths."""
@@ -129,11 +169,7 @@ class Limit(OfOneProcess):
         ...     request.draw()
         <Refusal: the bucket's level is too low>
         """
-        return Request(self)
-
-    def retry_drawing(self, awaits: bool) -> Request:
-        """Returns what asks for one retry."""
-        return Request(self)
+        return self.REQUEST(self)
 
     def draw(self) -> None:
         """Raises a `TypeError`: a retry is drawn by its `request()`."""
@@ -144,92 +180,132 @@ class Limit(OfOneProcess):
 
 
 class Request(OfOneProcess):
-    """One call under a `Limit`, from its first attempt to its end. Use it as a context manager, or call `ended()`.
+    """One call under a `CallLimit`, from its first attempt to its end. Use it as a context manager, or call `ended()`.
 
     The order is: `admit()`, then after each attempt `succeeded()`, or `failed()` and, if you retry, `draw()`.
     """
 
-    __slots__ = ("_limit", "_handle", "_generation", "_is_admitted", "_refusal")
+    __slots__ = ("_limit", "_handle", "_is_admitted", "_refusal")
 
-    def __init__(self, limit: Limit) -> None:
+    def __init__(self, limit: CallLimit) -> None:
         self._limit = limit
-        self._handle: Optional[LimitHandle] = None
-        self._generation = limit.generation
+        self._handle: Optional[Place] = None
         self._is_admitted = False
         #: Why the limit of a forked child did not admit it.
         self._refusal: Optional[Refusal] = None
 
-    def _held(self) -> LimitHandle:
-        """Its handle."""
+    def _held(self) -> Place:
+        """Its place, of this process."""
         handle, limit = self._handle, self._limit
-        while handle is None or self._generation != limit.generation:
-            generation = limit.generation
-            handle = limit.lend()
-            if generation == limit.generation:  # (else the handler of a signal forked meanwhile)
-                self._handle, self._generation = handle, generation
-                if self._is_admitted:  # by the limit of the process that was forked
-                    self._refusal = self._ask(handle)
+        while handle is None or handle.home is not limit.idle:  # (again where the handler of a signal forks meanwhile)
+            handle = self._handle = limit.lend()
+            if self._is_admitted and handle.home is limit.idle:  # by the limit of the process that was forked
+                self._refusal = self.admit()
         return handle
-
-    def _ask(self, handle: LimitHandle) -> Optional[Refusal]:
-        """Asks the limit to admit it."""
-        limit = self._limit
-        answer = handle.admit(moment(limit.clock()), word_of(limit.random()))
-        if answer is None:
-            return None
-        if answer[0] == OUT_OF_TURN:
-            raise RuntimeError("expected a request that has ended, got one under way")
-        return limit.refused(*answer)
 
     def admit(self) -> Optional[Refusal]:
         """Asks before the first attempt. Returns None if the call is admitted, or the `Refusal`."""
-        refusal = self._ask(self._held())
-        self._is_admitted = refusal is None
-        return refusal
+        handle, limit = self._handle, self._limit
+        if handle is None and limit.idle:
+            try:
+                handle = self._handle = limit.idle.pop()
+            except IndexError:  # another thread took the last one just now
+                handle = self._held()
+        elif handle is None or handle.home is not limit.idle:
+            handle = self._held()
+        if handle.now is not NO_NUMBER:
+            handle.now.value = limit.now()
+        if handle.word is not NO_WORD:
+            handle.word.value = limit.word()
+        status = admit(handle.at, handle.now, handle.word, handle.at_number)
+        while status == RACES_LOST:  # to as many calls of others
+            status = admit(handle.at, handle.now, handle.word, handle.at_number)
+        self._is_admitted = status == OK
+        if status == OK:
+            return None
+        if status == OUT_OF_TURN:
+            raise RuntimeError("expected a request that has ended, got one under way")
+        return limit.refused(_refusal_of("admit", status), handle.number.value)
 
     def draw(self, error: Optional[BaseException] = None) -> Optional[Refusal]:
         """Asks for a retry, before the wait. Returns None if it is granted, or the `Refusal`. A bucket may charge more
         after some errors."""
-        limit = self._limit
-        answer = self._held().draw(moment(limit.clock()), limit.cost_of(error), word_of(limit.random()))
-        if answer is None:
+        handle, limit = self._handle, self._limit
+        if handle is None or handle.home is not limit.idle:
+            handle = self._held()
+        if handle.now is not NO_NUMBER:
+            handle.now.value = limit.now()
+        if handle.cost is not NO_NUMBER:
+            handle.cost.value = limit.cost_of(error)
+        if handle.word is not NO_WORD:
+            handle.word.value = limit.word()
+        status = draw(handle.at, handle.now, handle.cost, handle.word, handle.at_number)
+        while status == RACES_LOST:
+            status = draw(handle.at, handle.now, handle.cost, handle.word, handle.at_number)
+        if status == OK:
             return None
-        if answer[0] == OUT_OF_TURN:
-            if self._refusal is not None:
-                return self._refusal
+        if status != OUT_OF_TURN:
+            return limit.refused(_refusal_of("draw", status), handle.number.value)
+        if self._refusal is None:
             raise RuntimeError("expected a request that was admitted, got none under way")
-        return limit.refused(*answer)
+        return self._refusal
 
     def failed(self) -> None:
         """Tells that an attempt failed, whether you retry it or not."""
-        self._held().failed(moment(self._limit.clock()))
+        handle, limit = self._handle, self._limit
+        if handle is None or handle.home is not limit.idle:
+            handle = self._held()
+        if handle.now is not NO_NUMBER:
+            handle.now.value = limit.now()
+        status = failed(handle.at, handle.now)
+        if status != OK:
+            raise refused("hikebox_limit_failed", status)
 
     def succeeded(self) -> None:
         """Tells that an attempt succeeded."""
-        self._held().succeeded(moment(self._limit.clock()))
+        handle, limit = self._handle, self._limit
+        if handle is None or handle.home is not limit.idle:
+            handle = self._held()
+        if handle.won_at is not NO_NUMBER:
+            handle.won_at.value = limit.now()
+        status = succeeded(handle.at, handle.won_at)
+        if status != OK:
+            raise refused("hikebox_limit_succeeded", status)
 
-    def tell(self, succeeded: bool) -> None:
-        """Tells how an attempt ended."""
-        if succeeded:
-            self.succeeded()
-        else:
-            self.failed()
+    def won(self) -> None:
+        """Tells that the call is over as its first attempt succeeded."""
+        handle, limit = self._handle, self._limit
+        if handle is None or handle.home is not limit.idle:
+            handle = self._held()
+        if handle.won_at is not NO_NUMBER:
+            handle.won_at.value = limit.now()
+        if succeeded(handle.at, handle.won_at) != OK or ended(handle.at) != OK:
+            self.succeeded()  # (which tells what is wrong)
+        handle, self._handle = self._handle, None
+        if handle is not None:
+            handle.home.append(handle)
 
     def cancelled(self) -> None:
         """Tells that the latest retry is cancelled while it waits. What it cost and its slot come back, once."""
-        self._held().cancelled()
+        handle = self._held()
+        if handle.handle.held:  # (the collector frees it before a request of the same cycle)
+            status = cancelled(handle.at)
+            if status != OK:
+                raise refused("hikebox_limit_cancelled", status)
 
     def ended(self) -> None:
         """Tells that the call is over. What it holds comes back, once."""
         handle = self._handle
-        if handle is not None and self._generation == self._limit.generation:
-            handle.ended()
+        if handle is not None and handle.home is self._limit.idle:
+            status = ended(handle.at)
+            if status != OK and handle.handle.held:  # (the collector frees it before a request of the same cycle)
+                raise refused("hikebox_limit_ended", status)
         # (it is let go only then: an exception of a signal's handler may end this at any step, and `__del__` goes on;
         # such a handler, or another thread, may have let it go meanwhile)
         handle, self._handle = self._handle, None
         self._is_admitted, self._refusal = False, None
         if handle is not None:
-            self._limit.give_back(handle)
+            handle.home.append(handle)
 
     def end(self, hands_back: bool) -> None:
         """The retry is over, with a ticket that was not used where that is so."""
@@ -244,14 +320,28 @@ class Request(OfOneProcess):
         self.ended()
 
     def __del__(self) -> None:
-        if getattr(self, "_handle", None) is not None:
-            self.ended()  # (a limit has only so many handles, so this one serves another request)
+        try:
+            if self._handle is None:
+                return
+        except AttributeError:
+            return  # (an exception of a signal's handler ended `__init__`)
+        self.ended()  # (a limit has only so many handles, so this one serves another request)
 
 
-def look_at_no_limit(called: str, budget: object, client: str) -> None:
+def _refusal_of(call: str, status: int) -> int:
+    """The status of a refusal, or its exception where it is none."""
+    if status not in REFUSALS:
+        raise refused(f"hikebox_limit_{call}", status)
+    return status
+
+
+CallLimit.REQUEST = Request
+
+
+def look_at_no_limit(called: str, limit: object, client: str) -> None:
     """Refuses a limit where a client does not say when a call begins."""
-    if isinstance(budget, Limit):
-        kind = type(budget).__name__
+    if isinstance(limit, CallLimit):
+        kind = type(limit).__name__
         raise TypeError(
             f"{called} takes no {kind}: it is asked before the first attempt, and {client} doesn't say when that begins"
         )

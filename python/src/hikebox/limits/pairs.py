@@ -7,7 +7,7 @@ from typing import Iterable, List, Optional
 from .._engine.limits import LimitHandle
 from ..errors import TermsError
 from .kinds import Bucket, Throttle
-from .limit import Limit
+from .limit import CallLimit
 
 __all__ = ["both"]
 
@@ -15,12 +15,12 @@ __all__ = ["both"]
 _MOST = 4
 
 
-class Both(Limit):
+class Both(CallLimit):
     """Several limits at once, as `both` makes it."""
 
     __slots__ = ("_limits",)
 
-    def __init__(self, limits: List[Limit]) -> None:
+    def __init__(self, limits: List[CallLimit]) -> None:
         self._limits = limits
         timed = [limit for limit in limits if limit.reads_clock] or limits[:1]
         if any(limit.clock != timed[0].clock for limit in timed):
@@ -31,14 +31,36 @@ class Both(Limit):
         throttles = [limit for limit in limits if isinstance(limit, Throttle)] or limits
         super().__init__(timed[0].clock, throttles[0].random)
 
-    def parts(self) -> List[Limit]:
+    @property
+    def reads_clock(self) -> bool:  # type: ignore[override]
+        """Whether one of them looks at its clock."""
+        return any(limit.reads_clock for limit in self._limits)
+
+    @property
+    def times_successes(self) -> bool:  # type: ignore[override]
+        """Whether one of them looks at its clock at a success."""
+        return any(limit.times_successes for limit in self._limits)
+
+    @property
+    def reads_random(self) -> bool:  # type: ignore[override]
+        """Whether one of them draws random numbers."""
+        return any(limit.reads_random for limit in self._limits)
+
+    @property
+    def has_costs(self) -> bool:  # type: ignore[override]
+        """Whether a retry may cost something of one of them."""
+        return any(limit.has_costs for limit in self._limits)
+
+    def parts(self) -> List[CallLimit]:
         return self._limits
 
     def make(self) -> LimitHandle:
-        first, *others = (limit.root.split() for limit in self._limits)
-        for other in others:
-            first.both(other)
-        return first
+        parts = [LimitHandle() for _ in self._limits]
+        for limit, part in zip(self._limits, parts):
+            limit.root.split(part)
+        for part in parts[1:]:
+            parts[0].both(part)
+        return parts[0]
 
     def cost_of(self, error: Optional[BaseException]) -> int:
         return max(limit.cost_of(error) for limit in self._limits)
@@ -47,11 +69,11 @@ class Both(Limit):
         return f"both({', '.join(limit.expression() for limit in self._limits)})"
 
 
-def _told(limits: Iterable[Limit]) -> str:
+def _told(limits: Iterable[CallLimit]) -> str:
     return ", ".join(map(repr, limits))
 
 
-def both(first: Limit, second: Limit, *others: Limit) -> Limit:
+def both(first: CallLimit, second: CallLimit, *others: CallLimit) -> CallLimit:
     """Returns a limit that asks all of these, at most four: either all admit a call or grant a retry, or what those
     before gave comes back at once. They are asked in their order. Put breakers and throttles last: a probe that a
     breaker admitted does not come back, nor does what a throttle counted. Buckets need the same `cost` and
@@ -61,11 +83,14 @@ def both(first: Limit, second: Limit, *others: Limit) -> Limit:
     >>> both(InFlight.envoy(), Breaker(5, spaced(30)), Throttle.google())
     <both(InFlight(3, 0.2), Breaker(5, spaced(30)), Throttle(2, 60))>
     """
-    limits: List[Limit] = []
+    limits: List[CallLimit] = []
     for limit in (first, second, *others):
-        if not isinstance(limit, Limit) or not limit.parts():
+        if not isinstance(limit, CallLimit) or not limit.parts():
             raise TypeError(f"both: expected a Bucket, an InFlight, a Breaker or a Throttle, got {limit!r}")
         limits += limit.parts()
+    twice = [limit for index, limit in enumerate(limits) if any(limit is other for other in limits[:index])]
+    if twice:
+        raise TermsError(f"both: expected limits that differ, got {twice[0]!r} twice")
     if len(limits) > _MOST:
         raise TermsError(f"both: expected at most {_MOST} limits, got {len(limits)}")
     return Both(limits)

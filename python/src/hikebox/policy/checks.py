@@ -51,6 +51,8 @@ def factor_of(number: Any, what: str, least: float) -> int:
 
 def ratio(number: Any, what: str) -> int:
     """A ratio from 0 to 10 in thousandths: none that is not 0 becomes it."""
+    if type(number) is float and 0.001 <= number <= 10.0:
+        return round(number * 1000)
     count = thousandths(number, what, 0, 10)
     if count == 0 and number:
         raise PolicyError(Fault.OUT_OF_RANGE, hint=f"{what}: a ratio of {number!r} is less than a thousandth")

@@ -3,15 +3,15 @@
 from __future__ import annotations
 
 import ast
-import difflib
+import operator
 import re
-from typing import Any, Dict, Iterable, List, NamedTuple, Union
+from typing import Any, Callable, Dict, Iterable, List, NamedTuple, NoReturn, Type, Union
 
 from .._time import milliseconds
 from ..errors import Fault, PolicyError
 from . import builders
 from .nodes import MAX_DEPTH, NODES
-from .policy import Policy
+from .policy import HOW_TO_JOIN, Policy
 
 __all__ = ["Refused", "parse", "read"]
 
@@ -25,6 +25,13 @@ _METHODS = tuple(
     for found in re.findall(r"^\{A\}\.([^(]+)\(", expression)
     for name in (_GATES if "{" in found else (found,))
 )
+
+#: What joins two policies.
+_JOINS: Dict[Type[ast.AST], Callable[[Policy, Policy], Policy]] = {
+    ast.BitAnd: operator.and_,
+    ast.BitOr: operator.or_,
+    ast.RShift: operator.rshift,
+}
 
 #: How often an expression is parsed at most.
 _MOST_PARSES = 100
@@ -124,15 +131,11 @@ def _evaluated(node: ast.expr) -> Any:
     if isinstance(node, ast.UnaryOp) and isinstance(node.op, ast.USub):
         inner = _value(node.operand)
         return -inner if isinstance(inner, (int, float)) else _refuse(node)
-    if isinstance(node, ast.BinOp):
-        left, right = _value(node.left), _value(node.right)
-        if isinstance(left, Policy) and isinstance(right, Policy):
-            if isinstance(node.op, ast.BitAnd):
-                return left & right
-            if isinstance(node.op, ast.BitOr):
-                return left | right
-            if isinstance(node.op, ast.RShift):
-                return left >> right
+    if isinstance(node, (ast.BinOp, ast.BoolOp)):
+        parts = [_value(part) for part in (node.values if isinstance(node, ast.BoolOp) else (node.left, node.right))]
+        if all(isinstance(part, Policy) for part in parts):
+            joins = _JOINS.get(type(node.op))
+            return _misjoined(node) if joins is None else joins(*parts)
     if isinstance(node, ast.Call):
         return _called(node)
     return _refuse(node)
@@ -172,9 +175,15 @@ def _quoted(text: str) -> str:
 
 
 def _unknown(kind: str, name: str, known: Iterable[str]) -> PolicyError:
+    import difflib
+
     close = difflib.get_close_matches(name, known, 1)
     hint = f"; did you mean {close[0]!r}?" if close else ""
     return PolicyError(Fault.NOT_A_PLAN, hint=f"no {kind} is called {_quoted(name)}{hint}")
+
+
+def _misjoined(node: ast.expr) -> NoReturn:
+    raise PolicyError(Fault.NOT_A_PLAN, hint=f"{HOW_TO_JOIN}, got {_quoted(ast.unparse(node))}")
 
 
 def _refuse(node: ast.expr) -> Any:

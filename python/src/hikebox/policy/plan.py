@@ -2,9 +2,8 @@
 
 from __future__ import annotations
 
-import json
 from ctypes import c_size_t
-from typing import Any, Callable, Dict, Optional, Tuple
+from typing import Any, Dict, Optional, Tuple
 
 from .._engine.calls import NOT_A_POLICY, NOT_JSON, OUT_OF_RANGE, TOO_DEEP, TOO_MANY
 from .._engine.handles import PolicyHandle, Spelt
@@ -71,9 +70,14 @@ class Plan(PolicyHandle):
     def tree(self) -> Any:
         """The value of `json.loads` that spells it."""
         if self._tree is None:
+            import json
+
             self._tree = json.loads(self.text)
         return self._tree
 
 
-#: The JSON of a value.
-_written: Callable[[Any], str] = json.JSONEncoder().encode
+def _written(value: Any) -> str:
+    """The JSON of a value."""
+    import json
+
+    return json.dumps(value)

@@ -2,9 +2,8 @@
 
 from __future__ import annotations
 
-import json
 import os
-from typing import Any, Callable, Dict, Iterable, List, Optional, Tuple, Union
+from typing import TYPE_CHECKING, Any, Callable, Dict, Iterable, List, Optional, Tuple, Union
 
 from .._time import Duration, seconds
 from ..errors import Fault, PolicyError, shown
@@ -13,7 +12,13 @@ from .nodes import FOLDS, MAX_DEPTH, MAX_NODES
 from .plan import Plan
 from .preview import Step, played
 
-__all__ = ["Policy", "Step"]
+__all__ = ["HOW_TO_JOIN", "Policy", "Step"]
+
+#: What is told where another operator stands between two policies.
+HOW_TO_JOIN = "join policies by & or |"
+
+
+_new = object.__new__
 
 
 class Policy:
@@ -56,14 +61,16 @@ class Policy:
         name: str, own: Tuple[Any, ...], first: Optional[Policy] = None, second: Optional[Policy] = None
     ) -> Policy:
         """The policy of a node, with parameters that were looked at, over other policies: for builders."""
-        policy = object.__new__(Policy)
+        policy = _new(Policy)
         policy._plan = policy._reads = None
         policy._node = (name, own, first, second)
         nodes = depth = 1
         if first is not None:
             nodes, depth = first._nodes + 1, first._depth + 1
-        if second is not None:
-            nodes, depth = nodes + second._nodes, max(depth, second._depth + 1)
+            if second is not None:
+                nodes += second._nodes
+                if second._depth >= depth:
+                    depth = second._depth + 1
         policy._nodes, policy._depth = nodes, depth
         if nodes > MAX_NODES or depth > MAX_DEPTH:
             policy.plan  # (the engine says what is wrong)
@@ -95,6 +102,8 @@ class Policy:
         >>> Policy.from_dict({"cap": [1000, {"exponential": [100, 2]}]})
         exponential(0.1, 2).cap(1)
         """
+        import json
+
         try:
             text = json.dumps(value, allow_nan=False)
         except (ValueError, RecursionError) as error:
@@ -145,6 +154,8 @@ class Policy:
 
     def to_dict(self) -> Any:
         """Returns the policy as a new value that `from_dict` reads."""
+        import json
+
         return json.loads(self.plan.text)
 
     @property
@@ -186,7 +197,14 @@ class Policy:
         return hash(self.plan.text)
 
     def __bool__(self) -> bool:
-        raise TypeError("policies are joined by & and |: `and`, `or` and `not` would drop one of them")
+        raise TypeError(f"{HOW_TO_JOIN}: `and`, `or` and `not` would drop one of them")
+
+    if not TYPE_CHECKING:  # (a type checker refuses the operator, where a method would allow it)
+
+        def __add__(self, other: object) -> Policy:
+            if not isinstance(other, Policy):
+                return NotImplemented
+            raise TypeError(f"{HOW_TO_JOIN}, got +")
 
     def __reduce__(self) -> Any:
         return (Policy.from_json, (self.plan.text,))
@@ -304,13 +322,13 @@ class Policy:
         >>> spaced(1).jittered(0.5, 1.5).preview(1, random=lambda: 0.0)[0].delay
         0.5
         """
-        ratios = [ratio(least, "jittered"), ratio(most, "jittered")]
-        if ratios[0] > ratios[1]:
+        low, high = ratio(least, "jittered"), ratio(most, "jittered")
+        if low > high:
             raise PolicyError(Fault.OUT_OF_RANGE, hint=f"jittered({least}, {most}): the range is empty")
-        if ratios[0] == ratios[1] and least != most:
+        if low == high and least != most:
             hint = f"jittered({least}, {most}): the range is less than a thousandth"
             raise PolicyError(Fault.OUT_OF_RANGE, hint=hint)
-        return Policy.of_node("jitter", (whole(lane, "jittered: a lane", 0, 3), *ratios), self)
+        return Policy.of_node("jitter", (whole(lane, "jittered: a lane", 0, 3), low, high), self)
 
     def up_to(self, duration: Duration) -> Policy:
         """Ends once this much time has passed since the first failure. ZIO's `upTo`, JSON's `within`."""

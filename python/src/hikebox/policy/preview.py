@@ -2,11 +2,10 @@
 
 from __future__ import annotations
 
-import json
-from dataclasses import dataclass
 from typing import Any, Callable, List, Optional
 
 from .._engine.calls import MAX_STEPS
+from .._values import dataclass
 from .checks import whole
 from .plan import Plan
 
@@ -70,6 +69,10 @@ def played(
 
 def _output_of(text: str) -> Any:
     """The output that the engine prints as this text. Pairs are read as objects that hold a list."""
+    if text.isdigit():
+        return int(text)
+    import json
+
     pairs = text.replace("(", '{"": [').replace(")", "]}")
     return json.loads(pairs, object_hook=lambda pair: tuple(pair[""]))
 

@@ -4,13 +4,14 @@ from __future__ import annotations
 
 from contextvars import Token
 from types import TracebackType
-from typing import TYPE_CHECKING, Any, Optional, Tuple, Type, Union
+from typing import TYPE_CHECKING, Any, Optional, Tuple, Type
 from weakref import ref
 
 from .deadline import Deadline, enter, leave
-from .drivers import advance, answer_of, next_begins, settle, settle_async
-from .progress import Progress, Steps
+from .drivers import advance, answer_of, settle, settle_async, slept, waits
+from .progress import Progress
 from .state import Outcome, RetryState
+from .steps import OVER, RAISE, RUN, Settled, Steps, steps
 
 if TYPE_CHECKING:
     from ..retrying import BaseRetrying
@@ -81,6 +82,10 @@ class _BaseAttempts:
 
     def __init__(self, owner: BaseRetrying) -> None:
         self.progress = Progress(owner)
+        #: The steps of the retry, once something is to be done for it.
+        self.steps: Optional[Steps] = None
+        #: What the retry wants, once it began.
+        self.want: Optional[Settled] = None
         self.deadline: Optional[Deadline] = self.progress.state.deadline
         #: What goes back to the time that calls had before the attempt.
         self.token: Optional[Token[Optional[Deadline]]] = None
@@ -88,9 +93,38 @@ class _BaseAttempts:
         self.under_way = False
         self.is_open = False
 
-    def begins(self) -> Attempt:
-        self.under_way = True
-        return Attempt(self)
+    def driven(self) -> Steps:
+        """The steps of the retry, which wait for the outcome of its first attempt where that has begun."""
+        driven = self.steps
+        if driven is None:
+            driven = self.steps = steps(self.progress, self.want is RUN)
+            if self.want is RUN:
+                driven.send(None)
+        return driven
+
+    def begins(self) -> bool:
+        """Begins the first attempt, where no more is to be done for it than to count it or to ask the limit."""
+        progress = self.progress
+        settings = progress.settings
+        if settings.is_quiet:
+            if settings.deposit is not None:
+                settings.deposit()
+            elif settings.asks_limit:
+                progress.drawing = settings.drawing()
+                progress.state.refusal = progress.drawing.admit()
+                if progress.state.refusal is not None:
+                    return False
+            self.want = RUN
+        return settings.is_quiet
+
+    def turn(self) -> Optional[Attempt]:
+        """One more attempt, where the retry wants one; else it is over, and its last exception is raised."""
+        if self.want is RUN:
+            self.under_way = True
+            return Attempt(self)
+        self.progress.close()
+        answer_of(self.progress)
+        return None
 
     def look_at_block(self) -> None:
         """Refuses a turn whose attempt was not used."""
@@ -101,76 +135,72 @@ class _BaseAttempts:
     def ended(self, error: Optional[BaseException]) -> bool:
         """The attempt's block was left: whether its exception stops there."""
         self.under_way = False
-        progress = self.progress
         if error is not None:
-            return self.judge(progress.raised(error), error)
-        settings, outcome = progress.settings, progress.state.outcome
-        if outcome is None and (settings.on_result is not None or settings.repeats or settings.hooks_on_success):
-            progress.state.outcome = Outcome(attempt_number=progress.state.attempt_number)
+            return self.judge(Outcome(None, error))
+        progress = self.progress
+        settings, state = progress.settings, progress.state
+        if settings.is_quiet:  # (nothing is asked of its result)
+            if state.outcome is None:
+                state.outcome = Outcome(attempt_number=state.attempt_number)
+            progress.wins()
+            self.want = OVER
+            progress.close()
+            return True
+        if state.outcome is None and (settings.on_result is not None or settings.repeats or settings.hooks_on_success):
+            state.outcome = Outcome(attempt_number=state.attempt_number)
             self.is_open = True
             return True
-        return self.judge(self.told(), None)
+        return self.judge(self.told())
 
-    def told(self) -> Steps[None]:
-        """The steps for the result that was told, or none."""
+    def told(self) -> Outcome:
+        """The outcome of an attempt whose result was told, or that has none."""
         self.is_open = False
-        outcome = self.progress.state.outcome
-        return self.progress.returned(None if outcome is None else outcome.result())
+        return self.progress.state.outcome or Outcome()
 
-    def judge(self, steps: Union[bool, Steps[Any]], error: Optional[BaseException]) -> bool:
+    def judge(self, outcome: Outcome) -> bool:
+        """Has the attempt judged: whether its exception stops in its block."""
         raise NotImplementedError
+
+    def judged(self, want: Settled) -> bool:
+        self.want = want
+        if want is OVER or want is RAISE:
+            self.progress.close()
+        return want is not RAISE
 
 
 class Attempts(_BaseAttempts):
     """Those of a `for` loop."""
 
-    #: How many seconds the next attempt of a plain retry is waited for, once the one before has failed.
-    wait: Optional[float] = None
-
     def __iter__(self) -> Attempts:
         return self
 
-    def ended(self, error: Optional[BaseException]) -> bool:
-        if error is None:
-            return super().ended(None)
+    def judge(self, outcome: Outcome) -> bool:
         try:
-            wait = self.wait = self.progress.fails(error)
+            driven = self.driven()
+            return self.judged(settle(driven, driven.send(outcome)))
         except BaseException:
             self.progress.close()
             raise
-        if wait is None:
-            return super().ended(error)
-        self.under_way = False
-        if wait < 0.0:
-            self.progress.close()
-        return wait >= 0.0
-
-    def judge(self, steps: Union[bool, Steps[Any]], error: Optional[BaseException]) -> bool:
-        progress = self.progress
-        try:
-            stays = settle(steps)
-        except BaseException:
-            progress.close()
-            raise
-        if progress.over:
-            progress.close()
-        return error is None or bool(stays)
 
     def __next__(self) -> Attempt:
-        self.look_at_block()
-        progress = self.progress
+        if self.under_way:
+            self.look_at_block()
+        if self.is_open:
+            self.judge(self.told())
         try:
-            if self.is_open:
-                settle(self.told())
-            wait, self.wait = self.wait, None
-            if next_begins(progress, wait):
-                return self.begins()
+            if self.want is None:
+                if not self.begins():
+                    driven = self.driven()
+                    self.want = settle(driven, driven.send(None))
+            elif isinstance(self.want, float):
+                self.want = slept(self.progress, self.driven(), self.want)
         except BaseException:
-            progress.close()
+            self.progress.close()
             raise
-        progress.close()
-        answer_of(progress)
-        raise StopIteration
+        attempt = self.turn()
+        if attempt is None:
+            raise StopIteration
+        return attempt
 
 
 class AsyncAttempts(_BaseAttempts):
@@ -179,52 +209,53 @@ class AsyncAttempts(_BaseAttempts):
 
     def __init__(self, owner: BaseRetrying) -> None:
         super().__init__(owner)
-        #: Steps that wait for something, and the exception that they judge.
-        self.pending: Optional[Tuple[Union[bool, Steps[Any]], Any, Optional[BaseException]]] = None
+        #: What is to be awaited to judge an attempt, and that attempt.
+        self.pending: Optional[Tuple[Any, Outcome]] = None
 
     def __aiter__(self) -> AsyncAttempts:
         return self
 
-    def judge(self, steps: Union[bool, Steps[Any]], error: Optional[BaseException]) -> bool:
-        progress = self.progress
+    def judge(self, outcome: Outcome) -> bool:
         try:
-            done, stays = advance(steps)
+            driven = self.driven()
+            want, awaitable = advance(driven, driven.send(outcome))
         except BaseException:
-            progress.close()
+            self.progress.close()
             raise
-        if not done:
-            self.pending = steps, stays, error
-            return True
-        if progress.over:
-            progress.close()
-        return error is None or bool(stays)
+        if awaitable is None:
+            return self.judged(want)
+        self.pending = awaitable, outcome
+        return True
 
     async def _judge_pending(self) -> None:
         """Judges what the block of the attempt before left open."""
         if self.is_open:
-            await settle_async(self.told())
+            self.judge(self.told())
         if self.pending is None:
             return
-        (steps, awaitable, error), self.pending = self.pending, None
+        (awaitable, outcome), self.pending = self.pending, None
         try:
-            done, stays = False, awaitable
-            while not done:
-                done, stays = advance(steps, await stays)
-            if error is not None and not stays:
-                raise error
+            driven = self.driven()
+            if not self.judged(await settle_async(driven, driven.send(await awaitable))):
+                outcome.result()
         finally:
-            del error
+            del outcome
 
     async def __anext__(self) -> Attempt:
         self.look_at_block()
-        progress = self.progress
         try:
             await self._judge_pending()
-            if await settle_async(progress.begins()):
-                return self.begins()
+            if isinstance(self.want, float):
+                awaitable = waits(self.progress, self.want)
+                if awaitable is not None:
+                    await awaitable
+            if isinstance(self.want, float) or (self.want is None and not self.begins()):
+                driven = self.driven()
+                self.want = await settle_async(driven, driven.send(None))
         except BaseException:
-            progress.close()
+            self.progress.close()
             raise
-        progress.close()
-        answer_of(progress)
-        raise StopAsyncIteration
+        attempt = self.turn()
+        if attempt is None:
+            raise StopAsyncIteration
+        return attempt

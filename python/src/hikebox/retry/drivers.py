@@ -1,14 +1,15 @@
-"""The two drivers of a retry: one that blocks, and one for coroutines."""
+"""The two drivers of a retry's steps: one that blocks, and one for coroutines."""
 
 from __future__ import annotations
 
-from inspect import unwrap
 from types import CoroutineType
-from typing import TYPE_CHECKING, Any, Callable, Optional, Tuple, TypeVar, Union
+from typing import TYPE_CHECKING, Any, Callable, Tuple
 
 from .deadline import enter, leave
-from .kinds import is_async
-from .progress import Progress, Steps
+from .kinds import is_async, unwrapped
+from .progress import Progress
+from .state import Outcome
+from .steps import OVER, RAISE, RUN, Settled, Steps, steps
 
 if TYPE_CHECKING:
     from ..retrying import BaseRetrying
@@ -16,104 +17,146 @@ if TYPE_CHECKING:
 __all__ = [
     "advance",
     "answer_of",
-    "next_begins",
     "not_awaitable",
     "refuse_awaitable",
     "run",
     "run_async",
     "settle",
     "settle_async",
+    "slept",
+    "waits",
 ]
 
-Answer = TypeVar("Answer")
+
+def settle(driven: Steps, want: Any) -> Settled:
+    """Makes the calls that a retry wants, of which nothing is awaited, up to a wait or a signal."""
+    while type(want) is tuple:
+        function, argument = want
+        want = driven.send(not_awaitable(function(argument)))
+    return want  # type: ignore[no-any-return]
 
 
-def advance(steps: Union[bool, Steps[Any]], answer: Any = None) -> Tuple[bool, Any]:
-    """Does what the steps ask for up to their end, or up to something that has to be awaited: whether it is the end,
-    and the steps' answer or what is to be awaited."""
-    if isinstance(steps, bool):
-        return True, steps
-    send = steps.send
-    while True:
-        try:
-            function, argument = send(answer)
-        except StopIteration as done:
-            return True, done.value
+def slept(progress: Progress, driven: Steps, seconds: float) -> Settled:
+    """Waits so many seconds, and goes on up to the next attempt, or the end."""
+    if seconds > 0.0:
+        answer = progress.settings.sleeps(seconds)
+        if answer is not None:
+            not_awaitable(answer)
+    want = driven.send(None)
+    return settle(driven, want) if type(want) is tuple else want  # type: ignore[return-value]
+
+
+def advance(driven: Steps, want: Any) -> Tuple[Settled, Any]:
+    """Makes the calls that a retry wants, up to a wait or a signal, or up to something that has to be awaited, which is
+    then the second."""
+    while type(want) is tuple:
+        function, argument = want
         answer = function(argument)
         if hasattr(type(answer), "__await__"):
-            return False, answer
+            return RUN, answer
+        want = driven.send(answer)
+    return want, None
 
 
-def settle(steps: Union[bool, Steps[Answer]]) -> Any:
-    """The answer of steps of which nothing is awaited."""
-    if isinstance(steps, bool):
-        return steps
-    send, answer = steps.send, None
-    while True:
-        try:
-            function, argument = send(answer)
-        except StopIteration as done:
-            return done.value
-        answer = not_awaitable(function(argument))
+async def settle_async(driven: Steps, want: Any) -> Settled:
+    """Makes the calls that a retry wants, and awaits what they give, up to a wait or a signal."""
+    settled, awaitable = advance(driven, want)
+    while awaitable is not None:
+        settled, awaitable = advance(driven, driven.send(await awaitable))
+    return settled
 
 
-async def settle_async(steps: Union[bool, Steps[Answer]]) -> Any:
-    """The answer of steps of which some may have to be awaited."""
-    done, answer = advance(steps)
-    while not done:
-        done, answer = advance(steps, await answer)
-    return answer
+def waits(progress: Progress, seconds: float) -> Any:
+    """Begins to wait so many seconds, or lets other coroutines go on: what is to be awaited for that, or None."""
+    settings = progress.settings
+    awaitable = settings.sleeps(seconds) if seconds > 0.0 else settings.pause and settings.pause(0.0)
+    return awaitable if hasattr(type(awaitable), "__await__") else None
 
 
 def run(owner: BaseRetrying, fn: Callable[..., Any], args: Any, kwargs: Any) -> Any:
     """Calls the function until its retry is over."""
     settings = owner.settings
     start = settings.clock()
-    deadline = None if settings.deadline_millis is None else settings.deadline_from(start)
+    deadline = _NONE if settings.deadline_millis is None else settings.deadline_from(start)
     token = None if deadline is None else enter(deadline)
-    # until something is to be done for it, a retry is only its start
-    progress = None if settings.is_quiet else Progress(owner, fn, args, kwargs, start, deadline)
+    # until something is to be done for it, a retry is only its start, or its request of a limit
+    progress = request = refusal = _NONE
     try:
-        if progress is None and settings.deposit is not None:
-            settings.deposit()
-        goes_on = progress is None or settle(progress.begins())
-        while goes_on:
-            wait = None
-            try:
-                result = fn(*args, **kwargs)
-            except BaseException as error:
-                if progress is None:
-                    progress = Progress(owner, fn, args, kwargs, start, deadline)
-                wait = progress.fails(error)
-                if not settle(progress.raised(error)) if wait is None else wait < 0.0:
-                    raise
-            else:
-                if type(result) is CoroutineType:
-                    refuse_awaitable(repr(fn), result, settings.repeats)
-                if progress is None:
-                    owner.counts.add_success()
-                    if settings.deposit_won is not None:
-                        settings.deposit_won()
-                    return result
-                settle(progress.returned(result))
-            goes_on = next_begins(progress, wait)
-        return None if progress is None else answer_of(progress)
+        if settings.is_quiet:
+            if settings.deposit is not None:
+                settings.deposit()
+            elif settings.asks_limit:
+                request = settings.drawing()
+                refusal = request.admit()
+        if refusal is not None or not settings.is_quiet:
+            progress = Progress(owner, fn, args, kwargs, start, deadline, request, refusal)
+            driven = steps(progress)
+            return _attempts(progress, driven, settle(driven, driven.send(None)))
+        try:
+            result = fn(*args, **kwargs)
+        except BaseException as error:
+            progress = Progress(owner, fn, args, kwargs, start, deadline, request)
+            driven = steps(progress, True)
+            driven.send(None)
+            want = driven.send(Outcome(None, error))
+            if type(want) is tuple:
+                want = settle(driven, want)
+            if want is RAISE:
+                raise
+        else:
+            if type(result) is CoroutineType:
+                refuse_awaitable(repr(fn), result, settings.repeats)
+            owner.counts.add_success()
+            if request is not None:
+                request.won()
+                request = None
+            elif settings.deposit_won is not None:
+                settings.deposit_won()
+            return result
+        return _attempts(progress, driven, want)
     finally:
-        if deadline is not None and token is not None:
+        if token is not None:
             leave(deadline, token)
         if progress is not None:
             progress.close()
+        elif request is not None:
+            request.ended()
 
 
-def next_begins(progress: Progress, wait: Optional[float]) -> Any:
-    """Waits so many seconds after an attempt that failed, or does what the retry asks for: whether the next begins."""
-    if wait is None:
-        return settle(progress.begins())
-    if wait > 0.0:
-        slept = progress.settings.sleeps(wait)
-        if slept is not None:
-            not_awaitable(slept)
-    return progress.goes_on()
+def _attempts(progress: Progress, driven: Steps, want: Any) -> Any:
+    """Waits, and makes the attempts that a retry wants: its result."""
+    settings, state = progress.settings, progress.state
+    fn: Any = state.fn
+    while True:
+        if type(want) is float:
+            answer = settings.sleeps(want) if want > 0.0 else None
+            if answer is not None:
+                not_awaitable(answer)
+            want = driven.send(None)
+            if type(want) is tuple:
+                want = settle(driven, want)
+        if want is not RUN:
+            return answer_of(progress)
+        try:
+            result = fn(*state.args, **state.kwargs)
+        except BaseException as error:
+            want = driven.send(Outcome(None, error))
+            if type(want) is tuple:
+                want = settle(driven, want)
+            if want is RAISE:
+                raise
+        else:
+            if type(result) is CoroutineType:
+                refuse_awaitable(repr(fn), result, settings.repeats)
+            if settings.is_quiet:
+                state.outcome = Outcome(result, None, state.attempt_number)
+                progress.wins()
+                return result
+            want = driven.send(Outcome(result))
+            if type(want) is tuple:
+                want = settle(driven, want)
+            if want is OVER and progress.is_accepted:
+                return result
 
 
 async def run_async(owner: BaseRetrying, fn: Callable[..., Any], args: Any, kwargs: Any) -> Any:
@@ -122,64 +165,73 @@ async def run_async(owner: BaseRetrying, fn: Callable[..., Any], args: Any, kwar
     start = settings.clock()
     deadline = None if settings.deadline_millis is None else settings.deadline_from(start)
     token = None if deadline is None else enter(deadline)
-    progress = None if settings.is_quiet else Progress(owner, fn, args, kwargs, start, deadline)
-    awaitable: Any = None
+    progress = request = refusal = awaitable = _NONE
+    want: Any = RUN
     try:
-        if progress is None and settings.deposit is not None:
-            settings.deposit()
-        goes_on = progress is None or await settle_async(progress.begins())
-        while goes_on:
-            wait = None
+        if settings.is_quiet:
+            if settings.deposit is not None:
+                settings.deposit()
+            elif settings.asks_limit:
+                request = settings.drawing()
+                refusal = request.admit()
+        if refusal is not None or not settings.is_quiet:
+            progress = Progress(owner, fn, args, kwargs, start, deadline, request, refusal)
+            driven = steps(progress)
+            want = await settle_async(driven, driven.send(None))
+        while want is RUN:
             try:
                 awaitable = fn(*args, **kwargs)
                 result = await awaitable if hasattr(type(awaitable), "__await__") else _NOT_AWAITABLE
             except BaseException as error:
                 if progress is None:
-                    progress = Progress(owner, fn, args, kwargs, start, deadline)
-                _look_at_function(progress, awaitable, error)
-                wait = progress.fails(error)
-                if not await settle_async(progress.raised(error)) if wait is None else wait < 0.0:
+                    progress = Progress(owner, fn, args, kwargs, start, deadline, request)
+                    driven = steps(progress, True)
+                    driven.send(None)
+                if awaitable is None:
+                    _look_at_function(progress, error)
+                want = driven.send(Outcome(None, error))
+                if type(want) is tuple:
+                    want = await settle_async(driven, want)
+                if want is RAISE:
                     raise
             else:
                 if result is _NOT_AWAITABLE:
                     raise TypeError(f"{fn!r} returned nothing to await: {_plain(settings.repeats)} is for functions")
                 if progress is None:
                     owner.counts.add_success()
-                    if settings.deposit_won is not None:
+                    if request is not None:
+                        request.won()
+                        request = None
+                    elif settings.deposit_won is not None:
                         settings.deposit_won()
                     return result
-                await settle_async(progress.returned(result))
+                want = await settle_async(driven, driven.send(Outcome(result)))
             awaitable = None  # (the call's coroutine is let go before the wait)
-            goes_on = await _next_begins(progress, wait)
-        return None if progress is None else answer_of(progress)
+            if type(want) is float:
+                # (with no coroutine of its own, since many may wait at once)
+                awaitable = waits(progress, want)
+                if awaitable is not None:
+                    await awaitable
+                awaitable, want = None, driven.send(None)
+                if type(want) is tuple:
+                    want = await settle_async(driven, want)
+        return answer_of(progress)
     finally:
-        if deadline is not None and token is not None:
-            leave(deadline, token)
-        if progress is not None:
-            progress.close()
+        if progress is not None or request is not None or token is not None:
+            _end(progress, request, deadline, token)
 
 
-async def _next_begins(progress: Progress, wait: Optional[float]) -> Any:
-    """The same as `next_begins`, and awaits what has to be awaited."""
-    if wait is None:
-        return await settle_async(progress.begins())
-    awaitable = _waits(progress, wait)
-    if awaitable is not None:
-        await awaitable
-    return progress.goes_on()
+def _end(progress: Any, request: Any, deadline: Any, token: Any) -> None:
+    """Ends what there is of a retry."""
+    if token is not None:
+        leave(deadline, token)
+    if progress is not None:
+        progress.close()
+    elif request is not None:
+        request.ended()
 
 
-def _waits(progress: Progress, wait: float) -> Any:
-    """Begins to wait so many seconds, or lets other coroutines go on: what is to be awaited for that, or None."""
-    settings = progress.settings
-    awaitable = settings.sleeps(wait) if wait > 0.0 else settings.pause and settings.pause(0)
-    if not hasattr(type(awaitable), "__await__"):
-        return None
-    if wait > 0.0:
-        progress.parks()
-    return awaitable
-
-
+_NONE: Any = None
 _NOT_AWAITABLE = object()
 
 
@@ -194,7 +246,7 @@ def answer_of(progress: Progress) -> Any:
 
 def not_awaitable(answer: Any) -> Any:
     """What something gave that is called by a `Retrying`: nothing there is awaited."""
-    if hasattr(type(answer), "__await__"):
+    if answer is not None and hasattr(type(answer), "__await__"):
         refuse_awaitable("a hook, a test or a sleep of a Retrying", answer)
     return answer
 
@@ -207,11 +259,10 @@ def refuse_awaitable(what: str, awaitable: Any, repeats: bool = False) -> None:
     raise TypeError(f"{what} returned a {type(awaitable).__name__}, which is not awaited here: use {awaits}")
 
 
-def _look_at_function(progress: Progress, awaitable: Any, error: BaseException) -> None:
+def _look_at_function(progress: Progress, error: BaseException) -> None:
     """Refuses a function that raised before it returned anything to await, and is not a coroutine function."""
     fn: Any = progress.state.fn
-    state = progress.state
-    if awaitable is None and state.attempt_number == 1 and isinstance(error, Exception) and not is_async(unwrap(fn)):
+    if progress.state.attempt_number == 1 and isinstance(error, Exception) and not is_async(unwrapped(fn)):
         plain = _plain(progress.settings.repeats)
         raise TypeError(f"{fn!r} raised before it returned anything to await: {plain} is for functions") from error
 

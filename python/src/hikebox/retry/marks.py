@@ -2,16 +2,38 @@
 
 from __future__ import annotations
 
-import logging
-from typing import Any, Dict, List, Optional
+from typing import TYPE_CHECKING, Any, Dict, List, Optional
 
 from .state import Ending, Outcome, RetryState
 
-__all__ = ["log_end", "log_wait", "logger", "mark"]
+if TYPE_CHECKING:
+    import logging
 
-logger = logging.getLogger("hikebox")
-#: A program that configures no logging is told nothing.
-logger.addHandler(logging.NullHandler())
+__all__ = ["DEBUG", "late", "log_end", "log_wait", "mark"]
+
+#: The levels of records, as `logging` has them, which is imported at the first failure.
+DEBUG, INFO, WARNING = 10, 20, 30
+
+
+class _Late:
+    """The logger `hikebox`, once it is needed."""
+
+    __slots__ = ("logger",)
+
+    def __init__(self) -> None:
+        self.logger: Optional[logging.Logger] = None
+
+    def made(self) -> logging.Logger:
+        """It: a program that configures no logging is told nothing."""
+        import logging
+
+        logger = logging.getLogger("hikebox")
+        logger.addHandler(logging.NullHandler())
+        self.logger = logger
+        return logger
+
+
+late = _Late()
 
 #: The most notes of its own that an exception keeps, where one object is raised again and again.
 _MAX_NOTES = 8
@@ -20,7 +42,9 @@ _MAX_NOTES = 8
 def log_wait(state: RetryState, delay: float) -> None:
     """Logs how an attempt ended that another one follows, after so many seconds."""
     text, told = "%s: attempt %d %s; next in %.3f s", _told(state.outcome)
-    logger.debug(text, state.name, state.attempt_number, told, delay, extra=_fields(state, hikebox_delay=delay))
+    (late.logger or late.made()).debug(
+        text, state.name, state.attempt_number, told, delay, extra=_fields(state, hikebox_delay=delay)
+    )
 
 
 def log_end(state: RetryState, outcome: Optional[Outcome]) -> str:
@@ -30,7 +54,7 @@ def log_end(state: RetryState, outcome: Optional[Outcome]) -> str:
     tries = "1 attempt" if state.attempt_number == 1 else f"{state.attempt_number} attempts"
     why = "" if state.refusal is None else f" ({state.refusal.reason.value})"
     note = f"gave up after {tries} in {state.seconds_since_start or 0.0:.3f} s: {ending.value}{why}"
-    level = logging.INFO if ending is Ending.STOPPED else logging.WARNING
+    level, logger = INFO if ending is Ending.STOPPED else WARNING, late.logger or late.made()
     if logger.isEnabledFor(level):
         text, fields = "%s: %s; the last attempt %s", _fields(state, hikebox_ending=ending.name)
         logger.log(level, text, state.name, note, _told(outcome), extra=fields)

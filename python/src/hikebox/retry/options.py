@@ -23,10 +23,11 @@ from typing import (
 
 from .._time import MAX_NUMBER, Duration, seconds
 from ..budget import Budget
-from ..budgets.drawing import ByCall, Drawing
+from ..budgets.drawing import ByCall
+from ..budgets.limit import Limit
 from ..budgets.passes import UNLIMITED, Grants
-from ..errors import BudgetClosed, TryAgain
-from ..limits import Limit
+from ..errors import LimitClosed, TryAgain
+from ..limits import CallLimit
 from ..policy import Policy
 from ..quota import Quota
 from .kinds import hooks_of, look_at_function, parts_of_on, stop_of
@@ -75,7 +76,7 @@ Hooks = Union[Hook, Sequence[Hook], None]
 
 
 class Tickets(Protocol):
-    """What a retry can draw on beside a `Budget` or a `Quota`, such as the leased ones of `hikebox.leased`.
+    """What serves as a limit beside the `Limit`s of this package: what has a `draw()`.
 
     If it has a `draw_async()`, coroutines await that instead of `draw()`. If it has a `deposit()`, each call calls it
     once: at its first attempt, or if `counts_successes` is true at its success.
@@ -133,35 +134,37 @@ def _waits_follow(settings: Settings) -> None:
 
 
 def _drawing_follows(settings: Settings) -> None:
-    budget = settings.budget
-    settings.grants, settings.drawing = _grants_of(budget, settings.clock, settings.awaits)
-    settings.deposit, settings.deposit_won = _deposits(budget)
-    settings.asks_limit = isinstance(budget, Limit)
-    settings.returns_tickets = bool(getattr(budget, "returns_tickets", False))
+    limit = settings.limit
+    settings.grants, settings.drawing = _grants_of(limit, settings.clock, settings.awaits)
+    settings.deposit, settings.deposit_won = _deposits(limit)
+    settings.asks_limit = isinstance(limit, CallLimit)
+    settings.returns_tickets = bool(getattr(limit, "returns_tickets", False))
 
 
-def _grants_of(budget: Any, clock: Any, awaits: bool) -> Tuple[Grants, Optional[Callable[[], Drawing]]]:
+def _grants_of(limit: Any, clock: Any, awaits: bool) -> Tuple[Grants, Any]:
     """What grants the engine's retry its tickets, and what makes the drawing of a retry that draws elsewhere."""
-    if budget is None:
+    if limit is None:
         return UNLIMITED, None
-    draw = getattr(budget, "draw", None)
-    if isinstance(budget, type):
-        raise TypeError(f"budget: expected an object, got the class {budget.__name__}")
-    if isinstance(budget, (list, tuple)):
-        raise TypeError(f"budget: expected one object, got {budget!r}; both(..) makes one of several limits")
+    draw = getattr(limit, "draw", None)
+    if isinstance(limit, type):
+        raise TypeError(f"limit: expected an object, got the class {limit.__name__}")
+    if isinstance(limit, (list, tuple)):
+        raise TypeError(f"limit: expected one object, got {limit!r}; both(..) makes one of several limits")
     if not callable(draw):
-        raise TypeError(f"budget: expected a Budget, a Quota, or something with draw(), got {budget!r}")
-    if isinstance(budget, Budget) or (isinstance(budget, Quota) and budget.clock == clock):
-        return budget, None
-    if hasattr(budget, "retry_drawing"):
-        return UNLIMITED, partial(budget.retry_drawing, awaits)
-    return UNLIMITED, partial(ByCall, getattr(budget, "draw_async", draw) if awaits else draw)
+        raise TypeError(f"limit: expected a limit such as a Budget, or something with draw(), got {limit!r}")
+    if isinstance(limit, Budget) or (isinstance(limit, Quota) and limit.clock == clock):
+        return limit, None
+    if isinstance(limit, CallLimit):
+        return UNLIMITED, partial(limit.REQUEST, limit)
+    if hasattr(limit, "retry_drawing"):
+        return UNLIMITED, partial(limit.retry_drawing, awaits)
+    return UNLIMITED, partial(ByCall, getattr(limit, "draw_async", draw) if awaits else draw)
 
 
-def _deposits(budget: Any) -> Tuple[Optional[Callable[[], Any]], Optional[Callable[[], Any]]]:
+def _deposits(limit: Any) -> Tuple[Optional[Callable[[], Any]], Optional[Callable[[], Any]]]:
     """What counts a request at its first attempt, and what counts it at its success."""
-    deposit = getattr(budget, "deposit", None)
-    if deposit is None or not getattr(budget, "counts_successes", False):
+    deposit = getattr(limit, "deposit", None)
+    if deposit is None or not getattr(limit, "counts_successes", False):
         return deposit, None
     return None, partial(_deposit_won, deposit)
 
@@ -170,7 +173,7 @@ def _deposit_won(deposit: Callable[[], Any]) -> None:
     """Counts a request that succeeded. Its result is returned even if the quota was closed meanwhile."""
     try:
         deposit()
-    except BudgetClosed:
+    except LimitClosed:
         pass
 
 
@@ -238,11 +241,11 @@ class Options:
         kw_only=False, metadata={"about": """When to call again: a `Policy`, or its JSON as text or a dict."""}
     )
 
-    budget: Union[Budget, Quota, Limit, Tickets, None] = option(
+    limit: Union[Limit, Tickets, None] = option(
         None,
-        """A `Budget`, a `Quota` or a `Limit` such as a `Breaker` that limits all calls together, or other `Tickets`;
-        None for no limit. A quota counts each call as a request. A limit may refuse a first attempt too, which raises a
-        `NotAdmitted`.""",
+        """What bounds the retries of all calls together: a `Budget`, a `Quota`, a `Breaker` or another `Limit`, or
+        other `Tickets`; None for no limit. A quota counts each call as a request. A breaker may refuse a first attempt
+        too, which raises a `NotAdmitted`.""",
         _drawing_follows,
         shapes=True,
     )
@@ -289,6 +292,7 @@ class Options:
         next attempt would begin later, the retry ends at once and draws no ticket. If a wait ends too late, the retry
         ends and its ticket comes back. `seconds_left()` tells the call how long it has.""",
         _deadline_follows,
+        shapes=True,
     )
     stop: Optional[Stop] = option(
         None,

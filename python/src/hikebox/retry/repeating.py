@@ -71,7 +71,7 @@ def poll_until(policy: PolicyLike, accepts: Callable[[Any], Any], **how: Any) ->
 
     If the policy is done before that, it raises a `ResultRefused` with the last result, or returns what `fallback`
     returns. An exception is raised at once, unless `on` names it: then it calls again. It takes the options of
-    `Retrying`.
+    `Retrying`, except `on_result`.
 
     >>> from hikebox import recurs, spaced
     >>> states = iter(["queued", "running", "done"])

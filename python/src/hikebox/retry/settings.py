@@ -6,9 +6,9 @@ from functools import lru_cache
 from typing import TYPE_CHECKING, Any, Callable, Dict, Generic, Iterable, List, Optional, Tuple, Type, TypeVar
 
 from .._time import MAX_NUMBER
-from ..budgets.drawing import Drawing
 from ..budgets.passes import Grants
 from ..policy import Policy
+from ..policy.plan import Plan
 from .deadline import Deadline
 from .options import DEFAULTS, OPTIONS, Hook, Options
 from .state import RetryState, code_of
@@ -61,21 +61,27 @@ class Settings(HasOptions):
     #: What the engine's retry draws on by itself. On a quota it draws at moments of that quota's clock, so the retry
     #: goes by the same one.
     grants: Grants
-    #: What makes a retry's drawing where the engine's retry does not draw itself, or None.
-    drawing: Optional[Callable[[], Drawing]]
+    #: What makes a retry's drawing where the engine's retry does not draw itself, or None: a request of a limit, or a
+    #: `Drawing`.
+    drawing: Any
     #: Whether what it draws on is a limit that calls ask before their first attempt, and that hears how each ended.
     asks_limit: bool
-    #: What counts a request at the first attempt, and what counts it at the success, where the budget counts any.
+    #: What counts a request at the first attempt, and what counts it at the success, where the limit counts any.
     deposit: Optional[Callable[[], Any]]
     deposit_won: Optional[Callable[[], Any]]
     #: Whether a call that succeeds after retries hands its last ticket back.
     returns_tickets: bool
-    #: Whether nothing is to be done before a first attempt but to count it, nor where it succeeds.
+    #: Whether nothing is to be done before a first attempt but to count it or to ask the limit, nor where it succeeds
+    #: but to tell that.
     is_quiet: bool
-    #: Whether nothing is to be called where an attempt fails, but the engine and what draws without a wait.
-    is_plain: bool
     #: Whether `retry_after` or `wait` may ask for a longer wait.
     asks: bool
+    #: Whether something may take time between a failure and its wait.
+    takes_time: bool
+    #: Whether it draws on something that may have to be awaited.
+    draws_elsewhere: bool
+    #: Whether nobody asks for the failure while the retry waits.
+    lets_go: bool
     #: How many seconds these may ask for at most.
     most_wait: float
     #: The milliseconds of the deadline.
@@ -84,7 +90,7 @@ class Settings(HasOptions):
     def __init__(self, policy: Any, given: Dict[str, Any], awaits: bool = False, repeats: bool = False) -> None:
         """Of these parameters, of which those that are left out have their defaults."""
         own = self.__dict__ = _plain_settings(awaits, repeats).copy()
-        own["policy"] = Policy.of(policy)
+        own["policy"] = policy if type(policy) is Policy else Policy.of(policy)
         if given:
             own.update(given)
             self._derive([name for name, value in given.items() if value is not DEFAULTS[name]])
@@ -107,12 +113,17 @@ class Settings(HasOptions):
 
     def _derive_shape(self) -> None:
         """Works out what a retry can leave out."""
-        has_hooks = bool(self.hooks_before or self.hooks_on_success)
         self.asks = self.retry_after is not None or self.wait is not None
-        self.is_quiet = not (self.repeats or has_hooks or self.asks_limit) and self.on_result is None
-        calls_at_failures = self.hooks_after or self.hooks_before_sleep or self.asks or self.stop is not None
-        gives_up_by_itself = self.fallback is None and self.drawing is None
-        self.is_plain = gives_up_by_itself and not (has_hooks or calls_at_failures)
+        self.is_quiet = not (self.repeats or self.hooks_before or self.hooks_on_success or self.on_result is not None)
+        self.draws_elsewhere = self.drawing is not None and not self.asks_limit
+        self.takes_time = bool(self.hooks_after or self.asks or self.draws_elsewhere or self.stop is not None)
+        may_end = self.stop is not None or self.deadline_millis is not None
+        self.lets_go = not (may_end or self.hooks_before_sleep)
+
+    @_Once
+    def plan(self) -> Plan:
+        """What the engine has of the policy."""
+        return self.policy.plan
 
     @_Once
     def lanes(self) -> Tuple[int, ...]:

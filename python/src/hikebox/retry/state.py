@@ -7,11 +7,11 @@ import itertools
 import operator
 import sys
 import threading
-from dataclasses import asdict, dataclass
 from typing import TYPE_CHECKING, Any, Callable, Dict, Mapping, NamedTuple, Optional, Tuple
 
 from .._forks import begins_anew_in_a_child
 from .._time import MAX_NUMBER
+from .._values import dataclass
 from ..budgets.tickets import Refusal
 from .deadline import Deadline
 
@@ -26,12 +26,12 @@ class Ending(enum.Enum):
 
     #: The last call succeeded.
     WON = "won"
-    #: The last call failed, and the policy did not go on. Of a repetition: the policy did not go on.
+    #: The last call failed, or of a repeat succeeded, and the policy did not go on.
     SCHEDULE_DONE = "the policy was done"
-    #: The last call failed, or of a repetition succeeded, and the next one would have begun past the deadline.
+    #: The last call failed, or of a repeat succeeded, and the next one would have begun past the deadline.
     DEADLINE = "the deadline left no time for another attempt"
-    #: The last call failed, the policy went on, and the budget, quota or limit refused a retry.
-    BUDGET_REFUSED = "the budget refused a retry"
+    #: The last call failed, the policy went on, and the limit refused a retry.
+    LIMIT_REFUSED = "the limit refused a retry"
     #: The limit did not admit the call, so no attempt was made.
     NOT_ADMITTED = "the limit did not admit the call"
     #: The last call failed in a way that `on` does not name.
@@ -51,7 +51,7 @@ ENDINGS: Tuple[Optional[Ending], ...] = (
     None,
     Ending.WON,
     Ending.SCHEDULE_DONE,
-    Ending.BUDGET_REFUSED,
+    Ending.LIMIT_REFUSED,
     Ending.CANCELLED,
     Ending.NO_MEMORY,
     None,
@@ -63,18 +63,22 @@ ENDINGS: Tuple[Optional[Ending], ...] = (
 class Outcome:
     """The outcome of an attempt: its result, or the exception that it raised."""
 
-    __slots__ = ("attempt_number", "_result", "_error")
+    __slots__ = ("attempt_number", "error", "_result")
+
+    #: Whether the result is refused, where that is known, so that `on_result` is not asked.
+    is_refused: Optional[bool] = None
 
     def __init__(self, result: Any = None, error: Optional[BaseException] = None, attempt_number: int = 1) -> None:
         #: The number of the attempt.
         self.attempt_number = attempt_number
+        #: The exception, or None if it returned a result.
+        self.error = error
         self._result = result
-        self._error = error
 
     @property
     def failed(self) -> bool:
         """Whether it raised."""
-        return self._error is not None
+        return self.error is not None
 
     def done(self) -> bool:
         """True, as of a future that has its result."""
@@ -82,23 +86,23 @@ class Outcome:
 
     def exception(self) -> Optional[BaseException]:
         """The exception, or None if it returned a result."""
-        return self._error
+        return self.error
 
     def told(self) -> Any:
         """The exception, or the result if there is none."""
-        return self._result if self._error is None else self._error
+        return self._result if self.error is None else self.error
 
     def result(self) -> Any:
         """Returns the result, or raises the exception."""
-        if self._error is None:
+        if self.error is None:
             return self._result
         try:
-            raise self._error
+            raise self.error
         finally:
             del self  # which the exception's traceback would keep, and it the exception
 
     def __repr__(self) -> str:
-        return f"raised {self._error!r}" if self._error is not None else f"returned {self._result!r}"
+        return f"raised {self.error!r}" if self.error is not None else f"returned {self._result!r}"
 
 
 class NextAction(NamedTuple):
@@ -159,7 +163,7 @@ class RetryState:
         self.upcoming_sleep = 0.0
         #: The number of retries granted: tickets drawn.
         self.granted = 0
-        #: Why there was no ticket, if the limit says so, as leases do.
+        #: Why there was no ticket, if the limit says so.
         self.refusal: Optional[Refusal] = None
         #: How it ended, or None while it is under way.
         self.ending: Optional[Ending] = None
@@ -271,7 +275,7 @@ class Statistics:
     won: int = 0
     schedule_done: int = 0
     deadline: int = 0
-    budget_refused: int = 0
+    limit_refused: int = 0
     not_retried: int = 0
     cancelled: int = 0
     broken: int = 0
@@ -290,8 +294,7 @@ class Statistics:
         >>> Statistics(calls=3, attempts=5, won=2, stopped=1).by_ending["stopped"]
         1
         """
-        counts = asdict(self)
-        return {name: counts[name] for name in (*_NAMED, "broken")}
+        return {name: getattr(self, name) for name in (*_NAMED, "broken")}
 
 
 _BROKEN = (Ending.NO_MEMORY, Ending.CLOCK_WENT_BACK)
@@ -336,12 +339,12 @@ class Counts:
     A finalizer, or the handler of a signal, may count a call in the middle of the count of another.
     """
 
-    __slots__ = ("add_success", "_at_once", "_endings", "_attempts", "_idle_for")
+    __slots__ = ("add_success", "_left", "_endings", "_attempts", "_idle_for")
 
     def __init__(self) -> None:
-        self._at_once = _Tally()
-        #: Counts a call that succeeded at its first attempt.
-        self.add_success = self._at_once.add
+        #: What counts calls that succeeded at their first attempt, as a `_Tally` does, and counts one more.
+        left = self._left = itertools.repeat(None, sys.maxsize)
+        self.add_success = left.__next__
         #: All other calls, by how they ended, and their attempts.
         self._endings: Dict[Ending, _Tally] = {}
         self._attempts = 0
@@ -362,7 +365,7 @@ class Counts:
         with _lock.held:
             counts = {ending: tally.seen() for ending, tally in list(self._endings.items())}
             named = {ending.name.lower(): counts.get(ending, 0) for ending in Ending if ending not in _BROKEN}
-            at_once = self._at_once.seen()
+            at_once = sys.maxsize - operator.length_hint(self._left)
             named["won"] += at_once
             broken = sum(counts.get(ending, 0) for ending in _BROKEN)
             calls, attempts = sum(counts.values()) + at_once, self._attempts + at_once

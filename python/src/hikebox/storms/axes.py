@@ -13,7 +13,7 @@ from .populations import MAX_SHARE
 from .texts import is_judged
 
 if TYPE_CHECKING:
-    from ..storm import Storm
+    from .storm import Storm
 
 __all__ = ["AXES", "MAX_VALUES", "MEASURES", "NEVER", "Axis", "Measure", "axes_text", "values_of"]
 

@@ -7,9 +7,10 @@ import sys
 from typing import TYPE_CHECKING, List, Sequence, Tuple
 
 from ..errors import StormError
+from .texts import share_of
 
 if TYPE_CHECKING:
-    from ..storm import Storm, StormRow
+    from .storm import Storm, StormRow
 
 __all__ = ["bars", "has_colour"]
 
@@ -45,7 +46,7 @@ def bars(storms: Sequence[Storm], names: Sequence[str], width: int = 80, colour:
 
 
 def _cells(row: StormRow) -> Tuple[str, ...]:
-    share = str(row.won * 100 // row.requests) if row.requests else "-"
+    share = str(share_of(100, row.won, row.requests)) if row.requests else "-"
     failed = row.refused + row.shed + row.late
     return (share, *map(str, (row.from_ms, row.requests, row.retries, failed, row.waiting)))
 

@@ -13,12 +13,12 @@ from ..budgets.terms import Terms
 from ..policy import Policy
 from ..policy import builders
 from ..policy.spelling import duration, spelt_in_rust
-from .limits import LimitTerms
+from ..limits.terms import LimitTerms
 from .parameters import Parameters, Span
 from .populations import Clients
 
 if TYPE_CHECKING:
-    from ..storm import Storm
+    from .storm import Storm
 
 __all__ = ["in_command", "in_python", "in_rust", "in_scenario"]
 
@@ -141,7 +141,7 @@ def _python_arguments(policy: Policy, parameters: Parameters) -> List[Tuple[str,
     if parameters.tickets is not None:
         tickets = parameters.tickets
         spelt = f"Quota({tickets})" if isinstance(tickets, Terms) else str(tickets)
-        found.append(("budget", f'"{tickets.text}"' if isinstance(tickets, LimitTerms) else spelt))
+        found.append(("limit", f'"{tickets.text}"' if isinstance(tickets, LimitTerms) else spelt))
     if parameters.beside:
         populations = [_python_population(policy, each) for each in parameters.beside]
         found.append(("beside", f"[{', '.join(populations)}]"))

@@ -7,7 +7,7 @@ from concurrent.futures import ThreadPoolExecutor, wait
 from typing import Callable, List, Sequence, Tuple
 
 from ..policy import Policy
-from ..storm import Storm, play
+from .storm import Storm, play
 from .parameters import Parameters
 
 __all__ = ["Told", "play_all", "silent"]
@@ -28,7 +28,7 @@ def play_all(
     """The storms, of which as many are played at once as there are processors. Equal ones are played once. With
     `has_populations` each has the reports on its populations already."""
     distinct = {(repr(policy), how): (policy, how) for policy, how in wanted}
-    pool = ThreadPoolExecutor(max_workers=len(os.sched_getaffinity(0)))
+    pool = ThreadPoolExecutor(max_workers=_processors())
     try:
         play_one = _play_whole if has_populations else play
         futures = {key: pool.submit(play_one, *each) for key, each in distinct.items()}
@@ -41,6 +41,11 @@ def play_all(
     finally:
         pool.shutdown(wait=False, cancel_futures=True)
     return [futures[repr(policy), how].result() for policy, how in wanted]
+
+
+def _processors() -> int:
+    """How many processors this process may use, where the system says that."""
+    return len(os.sched_getaffinity(0)) if hasattr(os, "sched_getaffinity") else os.cpu_count() or 1
 
 
 def _play_whole(policy: Policy, parameters: Parameters) -> Storm:

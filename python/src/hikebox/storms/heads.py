@@ -10,7 +10,7 @@ from .texts import beside_text, brief_setting, share_text
 
 if TYPE_CHECKING:
     from ..policy import Policy
-    from ..storm import Storm
+    from .storm import Storm
 
 __all__ = ["Heads", "heads_of", "names_of", "shared_text"]
 

@@ -1,23 +1,13 @@
-"""Limits of other systems on a storm, as the engine takes them and as words of a command line spell them."""
+"""Limits of other systems on a storm, as words of a command line spell them."""
 
 from __future__ import annotations
 
-from typing import Any, Dict, List, NamedTuple, Optional, Tuple
+from typing import Dict, List, Optional, Tuple
 
-from .._engine.calls import ON_BREAKER, ON_BUCKET, ON_IN_FLIGHT, ON_THROTTLE
 from ..errors import TermsError
+from ..limits.terms import LimitTerms, breaker, bucket, in_flight, throttle
 
-__all__ = [
-    "KINDS",
-    "LIMIT_FORMS",
-    "LIMIT_WANTED",
-    "LimitTerms",
-    "breaker",
-    "bucket",
-    "in_flight",
-    "limit_of",
-    "throttle",
-]
+__all__ = ["KINDS", "LIMIT_FORMS", "LIMIT_WANTED", "limit_of"]
 
 #: The greatest capacity of a bucket, in thousandths, and the greatest number of 32 bits and of the engine.
 _MAX_CAPACITY, _MAX_COUNT, _MAX_NUMBER = 2**40, 2**32 - 1, 2**62 - 1
@@ -42,70 +32,6 @@ LIMIT_WANTED = (
     "grpc:TOKENS/RATIO, aws, inflight:LEAST/SHARE, breaker:FAILURES/PROBES/DEADLINE or throttle:RATIO/PERIOD, "
     "such as grpc:100/100"
 )
-
-
-class LimitTerms(NamedTuple):
-    """A limit that requests ask before their first call and for each retry."""
-
-    #: As a command line spells it.
-    text: str
-    #: What the engine calls it, and its numbers by their names in the engine.
-    draws_on: int
-    numbers: Tuple[Tuple[str, int], ...]
-    #: The open times of a breaker, in milliseconds.
-    times: Tuple[int, ...] = ()
-
-    @property
-    def denies_first_calls(self) -> bool:
-        """Whether it may refuse a request its first call."""
-        return self.draws_on in (ON_BREAKER, ON_THROTTLE)
-
-    def put_in(self, storm: Any) -> None:
-        """Puts it into the engine's parameters of a storm."""
-        storm.draws_on = self.draws_on
-        for name, number in self.numbers:
-            setattr(storm, name, number)
-        if self.times:
-            storm.open_count = len(self.times)
-            storm.open_times[: len(self.times)] = self.times
-
-
-def _made(text: str, draws_on: int, times: Tuple[int, ...] = (), **numbers: int) -> LimitTerms:
-    return LimitTerms(text, draws_on, tuple(numbers.items()), times)
-
-
-def bucket(
-    capacity: int, floor: int, cost: int, late: int, debit: int, credit: int, refund: bool, text: Optional[str] = None
-) -> LimitTerms:
-    """A bucket, in thousandths of a token."""
-    spelt = "/".join(map(str, (capacity, floor, cost, late, debit, credit)))
-    return _made(
-        text or f"bucket:{spelt}{'+refund' if refund else ''}",
-        ON_BUCKET,
-        bucket_capacity=capacity,
-        bucket_floor=floor,
-        bucket_debit=debit,
-        bucket_credit=credit,
-        bucket_refund=int(refund),
-        cost=cost,
-        late_cost=late,
-    )
-
-
-def in_flight(least: int, share: int) -> LimitTerms:
-    """A bound on the retries in flight, the share in thousandths."""
-    return _made(f"inflight:{least}/{share}", ON_IN_FLIGHT, least=least, share=share)
-
-
-def breaker(failures: int, probes: int, deadline: int, times: Tuple[int, ...]) -> LimitTerms:
-    """A breaker, in milliseconds."""
-    text = f"breaker:{failures}/{probes}/{deadline}"
-    return _made(text, ON_BREAKER, times, failures=failures, probes=probes, deadline=deadline)
-
-
-def throttle(ratio: int, period: int) -> LimitTerms:
-    """A throttle, the ratio in thousandths and the period in milliseconds."""
-    return _made(f"throttle:{ratio}/{period}", ON_THROTTLE, ratio=ratio, period=period)
 
 
 def limit_of(text: str, times: Tuple[int, ...] = _OPEN) -> LimitTerms:

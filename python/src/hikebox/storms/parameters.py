@@ -9,7 +9,7 @@ from .._engine.structs import Phase, Population, Storm
 from ..budgets.terms import Terms
 from ..errors import StormError, shown
 from ..policy import Policy
-from .limits import LimitTerms
+from ..limits.terms import LimitTerms
 from .populations import MAX_PATIENCE, Clients, look_at_shares
 
 __all__ = [

@@ -13,7 +13,7 @@ from .strips import Axes, Strips, axes_of, verdict_of
 from .texts import population_sentences, sentences, setting
 
 if TYPE_CHECKING:
-    from ..storm import Storm
+    from .storm import Storm
 
 __all__ = ["storm_picture"]
 

@@ -8,7 +8,7 @@ from .._svg import headed
 from .parameters import Span
 
 if TYPE_CHECKING:
-    from ..storm import Storm
+    from .storm import Storm
 
 __all__ = ["plot"]
 

@@ -29,7 +29,7 @@ class Population:
     `patience`
         How long they wait for a call. None is the storm's patience.
     `limited`
-        Whether they draw on the storm's budget, quota or limit, as the clients of its own policy do. If not, nothing
+        Whether they draw on the storm's limit, as the clients of its own policy do. If not, nothing
         limits them, and they are not counted.
 
     >>> from hikebox import recurs

@@ -9,7 +9,7 @@ from .._svg import LINE, Picture, headed, number_text, plain_width_of, ticks, wi
 from .texts import population_names, recovery_mark, share_text
 
 if TYPE_CHECKING:
-    from ..storm import PopulationReport, Storm, StormRow, StormTotals
+    from .storm import PopulationReport, Storm, StormRow, StormTotals
 
 __all__ = ["Axes", "Strips", "axes_of", "verdict_of"]
 

@@ -11,7 +11,7 @@ from .axes import AXES, MEASURES, NEVER
 from .heads import shared_text
 
 if TYPE_CHECKING:
-    from ..storm import Storm
+    from .storm import Storm
     from ..sweeps import Sweep
 
 __all__ = ["sweep_picture"]
@@ -54,9 +54,16 @@ class _Scales(NamedTuple):
 
 
 def sweep_picture(
-    swept: Sweep, measures: Sequence[str], *, width: int = 760, title: Optional[str] = None, styled: bool = True
+    swept: Sweep,
+    measures: Sequence[str],
+    *,
+    width: int = 760,
+    title: Optional[str] = None,
+    styled: bool = True,
+    paints: Sequence[int] = range(LINES),
 ) -> str:
-    """The measures of a sweep side by side where they have room, as SVG so many units wide."""
+    """The measures of a sweep side by side where they have room, as SVG so many units wide. `paints` has the number of
+    the colour and the mark of each line."""
     if not MIN_WIDTH <= width <= MAX_WIDTH:
         raise StormError("width", f"expected {MIN_WIDTH} to {MAX_WIDTH}, got {shown(width)}")
     if len(swept.lines) > LINES:
@@ -73,11 +80,11 @@ def sweep_picture(
     height = top + tall * -(-len(measures) // columns) + _FOOT
     picture = Picture(width, height, f"Storms along {AXES[swept.parameter].title}", _told(swept, numbers))
     picture.texts(_MARGIN, 20, shared, "head", whole)
-    _draw_legend(picture, 20 + LINE * len(shared), legend)
+    _draw_legend(picture, 20 + LINE * len(shared), legend, paints)
     for index, measure in enumerate(measures):
         left = _MARGIN + (wide + _GAP) * (index % columns)
         bottom = top + tall * (index // columns + 1) - _BELOW
-        _Panel(picture, swept, measure, numbers[measure]).draw(left, wide, bottom, never)
+        _Panel(picture, swept, measure, numbers[measure], paints).draw(left, wide, bottom, never)
     picture.text(width / 2, height - 7, AXES[swept.parameter].title, "soft", "middle")
     return picture.svg(styled)
 
@@ -101,11 +108,12 @@ def _spelt(number: Optional[float], storm: Storm) -> str:
 class _Panel:
     """The lines of one measure."""
 
-    def __init__(self, picture: Picture, swept: Sweep, measure: str, numbers: Numbers) -> None:
+    def __init__(self, picture: Picture, swept: Sweep, measure: str, numbers: Numbers, paints: Sequence[int]) -> None:
         self.picture = picture
         self.swept = swept
         self.measure = MEASURES[measure]
         self.numbers = numbers
+        self.paints = paints
 
     def draw(self, left: float, wide: float, bottom: float, never: bool) -> None:
         scales = self._scales(left, wide, bottom)
@@ -147,9 +155,9 @@ class _Panel:
             if number is not None
         ]
         drawn = "".join(f"{'L' if at else 'M'}{x:.1f} {y:.1f}" for at, (x, y, _) in enumerate(points))
-        self.picture.path(drawn, f"line{index}")
+        self.picture.path(drawn, f"line{self.paints[index]}")
         for x, y, is_cut in points:
-            _draw_dot(self.picture, x, y, f"dot{index}", is_cut)
+            _draw_dot(self.picture, x, y, f"dot{self.paints[index]}", is_cut)
 
 
 def _draw_dot(picture: Picture, x: float, y: float, kind: str, is_cut: bool) -> None:
@@ -201,10 +209,10 @@ def _legend(swept: Sweep, width: int) -> Tuple[List[_Entry], int]:
     return entries, rows
 
 
-def _draw_legend(picture: Picture, y: float, entries: List[_Entry]) -> None:
+def _draw_legend(picture: Picture, y: float, entries: List[_Entry], paints: Sequence[int]) -> None:
     for x, row, index, name, said in entries:
         at = y + LINE * row
         if index is not None:
-            picture.path(f"M{x:.1f} {at - 4:.1f}h36", f"line{index}")
-        _draw_dot(picture, x + 18, at - 4, "dot" if index is None else f"dot{index}", index is None)
+            picture.path(f"M{x:.1f} {at - 4:.1f}h36", f"line{paints[index]}")
+        _draw_dot(picture, x + 18, at - 4, "dot" if index is None else f"dot{paints[index]}", index is None)
         picture.texts(x + 42, at, said, "soft", name)

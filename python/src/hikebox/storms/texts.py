@@ -4,12 +4,12 @@ from __future__ import annotations
 
 from typing import TYPE_CHECKING, List, Optional, Sequence, Tuple
 
-from .limits import LimitTerms
+from ..limits.terms import LimitTerms
 from .parameters import Parameters, RateSpan, plural
 from .populations import Clients
 
 if TYPE_CHECKING:
-    from ..storm import PopulationReport, Storm, StormTotals
+    from .storm import PopulationReport, Storm, StormTotals
 
 __all__ = [
     "beside_text",
@@ -22,6 +22,7 @@ __all__ = [
     "recovery_mark",
     "sentences",
     "setting",
+    "share_of",
     "share_text",
     "side_by_side",
     "table",
@@ -50,11 +51,22 @@ def _time(milliseconds: int) -> str:
     return f"{milliseconds} ms" if milliseconds < 1000 else f"{milliseconds / 1000:,.12g} s"
 
 
+def share_of(parts: int, won: int, requests: int) -> int:
+    """The share of the requests that succeeded, in so many parts of the whole, to the nearest: all parts only where all
+    did, and none only where none did.
+
+    >>> share_of(1000, 10_113, 48_000), share_of(100, 999, 1000), share_of(100, 1, 1000)
+    (211, 99, 1)
+    """
+    nearest = (2 * parts * won + requests) // (2 * requests)
+    return nearest if won in (0, requests) else min(max(nearest, 1), parts - 1)
+
+
 def share_text(totals: StormTotals) -> str:
-    """The share of the requests that succeeded. It is 100 % only where all did, and 0 % only where none did."""
+    """The share of the requests that succeeded, as a person reads it."""
     if totals.won in (0, totals.requests):
         return "100 %" if totals.won else "0 %"
-    return f"{max(0.1, totals.won * 1000 // totals.requests / 10):.1f} %"
+    return f"{share_of(1000, totals.won, totals.requests) / 10:.1f} %"
 
 
 def is_judged(storm: Storm) -> bool:

@@ -6,17 +6,17 @@ import json
 from dataclasses import dataclass
 from typing import Any, Dict, Iterable, Iterator, List, NamedTuple, Optional, Sequence, Tuple, Union
 
-from ._engine.calls import MAX_TICKETS
-from ._engine.handles import Totals, play_storm
-from ._time import Duration, seconds as in_milliseconds
-from .budget import Budget
-from .errors import PolicyError, StormError, shown
-from .limits.limit import Limit
-from .policy import Policy
-from .quota import Quota
-from .storms.limits import limit_of
-from .storms.parameters import MAX_SEED, Limited, Parameters, RateSpan, Slow, Span, look_at_picture, plural
-from .storms.populations import MAX_PATIENCE, Clients, Population, percent_of
+from .._engine.calls import MAX_TICKETS
+from .._engine.handles import Totals, play_storm
+from .._time import Duration, seconds as in_milliseconds
+from ..budget import Budget
+from ..errors import PolicyError, StormError, shown
+from ..limits.limit import CallLimit
+from ..policy import Policy
+from ..quota import Quota
+from .limits import limit_of
+from .parameters import MAX_SEED, Limited, Parameters, RateSpan, Slow, Span, look_at_picture, plural
+from .populations import MAX_PATIENCE, Clients, Population, percent_of
 
 __all__ = ["Population", "PopulationReport", "Storm", "StormRow", "StormTotals", "storm"]
 
@@ -114,7 +114,7 @@ class PopulationReport(_Report):
     policy: Policy
     #: How long its clients wait for a call, in milliseconds.
     patience_ms: int
-    #: Whether they draw on the storm's budget, quota or limit. The first population, of the storm's own policy, always
+    #: Whether they draw on the storm's limit. The first population, of the storm's own policy, always
     #: does: it is True of that one also where nothing limits the storm.
     limited: bool
     rows: Tuple[StormRow, ...]
@@ -166,7 +166,7 @@ class Storm(_Report):
     def svg(self, *others: Storm, width: int = 760, detail: bool = False, title: Optional[str] = None) -> str:
         """Returns the picture as SVG of this width. Other storms are drawn beside it on the same scales. `detail` shows
         why calls failed. `title` replaces the policy that the storms share."""
-        from .storms.picture import storm_picture
+        from .picture import storm_picture
 
         for other in others:
             if not isinstance(other, Storm):
@@ -180,19 +180,19 @@ class Storm(_Report):
     def plot(self, ax: Any = None) -> Any:
         """Draws the calls over time with matplotlib (the extra `plot` of the package), on these axes or on those of a
         new figure with a legend. Returns the axes."""
-        from .storms.plot import plot
+        from .plot import plot
 
         return plot(self, ax)
 
     def __str__(self) -> str:
-        from .storms.texts import table
+        from .texts import table
 
         return table(self)
 
     def __repr__(self) -> str:
         said = self._told()
         if self.parameters.weather():
-            from .storms.texts import recovery_mark
+            from .texts import recovery_mark
 
             recovered = self.totals.recovered_ms
             said.append(recovery_mark(self)[1] if recovered is None else f"back at {recovered} ms")
@@ -217,7 +217,7 @@ def storm(
     until: Optional[Duration] = None,
     calls: int = 16_777_216,
     seed: int = 0,
-    budget: Union[None, int, str, Budget, Quota, Limit] = None,
+    limit: Union[None, int, str, Budget, Quota, CallLimit] = None,
     beside: Sequence[Population] = (),
 ) -> Storm:
     """Simulates many requests under one policy, on a peer that fails for a while. It makes no call and does not wait.
@@ -244,12 +244,12 @@ def storm(
     `window`
         The length of a row of the result.
     `until`
-        When the storm ends even if requests are under way. None is a minute after the last request came.
+        When the storm ends even if requests are under way. None is a minute after `seconds`.
     `calls`
         The simulation stops after this many calls.
     `seed`
         The seed of the random numbers that pick jitter.
-    `budget`
+    `limit`
         What limits the retries: None, a number of tickets, or the terms of a `Budget` or a `Quota`, from which no
         ticket is drawn. Requests count when they come, and no ticket comes back, whatever the quota's options are.
         Or the terms of a `Bucket`, an `InFlight`, a `Breaker` or a `Throttle`, which requests also ask before their
@@ -266,10 +266,10 @@ def storm(
     >>> totals = storm(policy).totals
     >>> totals.calls_per_request, totals.recovered_ms
     (7.62, None)
-    >>> totals = storm(policy, budget=Quota(reserve=10, share=0.1, per=1)).totals
+    >>> totals = storm(policy, limit=Quota(reserve=10, share=0.1, per=1)).totals
     >>> totals.calls_per_request, totals.recovered_ms
     (1.02, 20000)
-    >>> beside = storm(policy, budget=Quota(reserve=10, share=0.1, per=1), beside=[Population(0.3, policy)])
+    >>> beside = storm(policy, limit=Quota(reserve=10, share=0.1, per=1), beside=[Population(0.3, policy)])
     >>> [(each.share, each.limited, each.totals.requests) for each in beside.populations]
     [(0.7, True, 33600), (0.3, False, 14400)]
     """
@@ -288,7 +288,7 @@ def storm(
         until=None if until is None else _time("until", until),
         calls=_whole("calls", calls),
         words=_whole("seed", seed, MAX_SEED),
-        tickets=_tickets(budget),
+        tickets=_tickets(limit),
         rates=_rate_spans(rates),
         beside=_beside(beside),
     )
@@ -409,16 +409,16 @@ def _waits(place: str, patience: Duration) -> int:
     return waits
 
 
-def _tickets(budget: Any) -> Limited:
+def _tickets(limit: Any) -> Limited:
     """The terms by which tickets are given."""
-    if isinstance(budget, Limit):
-        return budget.on_storm()
-    if isinstance(budget, str):
-        return limit_of(budget)
-    if isinstance(budget, Quota):
-        return budget.terms
-    if isinstance(budget, Budget):
-        return budget.limit
-    if budget is None:
+    if isinstance(limit, CallLimit):
+        return limit.on_storm()
+    if isinstance(limit, str):
+        return limit_of(limit)
+    if isinstance(limit, Quota):
+        return limit.terms
+    if isinstance(limit, Budget):
+        return limit.limit
+    if limit is None:
         return None
-    return _whole("budget", budget, MAX_TICKETS)
+    return _whole("limit", limit, MAX_TICKETS)

@@ -1,0 +1,13 @@
+"""What all limits are."""
+
+__all__ = ["Limit"]
+
+
+class Limit:
+    """What bounds the retries of all calls together. Pass one as `limit` wherever you make a retry.
+
+    A `Budget` and a `Quota` grant a ticket for each retry, and so do the leased ones of `hikebox.leased`, which
+    processes share. A `CallLimit`, such as a `Breaker`, is also asked before the first attempt.
+    """
+
+    __slots__ = ()
