@@ -6,8 +6,15 @@ use std::env;
 use std::path::{Path, PathBuf};
 use std::process::{exit, Command};
 
-/// The processors that `lib/` has an engine for.
-const PROCESSORS: [&str; 2] = ["x86_64", "aarch64"];
+/// The targets that `lib/` has an engine for, by processor, system and environment, each with its folder there. (Any
+/// environment of Linux will do.)
+const TARGETS: [(&str, &str, &str, &str); 5] = [
+    ("x86_64", "linux", "", "x86_64"),
+    ("aarch64", "linux", "", "aarch64"),
+    ("x86_64", "macos", "", "x86_64-apple-darwin"),
+    ("aarch64", "macos", "", "aarch64-apple-darwin"),
+    ("x86_64", "windows", "gnu", "x86_64-pc-windows-gnu"),
+];
 
 fn main() {
     println!("cargo:rerun-if-env-changed=HIKEBOX_LIB_DIR");
@@ -40,19 +47,19 @@ fn main() {
 /// The folder of the engine for the target that is compiled for.
 fn folder_of_target() -> PathBuf {
     let of_target = |name: &str| env::var(format!("CARGO_CFG_TARGET_{name}")).unwrap_or_default();
-    let (processor, system, width) = (of_target("ARCH"), of_target("OS"), of_target("POINTER_WIDTH"));
-    let is_supported =
-        PROCESSORS.contains(&&*processor) && system == "linux" && width == "64" && of_target("ENDIAN") == "little";
-    if !is_supported {
+    let (processor, system, environment) = (of_target("ARCH"), of_target("OS"), of_target("ENV"));
+    let is_ours = of_target("POINTER_WIDTH") == "64" && of_target("ENDIAN") == "little";
+    let found = TARGETS.iter().find(|target| {
+        is_ours && target.0 == processor && target.1 == system && (target.2.is_empty() || target.2 == environment)
+    });
+    let folder = found.map(|target| target.3).unwrap_or_else(|| {
         refuse(&format!(
-            "expected 64-bit Linux on {}, got {} on {}; for another target set HIKEBOX_LIB_DIR to a folder with a \
-             libhikebox.a of your own",
-            PROCESSORS.join(" or "),
-            system,
-            env::var("TARGET").unwrap_or(processor)
-        ));
-    }
-    PathBuf::from(env::var_os("CARGO_MANIFEST_DIR").unwrap_or_default()).join("lib").join(processor)
+            "expected 64-bit Linux or macOS on x86_64 or aarch64, or x86_64-pc-windows-gnu, got {}; for another target \
+             set HIKEBOX_LIB_DIR to a folder with a libhikebox.a of your own",
+            env::var("TARGET").unwrap_or_default()
+        ))
+    });
+    PathBuf::from(env::var_os("CARGO_MANIFEST_DIR").unwrap_or_default()).join("lib").join(folder)
 }
 
 /// Ends the build with one sentence.

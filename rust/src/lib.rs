@@ -24,8 +24,7 @@
 //! - [`repeat`] runs a call again after each success, and [`poll_until`] until you accept its value. [`Repeating`] adds
 //!   a deadline, and a clock and a sleep of your own.
 //! - With the feature `tokio`, `retry_async` retries futures. [`Retrying::sleep`] takes the sleep of any runtime.
-//! - With the feature `tower`, `RetryPolicy` is a `tower::retry::Policy`, and `LimitLayer` a layer that takes a
-//!   [`CallLimit`] too.
+//! - With the feature `tower`, `RetryLayer` is a layer that retries a service's requests, under any limit.
 //! - With the feature `leased`, all processes of a machine can share a `Leased` or a `LeasedQuota`, which count in a
 //!   folder. A store of your own implements [`Tickets`].
 //! - With the feature `serde`, a configuration can contain a policy and a quota.
@@ -83,7 +82,7 @@ mod pages {
     /// use hikebox::RetryError::{self, *};
     /// fn last(error: RetryError<u8>) -> u8 {
     ///     match error {
-    ///         ScheduleDone(last) | Deadline(last) | BudgetRefused(last) | NotRetried(last) => last,
+    ///         ScheduleDone(last) | Deadline(last) | LimitRefused(last) | NotRetried(last) => last,
     ///         StoreFailed(_, last) | Broken(_, last) => last,
     ///         NotAdmitted(never) => match never {},
     ///     }
@@ -95,7 +94,7 @@ mod pages {
     /// fn won(ended: Ending) -> bool {
     ///     match ended {
     ///         Won => true,
-    ///         ScheduleDone | Deadline | BudgetRefused | Cancelled | Broken(_) => false,
+    ///         ScheduleDone | Deadline | LimitRefused | Cancelled | Broken(_) => false,
     ///     }
     /// }
     /// ```

@@ -70,7 +70,7 @@ fn all_that_retries_draws_on_a_limit() {
     assert_eq!(retrying.clone().into_owned().call(fails(2)), Ok(2));
     let shared: SharedRetrying<&str, Refused> = retrying.shared();
     assert_eq!(shared.call(fails(2)), Ok(2));
-    assert_eq!(fails(2).retry(&five).budget(&bucket).run(), Ok(2));
+    assert_eq!(fails(2).retry(&five).limit(&bucket).run(), Ok(2));
     let mut runs = vec![];
     let answer = shared.call_with(|attempt| {
         runs.push(attempt.number());
@@ -82,7 +82,7 @@ fn all_that_retries_draws_on_a_limit() {
     });
     assert_eq!((answer, runs), (Ok(()), vec![1, 2, 3]));
     assert_eq!(refused(&bucket), Some(LevelLow));
-    assert_eq!(retry(&five, &bucket, fails(1)), Err(RetryError::BudgetRefused("busy")));
+    assert_eq!(retry(&five, &bucket, fails(1)), Err(RetryError::LimitRefused("busy")));
 }
 
 // A failure counts though it is not retried, and though the schedule is done.
@@ -100,14 +100,18 @@ fn each_failure_is_told() {
 // A breaker that is open for no time is half open at once: while its probe is out nobody else is admitted.
 #[test]
 fn a_call_is_the_probe() {
-    let (limit, once) = (breaker(1, "\"forever\""), policy(r#"{"recurs":0}"#));
+    let (limit, once) = (breaker(1, r#"{"spaced":1}"#), policy(r#"{"recurs":0}"#));
+    let is_half_open = || thread::sleep(Duration::from_millis(2));
     assert_eq!(retry(&once, &limit, fails(1)), Err(RetryError::ScheduleDone("busy")));
+    is_half_open();
     let inner = || not_admitted(retry(&once, &limit, fails(0)));
     assert_eq!(retry(&once, &limit, || Ok::<_, &str>(inner())), Ok(Some(Probing)));
     assert_eq!(retry(&once, &limit, || Ok::<_, &str>(inner())), Ok(None));
     // a probe that fails opens it again
     assert_eq!(retry(&once, &limit, fails(1)), Err(RetryError::ScheduleDone("busy")));
+    is_half_open();
     assert_eq!(retry(&once, &limit, || Err::<(), _>(inner())), Err(RetryError::ScheduleDone(Some(Probing))));
+    is_half_open();
     assert_eq!(retry(&once, &limit, || Ok::<_, &str>(inner())), Ok(Some(Probing)));
 }
 
@@ -203,7 +207,7 @@ fn each_run_of_a_repeat_is_a_call() {
             }
         })
     });
-    assert_eq!(answer, Err(RepeatError::Failed(RetryError::BudgetRefused("down"))));
+    assert_eq!(answer, Err(RepeatError::Failed(RetryError::LimitRefused("down"))));
     assert_eq!(runs, 4);
     let answer = repeat(&twice, || retry(&twice, &limit, || Ok::<_, &str>(())));
     assert!(matches!(answer, Err(RepeatError::Failed(RetryError::NotAdmitted(_)))));
@@ -231,7 +235,7 @@ mod futures {
         assert!(timeout(Duration::from_secs(1), call).await.is_err());
         let retrying = Retrying::new(&waits, &limit);
         assert!(timeout(Duration::from_secs(1), retrying.call_async(hangs)).await.is_err());
-        assert!(timeout(Duration::from_secs(1), hangs.retry(&waits).budget(&limit).run()).await.is_err());
+        assert!(timeout(Duration::from_secs(1), hangs.retry(&waits).limit(&limit).run()).await.is_err());
         // two calls are in flight, so one retry is, and the token is there
         assert!(others[0].draw().is_ok());
         assert_eq!(others[1].draw().unwrap_err().reason(), LevelLow);
@@ -242,7 +246,7 @@ mod futures {
     async fn a_breaker_opens_and_closes() {
         let (limit, nine) = (breaker(2, r#"{"spaced":30000}"#), policy(r#"{"recurs":9}"#));
         let fails = || async { Err::<(), _>("down") };
-        assert_eq!(retry_async(&nine, &limit, fails).await, Err(RetryError::BudgetRefused("down")));
+        assert_eq!(retry_async(&nine, &limit, fails).await, Err(RetryError::LimitRefused("down")));
         sleep(Duration::from_secs(29)).await;
         assert_eq!(not_admitted(retry_async(&nine, &limit, fails).await), Some(BreakerOpen));
         sleep(Duration::from_secs(2)).await;
@@ -255,7 +259,7 @@ mod futures {
     async fn a_task_owns_its_limit() {
         let (limit, five) = (tokens(9.0), policy(r#"{"recurs":5}"#));
         let call = || async { Err::<(), _>("busy") };
-        let task = tokio::spawn(call.retry(&five).budget(&limit).into_owned().run());
+        let task = tokio::spawn(call.retry(&five).limit(&limit).into_owned().run());
         assert_eq!(task.await.unwrap(), Err(RetryError::ScheduleDone("busy")));
         assert_eq!((0..5).filter(|_| refused(&limit).is_none()).count(), 4);
     }
@@ -264,7 +268,7 @@ mod futures {
 #[cfg(feature = "tower")]
 mod layers {
     use super::*;
-    use hikebox::{both, Budget, LimitLayer, Quota, RetryPolicy};
+    use hikebox::{both, Budget, Quota, RetryLayer};
     use std::future::{pending, ready, Ready};
     use std::sync::Arc;
     use std::task::{Context, Poll};
@@ -280,9 +284,9 @@ mod layers {
     async fn a_breaker_opens_and_closes() {
         let answers = Arc::new(AtomicU64::new(0));
         let calls = answers.clone();
-        let retries = RetryPolicy::new(policy(r#"{"recurs":9}"#), breaker(2, r#"{"spaced":30000}"#))
+        let retries = RetryLayer::new(policy(r#"{"recurs":9}"#), breaker(2, r#"{"spaced":30000}"#))
             .failed(|response: &u32| *response == 503);
-        let mut service = ServiceBuilder::new().layer(LimitLayer::new(retries)).service(service_fn(move |_: u8| {
+        let mut service = ServiceBuilder::new().layer(retries).service(service_fn(move |_: u8| {
             let call = calls.fetch_add(1, Ordering::SeqCst);
             ready([Err("down"), Ok(503), Ok(200)].get(call as usize).copied().unwrap_or(Ok(201)))
         }));
@@ -303,14 +307,14 @@ mod layers {
     async fn a_dropped_call_gives_back() {
         let (bucket, flights) = (tokens(1.0), halves());
         let limit = both(&bucket, &flights).unwrap();
-        let retries = RetryPolicy::new(policy(r#"{"spaced":60000}"#), limit.clone());
+        let retries = RetryLayer::new(policy(r#"{"spaced":60000}"#), limit.clone());
         let service = service_fn(|hangs: bool| async move {
             if hangs {
                 pending::<()>().await;
             }
             Err::<(), _>("busy")
         });
-        let mut service = ServiceBuilder::new().layer(LimitLayer::new(retries)).service(service);
+        let mut service = ServiceBuilder::new().layer(retries).service(service);
         let mut others = [limit.request().unwrap(), limit.request().unwrap()];
         others.iter_mut().for_each(|other| other.admit().unwrap());
         for hangs in [false, true] {
@@ -327,13 +331,12 @@ mod layers {
     #[tokio::test(start_paused = true)]
     async fn a_call_that_ended_holds_nothing() {
         let (flights, held, request) = (halves(), Arc::new(()), Arc::new(()));
-        let retries = RetryPolicy::new(policy(r#"{"recurs":0}"#), flights.clone());
+        let retries = RetryLayer::new(policy(r#"{"recurs":0}"#), flights.clone());
         let of_service = held.clone();
-        let mut service =
-            ServiceBuilder::new().layer(LimitLayer::new(retries)).service(service_fn(move |_: Arc<()>| {
-                let _ = &of_service;
-                ready(Ok::<_, BoxError>(5))
-            }));
+        let mut service = ServiceBuilder::new().layer(retries).service(service_fn(move |_: Arc<()>| {
+            let _ = &of_service;
+            ready(Ok::<_, BoxError>(5))
+        }));
         let mut call = service.ready().await.unwrap().call(request.clone());
         assert_eq!((Arc::strong_count(&held), Arc::strong_count(&request)), (3, 2));
         assert_eq!((&mut call).await.unwrap(), 5);
@@ -350,8 +353,8 @@ mod layers {
         request.admit().unwrap();
         request.failed();
         let of_service = held.clone();
-        let retries = RetryPolicy::new(policy(r#"{"recurs":0}"#), limit);
-        let mut service = ServiceBuilder::new().layer(LimitLayer::new(retries)).service(service_fn(move |_: u8| {
+        let retries = RetryLayer::new(policy(r#"{"recurs":0}"#), limit);
+        let mut service = ServiceBuilder::new().layer(retries).service(service_fn(move |_: u8| {
             let _ = &of_service;
             ready(Ok::<_, BoxError>(5))
         }));
@@ -365,15 +368,14 @@ mod layers {
     async fn retries_draw_and_failures_are_told() {
         let (bucket, waits) = (tokens(2.0), policy(r#"{"spaced":100}"#));
         let busy = || service_fn(|_: u8| ready(Err::<u32, _>("busy")));
-        let mut service =
-            ServiceBuilder::new().layer(LimitLayer::new(RetryPolicy::new(waits.clone(), bucket))).service(busy());
+        let mut service = ServiceBuilder::new().layer(RetryLayer::new(waits.clone(), bucket)).service(busy());
         let began = Instant::now();
         assert_eq!(service.ready().await.unwrap().call(1).await.unwrap_err().to_string(), "busy");
         assert_eq!(began.elapsed().as_millis(), 200);
-        let once = RetryPolicy::copying(waits.clone(), breaker(1, r#"{"spaced":30000}"#), |_: &u8| None);
-        let excluded = RetryPolicy::new(waits, breaker(1, r#"{"spaced":30000}"#)).when(|_: &&str| false);
+        let once = RetryLayer::copying(waits.clone(), breaker(1, r#"{"spaced":30000}"#), |_: &u8| None);
+        let excluded = RetryLayer::new(waits, breaker(1, r#"{"spaced":30000}"#)).when(|_: &&str| false);
         for retries in [once, excluded] {
-            let mut service = ServiceBuilder::new().layer(LimitLayer::new(retries)).service(busy());
+            let mut service = ServiceBuilder::new().layer(retries).service(busy());
             assert_eq!(service.ready().await.unwrap().call(1).await.unwrap_err().to_string(), "busy");
             assert_eq!(reason(service.ready().await.unwrap().call(1).await), Some(BreakerOpen));
         }
@@ -416,8 +418,8 @@ mod layers {
 
     #[tokio::test(start_paused = true)]
     async fn a_service_is_ready_before_each_run() {
-        let retries = RetryPolicy::new(policy(r#"{"recurs":5}"#), tokens(9.0));
-        let mut service = ServiceBuilder::new().layer(LimitLayer::new(retries)).service(GetsReady::default());
+        let retries = RetryLayer::new(policy(r#"{"recurs":5}"#), tokens(9.0));
+        let mut service = ServiceBuilder::new().layer(retries).service(GetsReady::default());
         for _ in 0..2 {
             assert_eq!(service.ready().await.unwrap().call(1).await.unwrap(), 3);
         }
@@ -451,37 +453,38 @@ mod layers {
     async fn a_call_that_is_dropped_before_its_service_is_ready_gives_its_ticket_back() {
         for json in [r#"{"spaced":100}"#, r#"{"recurs":5}"#] {
             let quota = Quota::new_at(Instant::now().into_std(), 9, 0.0, Duration::from_secs(3600)).unwrap();
-            let retries = RetryPolicy::new(policy(json), quota.clone());
-            let mut service = ServiceBuilder::new().layer(LimitLayer::new(retries)).service(ReadyFor(2));
+            let retries = RetryLayer::new(policy(json), quota.clone());
+            let mut service = ServiceBuilder::new().layer(retries).service(ReadyFor(2));
             let call = service.ready().await.unwrap().call(1);
             assert!(timeout(Duration::from_secs(1), call).await.is_err());
             assert_eq!((quota.granted(), quota.seen().left), (1, 8), "{json}");
             // of two tokens one is used
             let bucket = tokens(2.0);
-            let retries = RetryPolicy::new(policy(json), bucket.clone());
-            let mut service = ServiceBuilder::new().layer(LimitLayer::new(retries)).service(ReadyFor(2));
+            let retries = RetryLayer::new(policy(json), bucket.clone());
+            let mut service = ServiceBuilder::new().layer(retries).service(ReadyFor(2));
             let call = service.ready().await.unwrap().call(1);
             assert!(timeout(Duration::from_secs(1), call).await.is_err());
             assert_eq!([refused(&bucket), refused(&bucket)], [None, Some(LevelLow)], "{json}");
         }
     }
 
-    // By budgets and quotas it retries as tower's own layer does. A retry that would begin past the deadline does not.
+    // Its error is a box only of a limit that may refuse a call. A retry that would begin past the deadline does not.
     #[tokio::test(start_paused = true)]
     async fn it_takes_every_limit() {
         let (budget, quota) = (Budget::new(3).unwrap(), Quota::new(1, 1.0, Duration::from_secs(3600)).unwrap());
         let waits = policy(r#"{"spaced":100}"#);
         let busy = || service_fn(|_: u8| ready(Err::<u32, _>("busy")));
-        let by = LimitLayer::new(RetryPolicy::new(waits.clone(), budget.clone()));
+        let by = RetryLayer::new(waits.clone(), budget.clone());
         let began = Instant::now();
-        assert!(ServiceBuilder::new().layer(by).service(busy()).ready().await.unwrap().call(1).await.is_err());
+        let mut service = ServiceBuilder::new().layer(by).service(busy());
+        assert_eq!(service.ready().await.unwrap().call(1).await, Err("busy"));
         assert_eq!((began.elapsed().as_millis(), budget.granted()), (300, 3));
-        let by = RetryPolicy::new(waits, quota.clone()).deadline(Duration::from_millis(150));
-        let mut service = ServiceBuilder::new().layer(LimitLayer::new(by)).service(busy());
+        let by = RetryLayer::new(waits, quota.clone()).deadline(Duration::from_millis(150));
+        let mut service = ServiceBuilder::new().layer(by).service(busy());
         for request in 1..=2 {
             sleep(Duration::from_secs(1)).await;
             let began = Instant::now();
-            assert_eq!(service.ready().await.unwrap().call(1).await.unwrap_err().to_string(), "busy");
+            assert_eq!(service.ready().await.unwrap().call(1).await, Err("busy"));
             assert_eq!((began.elapsed().as_millis(), quota.seen().asked), (100, request));
         }
         assert_eq!(quota.granted(), 2);
@@ -491,13 +494,13 @@ mod layers {
     #[test]
     fn eight_threads_draw_each_token_once() {
         let runs = Arc::new(AtomicU64::new(0));
-        let retries = RetryPolicy::new(policy(r#"{"recurs":9}"#), tokens(300.0));
+        let retries = RetryLayer::new(policy(r#"{"recurs":9}"#), tokens(300.0));
         let counted = runs.clone();
-        let service = ServiceBuilder::new().layer(LimitLayer::new(retries)).service(service_fn(move |_: u8| {
+        let service = ServiceBuilder::new().layer(retries).service(service_fn(move |_: u8| {
             counted.fetch_add(1, Ordering::SeqCst);
             ready(Err::<u32, _>("busy"))
         }));
-        let calls = |mut service: hikebox::Limited<_, _>| async move {
+        let calls = |mut service: hikebox::RetryService<_, _>| async move {
             for _ in 0..100 {
                 let _: Result<u32, BoxError> = ServiceExt::<u8>::ready(&mut service).await.unwrap().call(1).await;
             }

@@ -3,7 +3,7 @@
 mod common;
 
 use common::ticket;
-use hikebox::{retry, Budget, BudgetError, Policy, RetryError};
+use hikebox::{retry, Budget, LimitError, Policy, RetryError};
 use std::sync::atomic::{AtomicU64, Ordering};
 use std::thread;
 
@@ -34,8 +34,8 @@ fn an_empty_budget_has_no_ticket() {
 #[test]
 fn limits_end_at_two_to_the_thirty_second() {
     assert!(Budget::new(4_294_967_296).is_ok());
-    assert_eq!(Budget::new(4_294_967_297).unwrap_err(), BudgetError::LimitTooLarge);
-    assert_eq!(Budget::rising(4_294_967_297).unwrap_err(), BudgetError::LimitTooLarge);
+    assert_eq!(Budget::new(4_294_967_297).unwrap_err(), LimitError::LimitTooLarge);
+    assert_eq!(Budget::rising(4_294_967_297).unwrap_err(), LimitError::LimitTooLarge);
 }
 
 #[test]
@@ -46,8 +46,8 @@ fn a_rising_budget_rises_and_a_fixed_one_does_not() {
     assert_eq!(budget.raise(3), Ok(3));
     assert_eq!(budget.raise(2), Ok(3));
     assert_eq!(ticket(pass.draw()), Some(1));
-    assert_eq!(budget.raise(4_294_967_297), Err(BudgetError::LimitTooLarge));
-    assert_eq!(Budget::new(1).unwrap().raise(2), Err(BudgetError::Fixed));
+    assert_eq!(budget.raise(4_294_967_297), Err(LimitError::LimitTooLarge));
+    assert_eq!(Budget::new(1).unwrap().raise(2), Err(LimitError::Fixed));
 }
 
 #[test]
@@ -56,7 +56,7 @@ fn what_a_rising_budget_refused_it_gives_once_it_was_raised() {
     let budget = Budget::rising(1).unwrap();
     let fails = || retry(&policy, &budget, || Err::<(), _>(()));
     for granted in [1, 1, 1] {
-        assert_eq!(fails(), Err(RetryError::BudgetRefused(())));
+        assert_eq!(fails(), Err(RetryError::LimitRefused(())));
         assert_eq!(budget.granted(), granted);
     }
     assert_eq!(budget.raise(5), Ok(5));

@@ -209,17 +209,17 @@ fn a_machine_ends_by_it_at_the_moments_of_its_host() {
 #[cfg(feature = "tower")]
 #[tokio::test(start_paused = true)]
 async fn a_request_of_towers_has_a_deadline_of_its_own() {
-    use hikebox::RetryPolicy;
+    use hikebox::RetryLayer;
     use tokio::time::{sleep, Instant};
-    use tower::{retry::RetryLayer, service_fn, Service, ServiceBuilder, ServiceExt};
+    use tower::{service_fn, Service, ServiceBuilder, ServiceExt};
 
     let quota = Quota::new(100, 0.0, Duration::from_secs(3600)).unwrap();
-    let by = RetryPolicy::new(policy(r#"{"spaced":100}"#), quota.clone()).deadline(Duration::from_millis(259));
+    let by = RetryLayer::new(policy(r#"{"spaced":100}"#), quota.clone()).deadline(Duration::from_millis(259));
     let busy = service_fn(|_: u32| async {
         sleep(Duration::from_millis(30)).await;
         Err::<(), _>("busy")
     });
-    let mut service = ServiceBuilder::new().layer(RetryLayer::new(by)).service(busy);
+    let mut service = ServiceBuilder::new().layer(by).service(busy);
     for request in 1..=2 {
         sleep(Duration::from_secs(1)).await;
         let began = Instant::now();
@@ -234,17 +234,17 @@ async fn a_request_of_towers_has_a_deadline_of_its_own() {
 /// made, of which the first so many fail.
 #[cfg(feature = "tower")]
 async fn runs_of_a_late_timer(quota: &Quota, fails: usize) -> usize {
-    use hikebox::RetryPolicy;
+    use hikebox::RetryLayer;
     use std::{future::ready, sync::atomic::AtomicUsize, sync::atomic::Ordering, sync::Arc};
-    use tower::{retry::RetryLayer, service_fn, Service, ServiceBuilder, ServiceExt};
+    use tower::{service_fn, Service, ServiceBuilder, ServiceExt};
 
     let runs = Arc::new(AtomicUsize::new(0));
     let counted = runs.clone();
-    let by = RetryPolicy::new(policy(r#"{"spaced":10}"#), quota.clone()).deadline(Duration::from_millis(50));
+    let by = RetryLayer::new(policy(r#"{"spaced":10}"#), quota.clone()).deadline(Duration::from_millis(50));
     let service = service_fn(move |_: u32| {
         ready(if counted.fetch_add(1, Ordering::Relaxed) < fails { Err("busy") } else { Ok("there") })
     });
-    let mut service = ServiceBuilder::new().layer(RetryLayer::new(by)).service(service);
+    let mut service = ServiceBuilder::new().layer(by).service(service);
     let late = tokio::time::advance(Duration::from_millis(200));
     let (answer, ()) = tokio::join!(service.ready().await.unwrap().call(7), late);
     let runs = runs.load(Ordering::Relaxed);
@@ -254,21 +254,12 @@ async fn runs_of_a_late_timer(quota: &Quota, fails: usize) -> usize {
 
 #[cfg(feature = "tower")]
 #[tokio::test(start_paused = true)]
-async fn a_run_that_tower_makes_past_it_uses_its_ticket() {
+async fn no_run_of_towers_begins_past_it_and_its_ticket_comes_back() {
     let quota = Quota::new(2, 0.0, Duration::from_secs(3600)).unwrap();
-    assert_eq!(runs_of_a_late_timer(&quota, 9).await, 2);
-    assert_eq!((quota.granted(), quota.seen().left), (1, 1));
-    assert_eq!(runs_of_a_late_timer(&quota, 1).await, 2);
-    assert_eq!((quota.granted(), quota.seen().left), (2, 0));
-    // there is none for another run
-    assert_eq!(runs_of_a_late_timer(&quota, 9).await, 1);
-    assert_eq!(quota.close().unwrap(), 2);
-    // it comes back where the late run helped, if the quota wants it back
-    let quota = Quota::new(1, 0.0, Duration::from_secs(3600)).unwrap().returning_tickets();
-    assert_eq!(runs_of_a_late_timer(&quota, 1).await, 2);
-    assert_eq!((quota.granted(), quota.seen().left), (0, 1));
-    assert_eq!(runs_of_a_late_timer(&quota, 9).await, 2);
-    assert_eq!((quota.granted(), quota.seen().left), (1, 0));
+    for fails in [9, 1] {
+        assert_eq!(runs_of_a_late_timer(&quota, fails).await, 1);
+        assert_eq!((quota.granted(), quota.seen().left), (0, 2));
+    }
 }
 
 /// A clock that a sleep moves by so much more than it should.

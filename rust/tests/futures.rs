@@ -2,8 +2,8 @@
 #![cfg(all(feature = "tokio", feature = "tower"))]
 
 use hikebox::{
-    retry_async, BlockingRetryable, Budget, LimitLayer, Policy, Quota, RetryError, RetryPolicy, Retryable, Retrying,
-    Unlimited, Usage,
+    retry_async, BlockingRetryable, Budget, Policy, Quota, RetryError, RetryLayer, Retryable, Retrying, Unlimited,
+    Usage,
 };
 use std::cell::RefCell;
 use std::future::{ready, Future};
@@ -14,7 +14,7 @@ use std::sync::Arc;
 use std::task::{Context, Poll, Wake, Waker};
 use std::time::Duration;
 use tokio::time::{timeout, Instant};
-use tower::{retry::RetryLayer, service_fn, BoxError, Layer, Service, ServiceBuilder, ServiceExt};
+use tower::{service_fn, BoxError, Layer, Service, ServiceBuilder, ServiceExt};
 
 fn policy(json: &str) -> Policy {
     json.parse().unwrap()
@@ -54,7 +54,7 @@ async fn a_service_is_retried_under_the_budget() {
     let budget = Budget::new(4).unwrap();
     let calls = Arc::new(AtomicU32::new(0));
     let counted = calls.clone();
-    let layer = RetryLayer::new(RetryPolicy::new(policy(r#"{"meet":[{"recurs":3},{"spaced":100}]}"#), budget.clone()));
+    let layer = RetryLayer::new(policy(r#"{"meet":[{"recurs":3},{"spaced":100}]}"#), budget.clone());
     let mut service = ServiceBuilder::new().layer(layer).service(service_fn(move |code: u64| {
         counted.fetch_add(1, Ordering::SeqCst);
         async move { Err::<(), u64>(code) }
@@ -71,7 +71,7 @@ async fn a_service_is_retried_under_the_budget() {
 #[tokio::test(start_paused = true)]
 async fn only_the_errors_that_are_named_are_retried() {
     let budget = Budget::new(100).unwrap();
-    let by = RetryPolicy::new(policy(r#"{"gate":["input",true,"equal",503,{"recurs":9}]}"#), budget.clone())
+    let by = RetryLayer::new(policy(r#"{"gate":["input",true,"equal",503,{"recurs":9}]}"#), budget.clone())
         .when(|code: &u64| *code >= 500)
         .code(|code| *code);
     let answers = |codes: &'static [u64]| {
@@ -88,7 +88,7 @@ async fn only_the_errors_that_are_named_are_retried() {
         })
     };
     for (codes, answer) in [(&[503, 503][..], Ok(())), (&[404], Err(404)), (&[503, 500], Err(500))] {
-        let mut service = ServiceBuilder::new().layer(RetryLayer::new(by.clone())).service(answers(codes));
+        let mut service = ServiceBuilder::new().layer(by.clone()).service(answers(codes));
         assert_eq!(service.ready().await.unwrap().call(()).await, answer);
     }
     assert_eq!(budget.granted(), 3);
@@ -100,7 +100,7 @@ async fn a_future_draws_on_a_quota_by_tokios_clock() {
     let fails = || async { Err::<(), _>("no") };
     let spaced = policy(r#"{"meet":[{"recurs":3},{"spaced":400}]}"#);
     // failures at 0, 400, 800 and 1,200: the first window has its reserve alone
-    assert_eq!(retry_async(&spaced, &quota, fails).await, Err(RetryError::BudgetRefused("no")));
+    assert_eq!(retry_async(&spaced, &quota, fails).await, Err(RetryError::LimitRefused("no")));
     assert_eq!(told(quota.seen_at(Duration::from_millis(800))), [0, 1, 2, 0]);
     assert_eq!(retry_async(&spaced, &quota, fails).await, Err(RetryError::ScheduleDone("no")));
     assert_eq!(quota.granted(), 5);
@@ -120,7 +120,7 @@ async fn a_future_that_is_dropped_gives_its_quotas_pass_back() {
 #[tokio::test(start_paused = true)]
 async fn a_service_is_retried_on_a_quota_and_each_request_counts() {
     let quota = Quota::new_at(Instant::now().into_std(), 1, 0.5, Duration::from_secs(60)).unwrap();
-    let layer = RetryLayer::new(RetryPolicy::new(policy(r#"{"recurs":9}"#), quota.clone()));
+    let layer = RetryLayer::new(policy(r#"{"recurs":9}"#), quota.clone());
     let answers = service_fn(|code: u64| async move {
         if code == 200 {
             Ok(())
@@ -137,7 +137,7 @@ async fn a_service_is_retried_on_a_quota_and_each_request_counts() {
     assert_eq!(service.ready().await.unwrap().call(503).await, Err(503));
     assert_eq!(told(quota.seen_at(Duration::from_millis(0))), [0, 4, 3, 0]);
     let mut others = ServiceBuilder::new()
-        .layer(RetryLayer::new(RetryPolicy::new(policy(r#"{"recurs":9}"#), Unlimited)))
+        .layer(RetryLayer::new(policy(r#"{"recurs":9}"#), Unlimited))
         .service(service_fn(|code: u64| async move { Err::<(), _>(code) }));
     assert_eq!(others.ready().await.unwrap().call(7).await, Err(7));
     drop(service);
@@ -179,7 +179,7 @@ fn a_wait_of_nothing_needs_no_timer_and_no_runtime() {
 
 #[test]
 fn towers_requests_need_no_timer_where_they_wait_for_nothing() {
-    let layer = RetryLayer::new(RetryPolicy::new(policy(r#"{"recurs":2}"#), Unlimited));
+    let layer = RetryLayer::new(policy(r#"{"recurs":2}"#), Unlimited);
     let mut service = ServiceBuilder::new().layer(layer).service(service_fn(|code: u64| ready(Err::<(), _>(code))));
     assert_eq!(at_once(async { service.ready().await?.call(8).await }), Err(8));
 }
@@ -195,7 +195,7 @@ async fn an_async_function_is_retried_by_a_method_of_its_own() {
     let ears = heard.clone();
     let result = busy
         .retry(&spaced)
-        .budget(&budget)
+        .limit(&budget)
         .when(|error| error.len() == 4)
         .notify(move |error, wait| ears.borrow_mut().push((error.len(), wait.as_millis())))
         .run()
@@ -249,7 +249,7 @@ struct Once(u64);
 #[tokio::test(start_paused = true)]
 async fn a_response_is_a_failure_and_asks_for_a_wait() {
     let limit = r#"{"gate":["input",true,"at_least",500,{"meet":[{"recurs":2},{"spaced":100}]}]}"#;
-    let by = RetryPolicy::copying(policy(limit), Budget::new(9).unwrap(), |request: &Once| Some(Once(request.0)))
+    let by = RetryLayer::copying(policy(limit), Budget::new(9).unwrap(), |request: &Once| Some(Once(request.0)))
         .failed(|response: &Response| response.0 >= 400)
         .response_code(|response| response.0)
         .retry_after(|result: Result<&Response, &String>| result.ok()?.1)
@@ -266,7 +266,7 @@ async fn a_response_is_a_failure_and_asks_for_a_wait() {
             let (status, wait) = answers.next().unwrap();
             ready(Ok::<_, String>(Response(status, wait.map(Duration::from_millis))))
         });
-        let mut service = ServiceBuilder::new().layer(RetryLayer::new(by.clone())).service(service);
+        let mut service = ServiceBuilder::new().layer(by.clone()).service(service);
         assert_eq!(service.ready().await.unwrap().call(Once(1)).await.unwrap().0, status);
         assert_eq!(began.elapsed().as_millis(), waited);
     }
@@ -274,29 +274,23 @@ async fn a_response_is_a_failure_and_asks_for_a_wait() {
 
 #[tokio::test(start_paused = true)]
 async fn a_request_that_can_not_be_copied_is_made_once() {
-    let by = RetryPolicy::copying(policy(r#"{"recurs":9}"#), Unlimited, |_: &Once| None);
+    let by = RetryLayer::copying(policy(r#"{"recurs":9}"#), Unlimited, |_: &Once| None);
     let calls = AtomicU32::new(0);
     let service = service_fn(|_: Once| ready(Err::<(), _>(calls.fetch_add(1, Ordering::SeqCst) + 1)));
-    let mut service = ServiceBuilder::new().layer(RetryLayer::new(by)).service(service);
+    let mut service = ServiceBuilder::new().layer(by).service(service);
     assert_eq!(service.ready().await.unwrap().call(Once(1)).await, Err(1));
 }
 
-// Tower's layer does not ask its policy how such a request ended; the layer of this crate hears of it.
 #[tokio::test(start_paused = true)]
-async fn the_success_of_a_request_without_a_copy_counts_in_a_limit_layer_alone() {
+async fn the_success_of_a_request_without_a_copy_counts() {
     let quota = Quota::new(0, 0.5, Duration::from_secs(60)).unwrap().counting_successes();
-    let by = RetryPolicy::copying(policy(r#"{"recurs":9}"#), quota.clone(), |_: &Once| None);
-    let wins = service_fn(|_: Once| ready(Ok::<_, BoxError>(5)));
-    let mut service = ServiceBuilder::new().layer(RetryLayer::new(by.clone())).service(wins);
-    assert_eq!(service.ready().await.unwrap().call(Once(1)).await.unwrap(), 5);
-    assert_eq!(quota.seen().asked, 0);
-    let mut service = ServiceBuilder::new().layer(LimitLayer::new(by)).service(wins);
+    let by = RetryLayer::copying(policy(r#"{"recurs":9}"#), quota.clone(), |_: &Once| None);
+    let mut service = ServiceBuilder::new().layer(by).service(service_fn(|_: Once| ready(Ok::<_, BoxError>(5))));
     assert_eq!(service.ready().await.unwrap().call(Once(1)).await.unwrap(), 5);
     assert_eq!(quota.seen().asked, 1);
 }
 
-/// A call whose types have lifetimes, of which the compiler shows little in an async block: docs/FROM-TOWER.md has the
-/// ways that are tried here.
+/// A call whose types have lifetimes, of which the compiler shows little in an async block.
 async fn fails_by_a_box(_: u32) -> Result<&'static str, BoxError> {
     Err("busy".into())
 }
@@ -304,15 +298,69 @@ async fn fails_by_a_box(_: u32) -> Result<&'static str, BoxError> {
 #[tokio::test(start_paused = true)]
 async fn a_call_of_a_layer_is_spawned() {
     let budget = Budget::new(100).unwrap();
-    let retries = RetryPolicy::new(policy(r#"{"meet":[{"recurs":3},{"spaced":100}]}"#), budget.clone());
-    let mut layered = RetryLayer::new(retries.clone()).layer(service_fn(fails_by_a_box));
+    let retries = RetryLayer::new(policy(r#"{"meet":[{"recurs":3},{"spaced":100}]}"#), budget.clone());
+    let mut layered = retries.layer(service_fn(fails_by_a_box));
     let call = layered.ready().await.unwrap().call(7);
     assert_eq!(tokio::spawn(call).await.unwrap().unwrap_err().to_string(), "busy");
-    let mut boxed = layered.boxed_clone();
-    let task = tokio::spawn(async move { boxed.ready().await?.call(7).await });
+    let task = tokio::spawn(async move { layered.ready().await?.call(7).await });
     assert_eq!(task.await.unwrap().unwrap_err().to_string(), "busy");
-    let mut limited = LimitLayer::new(retries).layer(service_fn(fails_by_a_box));
-    let task = tokio::spawn(async move { limited.ready().await?.call(7).await });
-    assert_eq!(task.await.unwrap().unwrap_err().to_string(), "busy");
-    assert_eq!(budget.granted(), 9);
+    assert_eq!(budget.granted(), 6);
+}
+
+/// A policy of tower's own: so many retries, and waits of 100 ms that double.
+#[derive(Clone)]
+struct Doubling {
+    left: u32,
+    wait: Duration,
+}
+
+impl tower::retry::Policy<u32, u32, u32> for Doubling {
+    type Future = Pin<Box<dyn Future<Output = Self> + Send>>;
+
+    fn retry(&self, _: &u32, result: Result<&u32, &u32>) -> Option<Self::Future> {
+        if result.is_ok() || self.left == 0 {
+            return None;
+        }
+        let (wait, next) = (self.wait, Self { left: self.left - 1, wait: self.wait * 2 });
+        Some(Box::pin(async move {
+            tokio::time::sleep(wait).await;
+            next
+        }))
+    }
+
+    fn clone_request(&self, request: &u32) -> Option<u32> {
+        Some(*request)
+    }
+}
+
+/// What three calls of a service in this layer answer, whose run with an odd bit in `script` fails, and when each ends.
+async fn played<L>(layer: L, script: u32) -> Vec<(Result<u32, u32>, u128)>
+where
+    L: Layer<tower::util::BoxCloneService<u32, u32, u32>>,
+    L::Service: Service<u32, Response = u32, Error = u32>,
+{
+    let runs = Arc::new(AtomicU32::new(0));
+    let service = service_fn(move |request: u32| {
+        let run = runs.fetch_add(1, Ordering::SeqCst);
+        ready(if script >> run & 1 == 1 { Err(run) } else { Ok(request + run) })
+    });
+    let mut service = layer.layer(tower::util::BoxCloneService::new(service));
+    let (began, mut told) = (Instant::now(), Vec::new());
+    for request in [100, 200, 300] {
+        let answer = service.ready().await.unwrap().call(request).await;
+        told.push((answer, began.elapsed().as_millis()));
+    }
+    told
+}
+
+#[tokio::test(start_paused = true)]
+async fn without_a_limit_it_retries_as_towers_own_layer_does() {
+    for script in 0..1 << 9 {
+        for retries in 0..4 {
+            let own = tower::retry::RetryLayer::new(Doubling { left: retries, wait: Duration::from_millis(100) });
+            let schedule = format!(r#"{{"meet":[{{"recurs":{retries}}},{{"exponential":[100,2]}}]}}"#);
+            let ours = RetryLayer::new(policy(&schedule), Unlimited);
+            assert_eq!(played(ours, script).await, played(own, script).await, "{script:b} {retries}");
+        }
+    }
 }

@@ -1,7 +1,7 @@
 //! Retries that are kept: as fields, by several threads, in tasks that are spawned, on a budget of any kind.
 
 use hikebox::{
-    AnyBudget, BlockingRetryable, Budget, Policy, Quota, Repeating, RetryError, Retrying, SharedRetrying, Unlimited,
+    AnyLimit, BlockingRetryable, Budget, Policy, Quota, Repeating, RetryError, Retrying, SharedRetrying, Unlimited,
 };
 use std::io::{Error, ErrorKind};
 use std::sync::atomic::{AtomicU64, Ordering};
@@ -30,7 +30,7 @@ struct Client {
 }
 
 impl Client {
-    fn new(budget: AnyBudget) -> Self {
+    fn new(budget: AnyLimit) -> Self {
         let (policy, heard) = (policy(r#"{"recurs":2}"#), Arc::new(AtomicU64::new(0)));
         let counter = heard.clone();
         let retrying = Retrying::new(&policy, &budget)
@@ -84,16 +84,16 @@ fn a_kept_retry_counts_each_call_on_what_it_draws_on() {
 
 #[test]
 fn a_budget_of_any_kind_is_chosen_when_the_program_runs() {
-    let retries = |budget: AnyBudget| {
+    let retries = |budget: AnyLimit| {
         let mut runs = 0;
         let count = || {
             runs += 1;
             Err::<(), _>(())
         };
-        let _ = count.retry(&policy(r#"{"recurs":5}"#)).budget(&budget).into_owned().run();
+        let _ = count.retry(&policy(r#"{"recurs":5}"#)).limit(&budget).into_owned().run();
         runs - 1
     };
-    assert_eq!(retries(AnyBudget::default()), 5);
+    assert_eq!(retries(AnyLimit::default()), 5);
     assert_eq!(retries(Unlimited.into()), 5);
     assert_eq!(retries(None::<Budget>.into()), 5);
     assert_eq!(retries(Budget::new(3).unwrap().into()), 3);
@@ -135,7 +135,7 @@ mod of_futures {
         let budget = Budget::new(100).unwrap();
         let task = {
             let policy = policy(r#"{"recurs":2}"#);
-            times_out.retry(&policy).budget(&budget).notify(|_, _| ()).into_owned().run()
+            times_out.retry(&policy).limit(&budget).notify(|_, _| ()).into_owned().run()
         };
         let ended = tokio::spawn(task).await.unwrap();
         assert!(matches!(ended, Err(RetryError::ScheduleDone(_))));
@@ -156,7 +156,7 @@ mod of_futures {
     #[tokio::test]
     async fn a_retry_of_a_future_is_awaited() {
         let (policy, budget) = (policy(r#"{"recurs":2}"#), Budget::new(100).unwrap());
-        let ended = times_out.retry(&policy).budget(&budget).await;
+        let ended = times_out.retry(&policy).limit(&budget).await;
         assert!(matches!(ended, Err(RetryError::ScheduleDone(_))));
         let ended = times_out.retry(&policy).when(|error| error.kind() == ErrorKind::NotFound).await;
         assert!(matches!(ended, Err(RetryError::NotRetried(_))));

@@ -6,7 +6,7 @@ mod common;
 
 use common::{comes_to, counts, is_locked, is_open, keeper_of, number, number_in_the_end, retried_once, Scratch};
 use hikebox::{
-    retry, BudgetError, Leased, LeasedQuota, Machine, NoTicket, Policy, Report, RetryError, Step, StoreError, Ticket,
+    retry, Leased, LeasedQuota, LimitError, Machine, NoTicket, Policy, Report, RetryError, Step, StoreError, Ticket,
 };
 use std::collections::{HashMap, HashSet};
 use std::env;
@@ -320,10 +320,10 @@ fn terms_of_a_quota_out_of_their_ranges_are_refused() {
     let refused = |reserve, share, millis| {
         LeasedQuota::new("/no/such/folder", "q", reserve, share, Duration::from_millis(millis)).unwrap_err()
     };
-    assert_eq!(refused((1 << 32) + 1, 0.0, 1), BudgetError::ReserveTooLarge);
-    assert_eq!(refused(0, 1001.0, 1), BudgetError::ShareOutOfRange);
-    assert_eq!(refused(0, 0.0, 0), BudgetError::PeriodTooShort);
-    assert_eq!(refused(0, 0.0, 1 << 62), BudgetError::PeriodTooLong);
+    assert_eq!(refused((1 << 32) + 1, 0.0, 1), LimitError::ReserveTooLarge);
+    assert_eq!(refused(0, 1001.0, 1), LimitError::ShareOutOfRange);
+    assert_eq!(refused(0, 0.0, 0), LimitError::PeriodTooShort);
+    assert_eq!(refused(0, 0.0, 1 << 62), LimitError::PeriodTooLong);
 }
 
 #[test]
@@ -332,13 +332,13 @@ fn retries_draw_on_what_processes_share() {
     let policy: Policy = r#"{"recurs":2}"#.parse().unwrap();
     let budget = Arc::new(Leased::new(&scratch.0, "b", 3).unwrap().lease(2));
     assert_eq!(retry(&policy, &budget, || Err::<(), _>("no")), Err(RetryError::ScheduleDone("no")));
-    assert_eq!(retry(&policy, &budget, || Err::<(), _>("no")), Err(RetryError::BudgetRefused("no")));
+    assert_eq!(retry(&policy, &budget, || Err::<(), _>("no")), Err(RetryError::LimitRefused("no")));
     assert_eq!(number(budget.draw()), None);
 
     // no reserve, and half a retry for each of the two requests
     let quota = Arc::new(long_quota(&scratch.0, 0, 0.5));
-    assert_eq!(retry(&policy, &quota, || Err::<(), _>("no")), Err(RetryError::BudgetRefused("no")));
-    assert_eq!(retry(&policy, &quota, || Err::<(), _>("no")), Err(RetryError::BudgetRefused("no")));
+    assert_eq!(retry(&policy, &quota, || Err::<(), _>("no")), Err(RetryError::LimitRefused("no")));
+    assert_eq!(retry(&policy, &quota, || Err::<(), _>("no")), Err(RetryError::LimitRefused("no")));
     assert_eq!((quota.seen().unwrap().asked, quota.seen().unwrap().given), (2, 1));
 
     let nowhere = Arc::new(Leased::new("/proc/no/folder", "b", 3).unwrap());
@@ -534,7 +534,7 @@ fn nobody_with_a_ticket_at_hand_waits_for_one_who_asks_the_store() {
 fn calls_on_a_leased_quota_count_where_they_succeed() {
     let (folder, policy) = (Scratch::new("successes"), r#"{"recurs":3}"#.parse::<Policy>().unwrap());
     let quota = long_quota(&folder.0, 1, 0.5).counting_successes();
-    assert_eq!(retry(&policy, &quota, || Err::<(), _>("gone")), Err(RetryError::BudgetRefused("gone")));
+    assert_eq!(retry(&policy, &quota, || Err::<(), _>("gone")), Err(RetryError::LimitRefused("gone")));
     assert_eq!(asked_and_given(&quota), (0, 1));
     for _ in 0..4 {
         assert_eq!(retry(&policy, &quota, || Ok::<_, ()>(5)), Ok(5));
@@ -551,8 +551,8 @@ fn terms_of_a_leased_quota_are_set_from_the_next_lease_on() {
     quota.set_terms(0, 0.0).unwrap();
     assert_eq!(draws(&quota, 2), [Some(1), None]);
     quota.clone().set_terms(4, 0.5).unwrap();
-    assert_eq!(quota.set_terms(1 << 33, 0.5), Err(BudgetError::ReserveTooLarge));
-    assert_eq!(quota.set_terms(1, -0.5), Err(BudgetError::ShareOutOfRange));
+    assert_eq!(quota.set_terms(1 << 33, 0.5), Err(LimitError::ReserveTooLarge));
+    assert_eq!(quota.set_terms(1, -0.5), Err(LimitError::ShareOutOfRange));
     quota.deposit_of(2);
     assert_eq!(draws(&quota, 4), [Some(2), Some(3), Some(4), None]);
     // each process by the terms that it names

@@ -2,7 +2,7 @@
 
 use hikebox::RefusalReason::{BreakerOpen, LevelLow, OutOfTurn, Probing, RetriesFull, Throttled};
 use hikebox::{
-    both, retry, Breaker, Bucket, BudgetError, CallLimit, InFlight, Policy, RefusalReason, Request, RetryError, Terms,
+    both, retry, Breaker, Bucket, CallLimit, InFlight, LimitError, Policy, RefusalReason, Request, RetryError, Terms,
     Throttle,
 };
 use std::sync::atomic::{AtomicU64, Ordering};
@@ -26,7 +26,7 @@ fn refused(request: &mut Request) -> Option<RefusalReason> {
 // Of four tokens two are left after two failures, which is not more than half; a success gives half a token.
 #[test]
 fn grpc() {
-    let bucket = CallLimit::new(Bucket::grpc(4, 0.5)).unwrap();
+    let bucket = CallLimit::new(Bucket::grpc(4, 0.5).unwrap()).unwrap();
     let (mut request, mut other) = (admitted(&bucket), admitted(&bucket));
     request.failed();
     assert_eq!(refused(&mut request), None);
@@ -62,7 +62,7 @@ fn aws() {
 // A fifth of ten calls is two retries.
 #[test]
 fn envoy() {
-    let limit = CallLimit::new(InFlight::envoy(20.0, 1)).unwrap();
+    let limit = CallLimit::new(InFlight::envoy(20.0, 1).unwrap()).unwrap();
     let mut requests: Vec<Request> = (0..10).map(|_| admitted(&limit)).collect();
     assert_eq!(refused(&mut requests[0]), None);
     assert_eq!(refused(&mut requests[1]), None);
@@ -82,7 +82,7 @@ fn an_open_breaker_admits_no_call() {
         runs += 1;
         Err::<(), _>("down")
     });
-    assert_eq!(answer, Err(RetryError::BudgetRefused("down")));
+    assert_eq!(answer, Err(RetryError::LimitRefused("down")));
     assert_eq!(runs, 2);
     let answer = retry(&policy(r#"{"recurs":9}"#), &breaker, || Ok::<_, &str>(5));
     let refused = match answer {
@@ -95,12 +95,19 @@ fn an_open_breaker_admits_no_call() {
     assert_eq!(refused.to_string(), "the breaker is open");
 }
 
-// Its time is over at once: one probe is admitted, and when that succeeds it is closed.
+/// A breaker that one failure opens for a millisecond, which is over.
+fn half_open() -> CallLimit {
+    let for_a_moment = Breaker::consecutive(1, policy(r#"{"spaced":1}"#));
+    let breaker = CallLimit::new(Breaker { probe_deadline: Duration::from_secs(600), ..for_a_moment }).unwrap();
+    admitted(&breaker).failed();
+    thread::sleep(Duration::from_millis(2));
+    breaker
+}
+
+// One probe is admitted, and when that succeeds it is closed.
 #[test]
 fn a_probe_closes_the_breaker() {
-    let breaker = Breaker { probe_deadline: Duration::from_secs(60), ..Breaker::consecutive(1, policy("\"forever\"")) };
-    let breaker = CallLimit::new(breaker).unwrap();
-    admitted(&breaker).failed();
+    let breaker = half_open();
     let mut probe = admitted(&breaker);
     let mut other = breaker.request().unwrap();
     assert_eq!(other.admit().unwrap_err().reason(), Probing);
@@ -156,17 +163,18 @@ fn four_or_none() {
         assert_eq!(refused(&mut admitted(each)), None);
     }
     assert_eq!(limit.request().unwrap().admit().unwrap_err().reason(), BreakerOpen);
-    assert_eq!(both(&limit, &flights).unwrap_err(), BudgetError::TooManyLimits);
+    assert_eq!(both(&limit, &token()).unwrap_err(), LimitError::TooManyLimits);
 }
 
 // The engine draws of all at one cost. gRPC's costs nothing, so each retry would take five of its tokens.
 #[test]
 fn several_buckets_have_one_cost() {
     let limit = |bucket: Bucket| CallLimit::new(bucket).unwrap();
-    let (grpc, aws, flights) = (limit(Bucket::grpc(10, 0.1)), limit(Bucket::aws()), InFlight::envoy(20.0, 3));
-    assert_eq!(both(&grpc, &aws).unwrap_err(), BudgetError::CostsDiffer);
+    let (grpc, aws) = (limit(Bucket::grpc(10, 0.1).unwrap()), limit(Bucket::aws()));
+    let flights = InFlight::envoy(20.0, 3).unwrap();
+    assert_eq!(both(&grpc, &aws).unwrap_err(), LimitError::CostsDiffer);
     let joined = both(&CallLimit::new(flights).unwrap(), &aws).unwrap();
-    assert_eq!(both(&joined, &grpc).unwrap_err(), BudgetError::CostsDiffer);
+    assert_eq!(both(&joined, &grpc).unwrap_err(), LimitError::CostsDiffer);
     assert!(both(&joined, &limit(Bucket::aws())).is_ok());
 }
 
@@ -174,11 +182,58 @@ fn several_buckets_have_one_cost() {
 #[test]
 fn the_ratio_of_grpc_has_three_decimals() {
     for (ratio, credit) in [(0.5466, 0.546), (0.546, 0.546), (0.57, 0.57), (0.1, 0.1), (0.0019, 0.001), (1.0, 1.0)] {
-        assert_eq!(Bucket::grpc(10, ratio).credit, credit);
+        assert_eq!(Bucket::grpc(10, ratio).unwrap().credit, credit);
     }
-    for ratio in [-0.5, 0.0001, 11.0, f64::NAN, f64::INFINITY] {
-        let error = CallLimit::new(Bucket::grpc(10, ratio)).unwrap_err();
-        assert!(matches!(error, BudgetError::OutOfRange { parameter: "credit", .. }), "{ratio}: {error}");
+}
+
+// An error names the argument that was given, and what it may be.
+#[test]
+fn arguments_of_grpc_and_envoy_out_of_range() {
+    for ratio in [-0.5, 0.0004, 11.0, f64::NAN, f64::INFINITY] {
+        let error = Bucket::grpc(10, ratio).unwrap_err().to_string();
+        assert_eq!(error, "token_ratio: expected 0, or from 0.001 to max_tokens, got another", "{ratio}");
+    }
+    assert!([0.0, 0.001, 10.0].iter().all(|ratio| CallLimit::new(Bucket::grpc(10, *ratio).unwrap()).is_ok()));
+    for tokens in [0, 1_099_511_628] {
+        let error = Bucket::grpc(tokens, 0.1).unwrap_err().to_string();
+        assert_eq!(error, "max_tokens: expected 1 to 1099511627 tokens, got another", "{tokens}");
+    }
+    assert!([1, 1_099_511_627].iter().all(|tokens| CallLimit::new(Bucket::grpc(*tokens, 0.1).unwrap()).is_ok()));
+    // 20 per cent are a share of 0.2
+    for percent in [0.2, 0.99, -1.0, 100.1, f64::NAN] {
+        let error = InFlight::envoy(percent, 3).unwrap_err().to_string();
+        assert_eq!(error, "budget_percent: expected per cent, 0 or from 1 to 100, got another", "{percent}");
+    }
+    assert!([0.0, 1.0, 100.0].iter().all(|percent| CallLimit::new(InFlight::envoy(*percent, 3).unwrap()).is_ok()));
+}
+
+#[test]
+fn a_limit_is_not_joined_with_itself() {
+    let limits: Vec<CallLimit> = (0..3).map(|_| CallLimit::new(Bucket::aws()).unwrap()).collect();
+    let joined = both(&limits[0], &limits[1]).unwrap();
+    for (first, second) in
+        [(&limits[0], &limits[0]), (&joined, &limits[1].clone()), (&limits[0], &joined), (&joined, &joined)]
+    {
+        let error = both(first, second).unwrap_err();
+        assert_eq!(error, LimitError::SameLimit);
+        assert_eq!(error.to_string(), "expected limits that differ, got one of them twice");
+    }
+    // others of the same terms are other limits
+    assert!(both(&joined, &limits[2]).is_ok());
+}
+
+// Open times are the waits for random words 0, of which full jitter makes none.
+#[test]
+fn a_breaker_that_would_never_open_is_refused() {
+    let expected =
+        "open_for: expected a policy with an open time above 0: open times are its waits for the least random \
+                    numbers, and full jitter makes these 0; write no jitter, or jittered(0.5..1.0)";
+    for never in [r#"{"jitter":[0,0,1000,{"spaced":30000}]}"#, "\"forever\"", r#"{"recurs":3}"#] {
+        is_refused(Breaker::consecutive(5, policy(never)), expected);
+    }
+    // one that opens at some time is taken
+    for opens in [r#"{"jitter":[0,500,1000,{"spaced":30000}]}"#, r#"{"follow":[{"recurs":2},{"spaced":1}]}"#] {
+        assert!(CallLimit::new(Breaker::consecutive(5, policy(opens))).is_ok(), "{opens}");
     }
 }
 
@@ -217,7 +272,7 @@ async fn futures_are_asked_too() {
         let run = runs;
         async move { Err::<(), _>(run) }
     });
-    assert_eq!(answer.await, Err(RetryError::BudgetRefused(2)));
+    assert_eq!(answer.await, Err(RetryError::LimitRefused(2)));
 }
 
 /// How many draws are granted, where each of eight threads makes so many calls, and each draws once.
@@ -248,7 +303,7 @@ fn eight_threads_draw_each_token_once() {
 fn eight_threads_draw_each_token_of_three_limits_once() {
     let bucket = CallLimit::new(Bucket { capacity: 50_000.0, cost: 1.0, ..Bucket::default() }).unwrap();
     let flights = CallLimit::new(InFlight { least: 8, share: 1.0 }).unwrap();
-    let breaker = CallLimit::new(Breaker::consecutive(1, policy("\"forever\""))).unwrap();
+    let breaker = CallLimit::new(Breaker::consecutive(1, policy(r#"{"spaced":1}"#))).unwrap();
     assert_eq!(race(&both(&both(&bucket, &flights).unwrap(), &breaker).unwrap(), 10_000), 50_000);
 }
 
@@ -264,10 +319,7 @@ fn eight_threads_give_each_slot_back() {
 
 #[test]
 fn eight_threads_get_no_probe_more() {
-    let breaker =
-        Breaker { probe_deadline: Duration::from_secs(600), ..Breaker::consecutive(1, policy("\"forever\"")) };
-    let breaker = CallLimit::new(breaker).unwrap();
-    admitted(&breaker).failed();
+    let breaker = half_open();
     let _probe = admitted(&breaker);
     assert_eq!(race(&breaker, 1000), 0);
 }
@@ -295,7 +347,7 @@ fn terms_out_of_range() {
     is_refused(Bucket { capacity: 1_099_511_627.777, ..Bucket::default() }, capacity);
     is_refused(Bucket { cost: f64::NAN, ..Bucket::aws() }, &of_capacity("cost"));
     is_refused(Bucket { debit: 500.001, ..Bucket::aws() }, &of_capacity("debit"));
-    is_refused(Bucket::grpc(1, 1.5), &of_capacity("credit"));
+    is_refused(Bucket { credit: 501.0, ..Bucket::aws() }, &of_capacity("credit"));
     is_refused(Bucket { capacity: 4.0, ..Bucket::aws() }, &of_capacity("cost")); // a retry takes five tokens
     is_refused(InFlight { least: 0, share: 1.5 }, "share: expected 0, or from 0.001 to 1");
     is_refused(InFlight { least: 0, share: 1.0001 }, "share: expected 0, or from 0.001 to 1");
@@ -312,7 +364,7 @@ fn terms_out_of_range() {
     is_refused(still, "period: expected at least a millisecond");
     assert!(CallLimit::new(Bucket { capacity: 1_099_511_627.776, ..Bucket::default() }).is_ok());
     assert!(CallLimit::new(Throttle { ratio: 4_294_967.295, period: Duration::MAX }).is_ok());
-    let breaker = Breaker { probes: 15, ..Breaker::consecutive(u32::MAX, policy("\"forever\"")) };
+    let breaker = Breaker { probes: 15, ..Breaker::consecutive(u32::MAX, policy(r#"{"spaced":1}"#)) };
     assert!(CallLimit::new(Breaker { probe_deadline: Duration::MAX, ..breaker }).is_ok());
 }
 
@@ -320,15 +372,11 @@ fn terms_out_of_range() {
 #[test]
 fn terms_between_zero_and_a_thousandth() {
     let out = |terms: Terms| {
-        assert!(matches!(CallLimit::new(terms).unwrap_err(), BudgetError::OutOfRange { .. }));
+        assert!(matches!(CallLimit::new(terms).unwrap_err(), LimitError::OutOfRange { .. }));
     };
-    out(Bucket::grpc(10, 0.0004).into());
     out(Bucket { cost: 0.0004, ..Bucket::aws() }.into());
     out(Bucket { debit: 0.0004, ..Bucket::aws() }.into());
     out(InFlight { least: 0, share: 0.0004 }.into());
-    out(InFlight::envoy(0.04, 3).into());
-    for terms in [Bucket::grpc(10, 0.001), Bucket::grpc(10, 0.0), Bucket { cost: 0.001, ..Bucket::aws() }] {
-        assert!(CallLimit::new(terms).is_ok());
-    }
+    assert!(CallLimit::new(Bucket { cost: 0.001, ..Bucket::aws() }).is_ok());
     assert!(CallLimit::new(InFlight { least: 0, share: 0.001 }).is_ok());
 }

@@ -4,7 +4,7 @@ mod common;
 
 use common::ticket;
 use hikebox::{
-    retry, Budget, BudgetError, Ending, Grants, Machine, Policy, Quota, QuotaPass, Report, RetryError, Retrying, Step,
+    retry, Budget, Ending, Grants, LimitError, Machine, Policy, Quota, QuotaPass, Report, RetryError, Retrying, Step,
     Unlimited, Usage,
 };
 use std::cell::Cell;
@@ -109,16 +109,16 @@ fn windows_go_by_the_systems_clock() {
 fn terms_out_of_their_ranges_are_refused() {
     let refused = |reserve, share, per| Quota::new(reserve, share, per).unwrap_err();
     let second = Duration::from_secs(1);
-    assert_eq!(refused(4_294_967_297, 0.0, second), BudgetError::ReserveTooLarge);
+    assert_eq!(refused(4_294_967_297, 0.0, second), LimitError::ReserveTooLarge);
     for share in [-0.1, 10.1, 20.0, f64::NAN, f64::INFINITY, f64::NEG_INFINITY, 0.0004, -0.0001] {
-        assert_eq!(refused(0, share, second), BudgetError::ShareOutOfRange, "{share}");
+        assert_eq!(refused(0, share, second), LimitError::ShareOutOfRange, "{share}");
     }
-    assert_eq!(refused(0, 0.0, Duration::ZERO), BudgetError::PeriodTooShort);
-    assert_eq!(refused(0, 0.0, Duration::from_micros(99_999)), BudgetError::PeriodTooShort);
-    assert_eq!(refused(0, 0.0, Duration::from_millis(1 << 62)), BudgetError::PeriodTooLong);
-    assert_eq!(refused(0, 0.0, Duration::MAX), BudgetError::PeriodTooLong);
+    assert_eq!(refused(0, 0.0, Duration::ZERO), LimitError::PeriodTooShort);
+    assert_eq!(refused(0, 0.0, Duration::from_micros(99_999)), LimitError::PeriodTooShort);
+    assert_eq!(refused(0, 0.0, Duration::from_millis(1 << 62)), LimitError::PeriodTooLong);
+    assert_eq!(refused(0, 0.0, Duration::MAX), LimitError::PeriodTooLong);
     assert_eq!(
-        BudgetError::PeriodTooShort.to_string(),
+        LimitError::PeriodTooShort.to_string(),
         "expected a window of at least 100 milliseconds, got a shorter one"
     );
     assert!(Quota::new(4_294_967_296, 10.0, Duration::from_millis((1 << 62) - 1)).is_ok());
@@ -148,8 +148,8 @@ fn a_retry_draws_at_the_moment_of_the_failure() {
     let json = r#"{"meet":[{"recurs":3},{"exponential":[400,2]}]}"#;
     assert_eq!(all_lost(json, &quota, 5500), (Ending::ScheduleDone, vec![5500, 5900, 6700, 8300], 3));
     assert_eq!(told(quota.seen_at(at(6999))), [6, 0, 1, 1]);
-    assert_eq!(all_lost("\"forever\"", &quota, 6900), (Ending::BudgetRefused, vec![6900, 6900], 1));
-    assert_eq!(all_lost("\"forever\"", &quota, 8300), (Ending::BudgetRefused, vec![8300; 3], 2));
+    assert_eq!(all_lost("\"forever\"", &quota, 6900), (Ending::LimitRefused, vec![6900, 6900], 1));
+    assert_eq!(all_lost("\"forever\"", &quota, 8300), (Ending::LimitRefused, vec![8300; 3], 2));
     assert_eq!(quota.close().unwrap(), 6);
 }
 
@@ -171,9 +171,9 @@ fn a_retry_on_nothing_ends_by_its_schedule() {
 #[test]
 fn a_retry_draws_of_a_rising_budget() {
     let budget = Budget::rising(2).unwrap();
-    assert_eq!(all_lost("\"forever\"", &budget, 0), (Ending::BudgetRefused, vec![0; 3], 2));
+    assert_eq!(all_lost("\"forever\"", &budget, 0), (Ending::LimitRefused, vec![0; 3], 2));
     assert_eq!(budget.raise(3), Ok(3));
-    assert_eq!(all_lost("\"forever\"", &budget, 0), (Ending::BudgetRefused, vec![0; 2], 1));
+    assert_eq!(all_lost("\"forever\"", &budget, 0), (Ending::LimitRefused, vec![0; 2], 1));
     assert_eq!(budget.close().unwrap(), 3);
 }
 
@@ -183,7 +183,7 @@ fn each_call_is_a_request_and_its_retries_draw() {
     let fails = || retry(&policy, &quota, || Err::<(), _>("no"));
     // three calls are three requests: 1, 2 and 2 tickets in all
     for granted in [1, 2, 2] {
-        assert_eq!(fails(), Err(RetryError::BudgetRefused("no")));
+        assert_eq!(fails(), Err(RetryError::LimitRefused("no")));
         assert_eq!(quota.granted(), granted);
     }
     assert_eq!(Retrying::new(&policy, &quota).call(|| Ok::<_, ()>(5)), Ok(5));
@@ -202,7 +202,7 @@ fn a_refused_call_is_served_in_the_next_window() {
         assert!(began.elapsed() < Duration::from_secs(60), "{granted} granted, {refused} refused");
         match fails() {
             Err(RetryError::ScheduleDone(())) => granted += 1,
-            Err(RetryError::BudgetRefused(())) => refused += 1,
+            Err(RetryError::LimitRefused(())) => refused += 1,
             other => panic!("{other:?}"),
         }
         thread::sleep(Duration::from_millis(5));
@@ -483,7 +483,7 @@ fn a_retry_draws_what_is_carried() {
             .clock(|| now.get())
             .sleep(|time| now.set(now.get() + time))
             .call(|| Err::<(), _>("no"));
-        assert_eq!(ended, Err(RetryError::BudgetRefused("no")));
+        assert_eq!(ended, Err(RetryError::LimitRefused("no")));
         assert_eq!(quota.close().unwrap(), granted);
     }
 }
@@ -495,6 +495,6 @@ fn a_host_carries_by_its_own_clock() {
     quota.deposit_of_at(millis(99), 4);
     let mut pass = quota.pass().unwrap();
     assert_eq!([0; 3].map(|_| ticket(pass.draw_at(millis(100)))), [Some(WINDOW - 2), Some(WINDOW - 1), None]);
-    assert_eq!(Quota::carrying(0, 20.0, at(100)).unwrap_err(), BudgetError::ShareOutOfRange);
-    assert_eq!(Quota::carrying_of_host(millis(0), 0, 0.0, at(99)).unwrap_err(), BudgetError::PeriodTooShort);
+    assert_eq!(Quota::carrying(0, 20.0, at(100)).unwrap_err(), LimitError::ShareOutOfRange);
+    assert_eq!(Quota::carrying_of_host(millis(0), 0, 0.0, at(99)).unwrap_err(), LimitError::PeriodTooShort);
 }

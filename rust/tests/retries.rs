@@ -36,9 +36,9 @@ fn scripted_retries_end_as_a_pool_of_jobs_says() {
     use Report::{Lost, Won};
     assert_eq!(scripted(r#"{"recurs":5}"#, 100, &[Lost(7), Lost(7), Won(1)]), (Ending::Won, 3, 2));
     assert_eq!(scripted(r#"{"recurs":1}"#, 100, &[Lost(7), Lost(8)]), (Ending::ScheduleDone, 2, 1));
-    assert_eq!(scripted(r#"{"recurs":5}"#, 1, &[Lost(7), Lost(8)]), (Ending::BudgetRefused, 2, 1));
-    assert_eq!(scripted(r#"{"recurs":3}"#, 0, &[Lost(7)]), (Ending::BudgetRefused, 1, 0));
-    assert_eq!(scripted(r#""forever""#, 10_000, &[Lost(7)]), (Ending::BudgetRefused, 10_001, 10_000));
+    assert_eq!(scripted(r#"{"recurs":5}"#, 1, &[Lost(7), Lost(8)]), (Ending::LimitRefused, 2, 1));
+    assert_eq!(scripted(r#"{"recurs":3}"#, 0, &[Lost(7)]), (Ending::LimitRefused, 1, 0));
+    assert_eq!(scripted(r#""forever""#, 10_000, &[Lost(7)]), (Ending::LimitRefused, 10_001, 10_000));
 }
 
 #[test]
@@ -191,7 +191,7 @@ fn settings_are_cloned_shown_and_called_as_often_as_one_likes() {
     assert_eq!((heard.get(), budget.granted()), (3, 3));
     drop(other);
     let shown =
-        r#"Retrying { policy: Policy({"recurs":1}), budget: Budget { granted: 3, .. }, max_retry_after: 21600s, "#;
+        r#"Retrying { policy: Policy({"recurs":1}), limit: Budget { granted: 3, .. }, max_retry_after: 21600s, "#;
     assert!(format!("{retrying:?}").starts_with(shown));
 }
 
@@ -205,7 +205,7 @@ fn a_call_is_retried_by_a_method_of_its_own() {
         Err::<(), _>(io::Error::from(kinds[tries - 1]))
     };
     // no type is named in `when`
-    let result = (&mut call).retry(&policy).budget(&budget).when(|error| error.kind() == io::ErrorKind::TimedOut).run();
+    let result = (&mut call).retry(&policy).limit(&budget).when(|error| error.kind() == io::ErrorKind::TimedOut).run();
     assert!(matches!(result, Err(RetryError::NotRetried(error)) if error.kind() == io::ErrorKind::NotFound));
     assert_eq!((tries, budget.granted()), (3, 2));
 
@@ -264,7 +264,7 @@ impl Tickets for Store {
 fn a_store_of_ones_own_grants_each_retry() {
     let (two, store) = (policy(r#"{"recurs":2}"#), Store::of(3, false));
     assert_eq!(retry(&two, &store, || Err::<(), _>("no")), Err(RetryError::ScheduleDone("no")));
-    assert_eq!(retry(&two, &store, || Err::<(), _>("no")), Err(RetryError::BudgetRefused("no")));
+    assert_eq!(retry(&two, &store, || Err::<(), _>("no")), Err(RetryError::LimitRefused("no")));
     assert_eq!(retry(&two, &store, || Ok::<_, ()>(5)), Ok(5));
     assert_eq!((store.asked.load(Ordering::SeqCst), store.left.load(Ordering::SeqCst)), (3, -1));
 
@@ -284,7 +284,7 @@ fn a_store_behind_a_trait_object_grants_each_retry() {
     let mut machine = Machine::new(&two, &chosen).unwrap();
     assert_eq!(machine.step(Duration::ZERO, None), Step::Run);
     assert_eq!(machine.step(Duration::ZERO, Some(Report::Lost(0))), Step::Run);
-    assert_eq!(machine.step(Duration::ZERO, Some(Report::Lost(0))), Step::Over(Ending::BudgetRefused));
+    assert_eq!(machine.step(Duration::ZERO, Some(Report::Lost(0))), Step::Over(Ending::LimitRefused));
     assert_eq!((store.asked.load(Ordering::SeqCst), store.left.load(Ordering::SeqCst)), (2, -1));
 }
 
@@ -300,7 +300,7 @@ fn a_machine_counts_the_tickets_of_a_store_and_not_the_retries_that_were_refused
     assert_eq!(machine.step(at(10), Some(Report::Lost(1))), Step::Wait(at(20)));
     assert_eq!(machine.step(at(20), None), Step::Run);
     for _ in 0..2 {
-        assert_eq!(machine.step(at(20), Some(Report::Lost(1))), Step::Over(Ending::BudgetRefused));
+        assert_eq!(machine.step(at(20), Some(Report::Lost(1))), Step::Over(Ending::LimitRefused));
         assert_eq!((machine.granted(), machine.runs()), (2, 3));
     }
     assert!(machine.store_failure().is_none());
@@ -324,7 +324,7 @@ fn the_last_error_is_kept() {
     let budget = Budget::new(0).unwrap();
     let away = || Err::<(), _>(io::Error::new(io::ErrorKind::Other, "away"));
     let error = retry(&policy(r#"{"recurs":5}"#), &budget, away).unwrap_err();
-    assert_eq!(error.to_string(), "away (the budget refused a retry)");
+    assert_eq!(error.to_string(), "away (the limit refused a retry)");
     assert!(error.source().is_none());
     assert_eq!(error.into_last().kind(), io::ErrorKind::Other);
 }
@@ -355,7 +355,7 @@ fn a_budget_bounds_the_retries_past_its_passes_too() {
         assert_eq!(retry(&policy, &budget, || Err::<(), _>(())), Err(RetryError::ScheduleDone(())));
     }
     for _ in 0..10 {
-        assert_eq!(retry(&policy, &budget, || Err::<(), _>(())), Err(RetryError::BudgetRefused(())));
+        assert_eq!(retry(&policy, &budget, || Err::<(), _>(())), Err(RetryError::LimitRefused(())));
     }
     assert_eq!(retry(&policy, &budget, || Ok::<_, ()>(1)), Ok(1));
     assert_eq!(budget.close().unwrap(), 70_000);
@@ -429,7 +429,7 @@ fn sixteen_threads_never_pass_the_budget() {
                     }
                 });
                 if result.is_err() {
-                    assert_eq!(result, Err(RetryError::BudgetRefused(())));
+                    assert_eq!(result, Err(RetryError::LimitRefused(())));
                     break;
                 }
             });
@@ -495,7 +495,7 @@ fn values_are_compared_and_are_keys() {
     keys::<Step>();
     keys::<Unlimited>();
     keys::<hikebox::Attempt>();
-    keys::<hikebox::BudgetError>();
+    keys::<hikebox::LimitError>();
     keys::<hikebox::Fold>();
     keys::<hikebox::Line>();
     keys::<hikebox::PolicyError>();

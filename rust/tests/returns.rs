@@ -4,7 +4,7 @@ mod common;
 
 use common::ticket;
 use hikebox::{
-    retry, Budget, BudgetError, Ending, Machine, NoTicket, Policy, Quota, Report, RetryError, Retrying, Step, Ticket,
+    retry, Budget, Ending, LimitError, Machine, NoTicket, Policy, Quota, Report, RetryError, Retrying, Step, Ticket,
     Tickets, Unlimited, Usage,
 };
 use std::cell::Cell;
@@ -82,8 +82,8 @@ fn terms_are_set_while_a_quota_is_used() {
     assert_eq!(quota.clone().set_terms(1, 0.5), Ok(()));
     // one, and a half of ten, of which three were given
     assert_eq!(told(quota.seen()), [10, 3, 3]);
-    assert_eq!(quota.set_terms(4_294_967_297, 0.0), Err(BudgetError::ReserveTooLarge));
-    assert_eq!(quota.set_terms(9, 20.0), Err(BudgetError::ShareOutOfRange));
+    assert_eq!(quota.set_terms(4_294_967_297, 0.0), Err(LimitError::ReserveTooLarge));
+    assert_eq!(quota.set_terms(9, 20.0), Err(LimitError::ShareOutOfRange));
     assert_eq!(told(quota.seen()), [10, 3, 3]);
     // what was given stays given
     assert_eq!(quota.set_terms(0, 0.0), Ok(()));
@@ -148,8 +148,8 @@ fn a_draw_says_how_long_it_is_until_there_may_be_a_ticket() {
 fn calls_count_where_they_succeed() {
     let (policy, quota) = (policy(r#"{"recurs":3}"#), quota(1, 1.0).counting_successes());
     // a dead callee has the reserve alone
-    assert_eq!(retry(&policy, &quota, || Err::<(), _>("gone")), Err(RetryError::BudgetRefused("gone")));
-    assert_eq!(retry(&policy, &quota, || Err::<(), _>("gone")), Err(RetryError::BudgetRefused("gone")));
+    assert_eq!(retry(&policy, &quota, || Err::<(), _>("gone")), Err(RetryError::LimitRefused("gone")));
+    assert_eq!(retry(&policy, &quota, || Err::<(), _>("gone")), Err(RetryError::LimitRefused("gone")));
     assert_eq!(told(quota.seen()), [0, 1, 0]);
     let never = Retrying::new(&policy, &quota).when(|_| false).call(|| Err::<(), _>("no"));
     assert_eq!((never, quota.seen().asked), (Err(RetryError::NotRetried("no")), 0));
@@ -188,7 +188,7 @@ fn a_success_after_retries_hands_the_last_ticket_back() {
     // a call that fails for good keeps what it took, and so does one by a clone without the option
     assert_eq!(retry(&policy, &plain, fails(1)), Ok(1));
     assert_eq!((quota.granted(), quota.seen().left), (2, 1));
-    assert_eq!(retry(&policy, &quota, fails(9)), Err(RetryError::BudgetRefused("busy")));
+    assert_eq!(retry(&policy, &quota, fails(9)), Err(RetryError::LimitRefused("busy")));
     assert_eq!((quota.granted(), quota.seen().left), (3, 0));
     drop(plain);
     assert_eq!(quota.close().unwrap(), 3);
@@ -333,11 +333,11 @@ fn a_store_hears_of_successes_and_of_tickets_that_come_back() {
     assert_eq!(machine.step(at(0), Some(Report::Lost(0))), Step::Wait(at(1)));
     drop(machine);
     assert_eq!(store.told(), ["draws Some(2)", "back 2"]);
-    assert_eq!(retry(&policy, &store, || Err::<(), _>("gone")), Err(RetryError::BudgetRefused("gone")));
+    assert_eq!(retry(&policy, &store, || Err::<(), _>("gone")), Err(RetryError::LimitRefused("gone")));
     assert_eq!(store.told(), ["asked", "draws Some(1)", "draws Some(0)", "draws None"]);
     let mut machine = Machine::new(&policy, &store).unwrap();
     assert_eq!(machine.step(at(0), None), Step::Run);
-    assert_eq!(machine.step(at(0), Some(Report::Lost(0))), Step::Over(Ending::BudgetRefused));
+    assert_eq!(machine.step(at(0), Some(Report::Lost(0))), Step::Over(Ending::LimitRefused));
     drop(machine);
     assert_eq!(store.told(), ["draws None"]);
 }
@@ -350,9 +350,9 @@ fn whatever_retries_takes_whatever_grants() {
     fn granted(grants: &(impl Grants<Refusal = std::convert::Infallible> + Clone)) -> u64 {
         let policy = policy(r#"{"recurs":5}"#);
         assert_eq!(retry(&policy, grants, fails(2)), Ok(2));
-        assert_eq!(Retrying::new(&policy, &Unlimited).budget(grants).call(fails(2)), Ok(2));
+        assert_eq!(Retrying::new(&policy, &Unlimited).limit(grants).call(fails(2)), Ok(2));
         #[cfg(feature = "tower")]
-        let _: hikebox::RetryPolicy<(), (), ()> = hikebox::RetryPolicy::new(policy.clone(), grants.clone());
+        let _: hikebox::RetryLayer<(), (), ()> = hikebox::RetryLayer::new(policy.clone(), grants.clone());
         let mut machine = Machine::new(&policy, grants).unwrap();
         let _ = [None, Some(Report::Lost(0)), Some(Report::Lost(0))].map(|report| machine.step(at(0), report));
         machine.granted()
@@ -379,12 +379,12 @@ fn whatever_retries_takes_whatever_grants() {
 #[cfg(feature = "tower")]
 mod of_futures {
     use super::{fails, policy, told};
-    use hikebox::{retry_async, Quota, RetryPolicy, Retrying};
+    use hikebox::{retry_async, Quota, RetryLayer, Retrying};
     use std::future::ready;
     use std::sync::{Arc, Mutex};
     use std::time::Duration;
     use tokio::time::{timeout, Instant};
-    use tower::{retry::RetryLayer, service_fn, Service, ServiceBuilder, ServiceExt};
+    use tower::{service_fn, Service, ServiceBuilder, ServiceExt};
 
     fn quota(reserve: u64, share: f64) -> Quota {
         Quota::new_at(Instant::now().into_std(), reserve, share, Duration::from_secs(3600)).unwrap()
@@ -417,10 +417,8 @@ mod of_futures {
     #[tokio::test(start_paused = true)]
     async fn requests_of_tower_count_where_they_succeed_and_hand_tickets_back() {
         let quota = quota(2, 1.0).counting_successes().returning_tickets();
-        let layer = RetryLayer::new(
-            RetryPolicy::new(policy(r#"{"meet":[{"recurs":3},{"spaced":10}]}"#), quota.clone())
-                .failed(|answer: &u32| *answer == 503),
-        );
+        let layer = RetryLayer::new(policy(r#"{"meet":[{"recurs":3},{"spaced":10}]}"#), quota.clone())
+            .failed(|answer: &u32| *answer == 503);
         let call = Arc::new(Mutex::new(fails(0)));
         let answers = call.clone();
         let mut service = ServiceBuilder::new().layer(layer).service(service_fn(move |request: u32| {
@@ -444,7 +442,7 @@ mod of_futures {
     #[tokio::test(start_paused = true)]
     async fn a_request_of_tower_that_is_dropped_while_it_waits_hands_its_ticket_back() {
         let quota = quota(9, 0.0);
-        let layer = RetryLayer::new(RetryPolicy::new(policy(r#"{"spaced":100}"#), quota.clone()));
+        let layer = RetryLayer::new(policy(r#"{"spaced":100}"#), quota.clone());
         let mut service = ServiceBuilder::new().layer(layer).service(service_fn(|()| ready(Err::<(), _>("busy"))));
         let call = service.ready().await.unwrap().call(());
         assert!(timeout(Duration::from_millis(250), call).await.is_err());

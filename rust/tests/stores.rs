@@ -6,7 +6,7 @@
 mod common;
 
 use common::{comes_to, counts, is_locked, is_open, keeper_of, number, number_in_the_end, Scratch};
-use hikebox::{BudgetError, Leased, LeasedQuota, StoreError};
+use hikebox::{Leased, LeasedQuota, LimitError, StoreError};
 use std::env;
 use std::error::Error;
 use std::fs;
@@ -56,8 +56,13 @@ fn crc32(bytes: &[u8]) -> u32 {
     })
 }
 
-/// A copy of a slot.
-fn copy(key: &str, boot: &str, [turn, window, given, asked]: [u64; 4]) -> Vec<u8> {
+/// A copy of a slot, in a file of the number 0.
+fn copy(key: &str, boot: &str, counts: [u64; 4]) -> Vec<u8> {
+    copy_in(&[0; 4], key, boot, counts)
+}
+
+/// A copy of a slot, in a file of this number.
+fn copy_in(number: &[u8], key: &str, boot: &str, [turn, window, given, asked]: [u64; 4]) -> Vec<u8> {
     let mut bytes = b"hikebox slot 1\n\0".to_vec();
     [turn, window, given, asked].iter().for_each(|number| bytes.extend(number.to_le_bytes()));
     bytes.extend(boot.as_bytes());
@@ -65,7 +70,8 @@ fn copy(key: &str, boot: &str, [turn, window, given, asked]: [u64; 4]) -> Vec<u8
     bytes.extend((key.len() as u16).to_le_bytes());
     bytes.extend([0, 0]);
     bytes.extend(key.as_bytes());
-    bytes.resize(508, 0);
+    bytes.resize(504, 0);
+    bytes.extend(number);
     let check = crc32(&bytes);
     bytes.extend(check.to_le_bytes());
     bytes
@@ -116,15 +122,18 @@ fn a_slot_is_as_the_pages_say() {
     let folder = Scratch::new("bytes");
     assert_eq!(number(budget(&folder.0, 9).draw()), Some(0));
     assert_eq!(number(budget(&folder.0, 9).draw()), Some(1));
-    let twice = |copy: Vec<u8>| copy.repeat(2);
-    assert_eq!(fs::read(folder.slot("budget b")).unwrap(), twice(copy("budget b", "", [2, 0, 2, 0])));
+    // each file has a number of its own
+    let slot = fs::read(folder.slot("budget b")).unwrap();
+    assert_eq!(slot, copy_in(&slot[504..508], "budget b", "", [2, 0, 2, 0]).repeat(2));
+    let _ = Leased::new(&folder.0, "c", 1).unwrap().draw();
+    assert_ne!(slot[504..508], fs::read(folder.slot("budget c")).unwrap()[504..508]);
 
     let quota = long_quota(&folder.0, 3, 0.5);
     quota.deposit_of(4);
     assert_eq!(number(quota.draw()), Some(0));
     let window = quota.seen().unwrap().window;
-    let bytes = fs::read(folder.slot(LONG_QUOTA)).unwrap();
-    assert_eq!(bytes, twice(copy(LONG_QUOTA, &boot(), [1, window, 1, 4])));
+    let slot = fs::read(folder.slot(LONG_QUOTA)).unwrap();
+    assert_eq!(slot, copy_in(&slot[504..508], LONG_QUOTA, &boot(), [1, window, 1, 4]).repeat(2));
 }
 
 #[test]
@@ -162,8 +171,10 @@ fn a_slot_of_another_window_counts_as_it_should() {
     assert_eq!(number(long_quota(&folder.0, 5, 0.2).draw()), Some(0));
     // a later one of this start has lost the present one's count
     put(&boot(), window + 1);
-    assert_store_fails!(long_quota(&folder.0, 5, 0.2).draw(), StoreError::Lost);
-    assert!(matches!(long_quota(&folder.0, 5, 0.2).seen(), Err(StoreError::Lost)));
+    assert_store_fails!(long_quota(&folder.0, 5, 0.2).draw(), StoreError::Lost(_));
+    let lost = long_quota(&folder.0, 5, 0.2).seen().unwrap_err();
+    assert!(matches!(&lost, StoreError::Lost(path) if *path == folder.slot(LONG_QUOTA)));
+    assert!(lost.to_string().starts_with(&*folder.slot(LONG_QUOTA).to_string_lossy()), "{lost}");
 }
 
 #[test]
@@ -195,6 +206,54 @@ fn a_turn_that_is_the_last_one_grants_nothing() {
     assert_store_fails!(budget(&folder.0, 9).draw(), StoreError::Damaged(_));
 }
 
+/// Puts a copy of a slot in its place, as where a folder is put back.
+fn put_back(folder: &Scratch, key: &str, copy: &[u8]) {
+    fs::remove_file(folder.slot(key)).unwrap();
+    folder.put(key, copy);
+}
+
+#[test]
+fn an_older_copy_of_a_file_grants_nothing_to_who_has_seen_more() {
+    let (folder, key) = (Scratch::new("older"), "budget b");
+    let (first, other) = (budget(&folder.0, 99), budget(&folder.0, 99));
+    assert_eq!([number(first.draw()), number(first.draw())], [Some(0), Some(1)]);
+    let copy = fs::read(folder.slot(key)).unwrap();
+    assert_eq!([number(other.draw()), number(first.draw())], [Some(2), Some(3)]);
+    put_back(&folder, key, &copy);
+    for _ in 0..2 {
+        let failed = first.draw().unwrap_err().to_string();
+        let why = "expected a count of 4 or more, got 2 of an older copy; to begin anew, delete the file";
+        assert_eq!(failed, format!("the store of tickets failed: {}: {why}", folder.slot(key).display()));
+        assert_eq!(fs::read(folder.slot(key)).unwrap(), copy);
+    }
+    assert_store_fails!(other.draw(), StoreError::Older { seen: 3, counted: 2, .. });
+    // who has seen no more can't tell; and nobody leases a number again below those that it has seen leased
+    let third = budget(&folder.0, 99);
+    assert_eq!([number(third.draw()), number(third.draw()), number(third.draw())], [Some(2), Some(3), Some(4)]);
+    assert_eq!(number(first.draw()), Some(5));
+    // a file that is made anew begins anew
+    fs::remove_file(folder.slot(key)).unwrap();
+    assert_eq!([number(other.draw()), number(first.draw())], [Some(0), Some(1)]);
+}
+
+#[test]
+fn an_older_copy_of_a_window_grants_nothing_of_it() {
+    let (folder, other) = (Scratch::new("older-window"), Scratch::new("window-of-older"));
+    let window = long_quota(&other.0, 1, 0.0).seen().unwrap().window;
+    let other_boot = "00000000-0000-0000-0000-000000000000";
+    let put = |boot: &str, given| folder.put(LONG_QUOTA, &copy(LONG_QUOTA, boot, [3, window, given, 0]).repeat(2));
+    let quota = long_quota(&folder.0, 9, 0.0);
+    put(&boot(), 4);
+    assert_eq!(number(quota.draw()), Some(4));
+    put(&boot(), 4);
+    assert_store_fails!(quota.draw(), StoreError::Older { seen: 5, counted: 4, .. });
+    // one of a window of before
+    put(other_boot, 8);
+    assert_store_fails!(quota.draw(), StoreError::Older { seen: 5, counted: 0, .. });
+    put(&boot(), 5);
+    assert_eq!(number(quota.draw()), Some(5));
+}
+
 /// Each attack on a file grants nothing, tells the file, leaves it as it is, and harms no other name.
 #[test]
 fn a_file_that_is_no_slot_of_the_name_grants_nothing() {
@@ -215,7 +274,7 @@ fn a_file_that_is_no_slot_of_the_name_grants_nothing() {
     }
     fs::remove_file(folder.slot(key)).unwrap();
     fs::create_dir(folder.slot(key)).unwrap();
-    assert_store_fails!(budget(&folder.0, 9).draw(), StoreError::Io(_));
+    assert_store_fails!(budget(&folder.0, 9).draw(), StoreError::Io(..));
     fs::remove_dir(folder.slot(key)).unwrap();
     for other in ["/dev/zero", "/no such file"] {
         symlink(other, folder.slot(key)).unwrap();
@@ -242,14 +301,15 @@ fn a_file_of_the_old_form_is_refused_with_what_to_do() {
 
 #[test]
 fn a_place_where_no_folder_can_be_grants_nothing() {
-    assert_store_fails!(budget("/proc/no/folder", 10).draw(), StoreError::Io(_));
+    assert_store_fails!(budget("/proc/no/folder", 10).draw(), StoreError::Io(..));
     let error = long_quota("/proc/no/folder", 9, 1.0).seen().unwrap_err();
-    assert!(matches!(error, StoreError::Io(_)));
+    assert!(matches!(error, StoreError::Io(..)));
     // its cause is in its text, so those who print an error with its sources tell that once
     assert!(error.to_string().contains("No such file or directory") && error.source().is_none());
-    assert_store_fails!(budget("", 10).draw(), StoreError::Io(_));
+    assert!(error.to_string().starts_with("/proc/no/folder/"), "{error}");
+    assert_store_fails!(budget("", 10).draw(), StoreError::Io(..));
     let empty = long_quota("", 9, 1.0).seen().unwrap_err().to_string();
-    assert_eq!(empty, "the slot of counts: expected the path of a folder, got an empty one");
+    assert_eq!(empty, "expected the path of a folder, got an empty one");
 }
 
 #[test]
@@ -257,9 +317,9 @@ fn a_name_has_1_to_255_bytes() {
     let folder = Scratch::new("names");
     let refused = |name: &str| Leased::new(&folder.0, name, 9).unwrap_err();
     assert_eq!(refused("").to_string(), "expected a name of 1 to 255 bytes, got 0");
-    assert_eq!(refused(&"é".repeat(128)), BudgetError::NameLength { bytes: 256 });
+    assert_eq!(refused(&"é".repeat(128)), LimitError::NameLength { bytes: 256 });
     let of_quota = LeasedQuota::new(&folder.0, "", 9, 0.0, Duration::from_secs(1)).unwrap_err();
-    assert_eq!(of_quota, BudgetError::NameLength { bytes: 0 });
+    assert_eq!(of_quota, LimitError::NameLength { bytes: 0 });
     for name in ["x".repeat(255), "é".repeat(127), "a/../b\n\0".to_owned(), " ".to_owned()] {
         let budget = Leased::new(&folder.0, name.as_str(), 9).unwrap();
         assert_eq!(number(budget.draw()), Some(0), "{name:?}");
@@ -302,20 +362,26 @@ fn process_that_changes_its_directory() {
     }
 }
 
+/// Another thread takes the folder away while leases are made in it: as a whole each time, which costs a lease two turns
+/// at most. So often the leases are tried again however long that takes.
 #[test]
 fn a_folder_that_is_removed_again_and_again_stops_no_lease() {
-    let (folder, is_over) = (Scratch::new("removing"), AtomicBool::new(false));
-    thread::scope(|scope| {
-        scope.spawn(|| {
-            while !is_over.load(Ordering::Relaxed) {
-                let _ = fs::remove_dir_all(&folder.0);
+    let (folder, removed) = (Scratch::new("removing"), Scratch::new("taken-away"));
+    fs::create_dir(&removed.0).unwrap();
+    for name in 0..40 {
+        let draws = || Leased::new(&folder.0, format!("b{name}"), 9).unwrap().in_each(LONG).draw();
+        let drawn = thread::scope(|scope| {
+            let lease = scope.spawn(draws);
+            for turn in 0..45 {
+                let other = removed.0.join(format!("{name}-{turn}"));
+                while fs::rename(&folder.0, &other).is_err() && !lease.is_finished() {
+                    thread::yield_now();
+                }
             }
+            lease.join().unwrap()
         });
-        let draw = |number| Leased::new(&folder.0, format!("b{number}"), 9).unwrap().in_each(LONG).draw();
-        let failed = (0..500).find_map(|number| draw(number).err());
-        is_over.store(true, Ordering::Relaxed);
-        assert!(failed.is_none(), "{failed:?}");
-    });
+        assert_eq!(number(drawn), Some(0));
+    }
 }
 
 #[test]
@@ -323,7 +389,9 @@ fn a_slot_that_another_process_keeps_locked_grants_nothing() {
     let folder = Scratch::new("locked");
     assert_eq!(number(budget(&folder.0, 10).draw()), Some(0));
     let mut keeper = keeper_of(&folder.slot("budget b"));
-    assert_store_fails!(budget(&folder.0, 10).draw(), StoreError::Locked);
+    let locked = budget(&folder.0, 10).draw().unwrap_err().to_string();
+    let slot = folder.slot("budget b");
+    assert_eq!(locked, format!("the store of tickets failed: {}: another process keeps it locked", slot.display()));
     // other names have locks of their own
     assert_eq!(number(long_quota(&folder.0, 10, 0.0).draw()), Some(0));
     drop(keeper.stdin.take());
@@ -377,7 +445,7 @@ fn process_on_a_full_disk() {
     assert_eq!(full.raw_os_error(), Some(28), "{full}");
     // a slot that there is goes on, and for a new one there is no room
     assert_eq!(number(old.draw()), Some(1));
-    assert_store_fails!(new.draw(), StoreError::Io(error) if error.raw_os_error() == Some(28));
+    assert_store_fails!(new.draw(), StoreError::Io(_, error) if error.raw_os_error() == Some(28));
     fs::remove_file(&filler).unwrap();
     assert_eq!((number(old.draw()), number(new.draw())), (Some(2), Some(0)));
     println!("went through");
@@ -647,7 +715,7 @@ fn a_process_that_is_killed_leaves_no_half_slot() {
         let length = usize::from(bytes[84]);
         let key = std::str::from_utf8(&bytes[88..88 + length]).unwrap();
         assert_eq!((bytes.len(), &path), (1024, &folder.slot(key)));
-        let counts = |turn| copy(key, "", [turn, 0, turn, 0]);
+        let counts = |turn| copy_in(&bytes[504..508], key, "", [turn, 0, turn, 0]);
         assert!(bytes[..512] == counts(0) || bytes[..512] == counts(1), "{key}");
         assert!(bytes[512..] == counts(0) || bytes[512..] == counts(1), "{key}");
     }

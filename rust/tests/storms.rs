@@ -1,7 +1,7 @@
 //! Storms: that they are those of `zsched storm`, their numbers, and what is refused.
 
 use hikebox::{Breaker, Bucket, InFlight, Terms, Throttle};
-use hikebox::{BudgetError, Policy, Population, PopulationReport, Schedule, Storm, StormError, StormReport};
+use hikebox::{LimitError, Policy, Population, PopulationReport, Schedule, Storm, StormError, StormReport};
 use std::error::Error;
 use std::io::Write;
 use std::path::Path;
@@ -128,7 +128,7 @@ fn a_storm_of_several_populations_is_what_the_program_prints() {
             vec![("99@2000", &three)],
         ),
         (
-            storm().limit(InFlight::envoy(20.0, 3)).beside(limited()).beside(Population::new(1, &full)),
+            storm().limit(InFlight::envoy(20.0, 3).unwrap()).beside(limited()).beside(Population::new(1, &full)),
             "--limit inflight:3/200",
             vec![("20+limited", &three), ("1", &full)],
         ),
@@ -167,9 +167,9 @@ fn the_storm_that_never_ends_and_the_one_that_a_quota_ends() {
 fn a_storm_under_each_limit() {
     let breaker = Breaker { probe_deadline: SECOND, ..Breaker::consecutive(5, policy(Schedule::spaced(30 * SECOND))) };
     let cases: [(Terms, &str); 5] = [
-        (Bucket::grpc(100, 0.1).into(), "grpc:100/100"),
+        (Bucket::grpc(100, 0.1).unwrap().into(), "grpc:100/100"),
         (Bucket::aws().into(), "aws"),
-        (InFlight::envoy(20.0, 3).into(), "inflight:3/200"),
+        (InFlight::envoy(20.0, 3).unwrap().into(), "inflight:3/200"),
         (breaker.into(), "breaker:5/1/1000"),
         (Throttle::google().into(), "throttle:2000/60000"),
     ];
@@ -190,7 +190,7 @@ fn a_storm_under_each_limit() {
     let dear = Storm::new(&full()).limit(Bucket { capacity: 1.0, cost: 2.0, ..Bucket::default() });
     for (storm, number) in [(dear, "cost"), (Storm::new(&full()).limit(Bucket::aws()).late_cost(501.0), "late_cost")] {
         let error = storm.play().unwrap_err();
-        assert!(matches!(error, StormError::Tickets(BudgetError::OutOfRange { parameter, .. }) if parameter == number));
+        assert!(matches!(error, StormError::Tickets(LimitError::OutOfRange { parameter, .. }) if parameter == number));
         assert_eq!(error.to_string(), format!("{number}: expected 0, or from 0.001 to the capacity, got another"));
     }
 }
@@ -352,8 +352,8 @@ fn what_is_out_of_range_is_named() {
         assert_eq!(told, wanted);
     }
     let error = storm().quota(u64::MAX, 0.1, SECOND).play().unwrap_err();
-    assert_eq!(error, StormError::Tickets(BudgetError::ReserveTooLarge));
-    assert_eq!(error.to_string(), BudgetError::ReserveTooLarge.to_string());
+    assert_eq!(error, StormError::Tickets(LimitError::ReserveTooLarge));
+    assert_eq!(error.to_string(), LimitError::ReserveTooLarge.to_string());
     assert!(error.source().is_none()); // (its text is that of the cause)
     assert!(storm().quota(1, 20.0, SECOND).quota(1, 0.1, SECOND).play().is_ok());
     assert!(storm().quota(1, 20.0, SECOND).budget(1).play().is_ok());
@@ -369,4 +369,19 @@ fn threads_play_storms_of_one_policy_at_once() {
             assert_eq!(other.join().unwrap(), alone);
         }
     });
+}
+
+// As in a program: its open times are waits for random words 0, of which full jitter makes none.
+#[test]
+fn a_breaker_that_would_never_open_is_no_limit_of_a_storm() {
+    let once: Policy = r#"{"recurs":1}"#.parse().unwrap();
+    for (open_for, plays) in
+        [(r#"{"jitter":[0,0,1000,{"spaced":30000}]}"#, false), (r#"{"jitter":[0,1,1000,{"spaced":30000}]}"#, true)]
+    {
+        let played = Storm::new(&once).limit(Breaker::consecutive(5, open_for.parse().unwrap())).seconds(1).play();
+        match played {
+            Err(StormError::Tickets(LimitError::OutOfRange { parameter: "open_for", .. })) => assert!(!plays),
+            other => assert!(plays && other.is_ok()),
+        }
+    }
 }

@@ -3,7 +3,7 @@
 mod common;
 
 use common::{printed, python};
-use hikebox::{Axis, BudgetError, Goal, Measure, Policy, Population, Schedule, Storm, StormError, StormReport, Sweep};
+use hikebox::{Axis, Goal, LimitError, Measure, Policy, Population, Schedule, Storm, StormError, StormReport, Sweep};
 use std::time::Duration;
 
 const SECOND: Duration = Duration::from_secs(1);
@@ -233,7 +233,7 @@ fn what_is_no_sweep_is_refused() {
     for (axis, wanted) in cases {
         assert_eq!(told(along(axis)).to_string(), wanted);
     }
-    assert_eq!(told(along(Axis::share([0.1, f64::NAN]))), StormError::Tickets(BudgetError::ShareOutOfRange));
+    assert_eq!(told(along(Axis::share([0.1, f64::NAN]))), StormError::Tickets(LimitError::ShareOutOfRange));
     assert_eq!(told(Sweep::along(Axis::rate([1]))).to_string(), "expected a line of the sweep, got none");
 }
 
@@ -295,7 +295,7 @@ def bits(number):
     return struct.unpack('<Q', struct.pack('<d', number))[0]
 policy = recurs(8) & exponential(0.1, 2).cap(10).jittered(0, 1)
 given = dict(seconds=20, rate=200, capacity=250, outage=(3, 6))
-storms = [storm(policy, **given), storm(policy, budget=Quota(10, 0.1, 1), **given)]
+storms = [storm(policy, **given), storm(policy, limit=Quota(10, 0.1, 1), **given)]
 for name, values in [('rate', [100, 200, 400]), ('clients', [10, 300]), ('patience', [0.05, 2]), ('share', [0.05, 3])]:
     swept = sweep(storms, **{name: values})
     for measure in ('succeeded', 'calls', 'recovery', 'slowest'):

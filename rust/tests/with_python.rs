@@ -54,9 +54,14 @@ fn both_write_the_same_bytes() {
         None => return eprintln!("skipped: no Python package beside the crate"),
     }
     assert_eq!(draws(&own.0), ["0 0 0"]);
+    // (but for the number of the file, which is random, and so for the sum over it)
+    let without_number = |mut files: Vec<(PathBuf, Vec<u8>)>| {
+        files.iter_mut().for_each(|(_, slot)| [504, 1016].iter().for_each(|at| slot[*at..at + 8].fill(0)));
+        files
+    };
     let (own, pythons) = (files(&own.0), files(&pythons.0));
     assert_eq!(own.len(), 3);
-    assert_eq!(own, pythons);
+    assert_eq!(without_number(own), without_number(pythons));
 }
 
 #[test]

@@ -24,7 +24,7 @@ pub(crate) use sys::{Asking, Grant, Range, Stored, Ticket};
 pub(crate) use sys::{BreakerTerms, BucketTerms};
 pub(crate) use sys::{Course, Event, Line, Next, Phase, Place, Population, Run, Storm, Totals, Used, Window};
 pub(crate) use sys::{BREAKER_OPEN, LEVEL_LOW, PROBING, REQUESTS_FULL, RETRIES_FULL, THROTTLED};
-pub(crate) use sys::{ENDED_CANCELLED, ENDED_DEADLINE, ENDED_DONE, ENDED_NO_MEMORY, ENDED_REFUSED, ENDED_WON};
+pub(crate) use sys::{ENDED_CANCELLED, ENDED_DEADLINE, ENDED_DONE, ENDED_LIMIT_REFUSED, ENDED_NO_MEMORY, ENDED_WON};
 pub(crate) use sys::{LOST, MAX_NUMBER, MAX_STEPS, MAX_TICKETS, NO_DEADLINE, NO_REPORT, OVER, RUN, WAIT, WON};
 pub(crate) use sys::{ON_BREAKER, ON_BUCKET, ON_BUDGET, ON_IN_FLIGHT, ON_NOTHING, ON_QUOTA, ON_THROTTLE};
 

@@ -296,7 +296,7 @@ pub(crate) const OVER: u32 = 3;
 
 pub(crate) const ENDED_WON: u32 = 1;
 pub(crate) const ENDED_DONE: u32 = 2;
-pub(crate) const ENDED_REFUSED: u32 = 3;
+pub(crate) const ENDED_LIMIT_REFUSED: u32 = 3;
 pub(crate) const ENDED_CANCELLED: u32 = 4;
 pub(crate) const ENDED_NO_MEMORY: u32 = 5;
 pub(crate) const ENDED_DEADLINE: u32 = 8;

@@ -9,10 +9,10 @@ pub use folder::StoreError;
 
 use crate::clock::Moment;
 use crate::engine::{lease_of_budget, lease_of_quota, Asking, Range, Stored, MAX_TICKETS};
-use crate::leased::folder::{Folder, Key};
+use crate::leased::folder::{Folder, Key, Known};
 use crate::leased::share::{Answer, Share, Tell, AGAIN_AFTER};
 use crate::leased::uptime::Window;
-use crate::limits::budget::BudgetError;
+use crate::limits::error::LimitError;
 use crate::limits::grants::{Limit, Source, Tickets};
 use crate::limits::quota::{thousandths, AtomicTerms, Terms, Usage};
 use crate::limits::ticket::{NoTicket, Ticket};
@@ -27,6 +27,8 @@ use std::time::Duration;
 /// A process leases a range of tickets by one change of a file of the folder, under the file's lock. The change is on
 /// the disk before the lease is granted, and the process then draws from the range. So each ticket is in one lease and
 /// is drawn once. What is left of a lease when its process ends is lost.
+///
+/// Folders are kept on Linux and macOS. On other systems each draw fails, with a sentence that says so.
 ///
 /// ```
 /// use hikebox::Leased;
@@ -109,8 +111,8 @@ impl Leased {
     ///
     /// # Errors
     ///
-    /// [`BudgetError::NameLength`].
-    pub fn new(path: impl AsRef<Path>, name: impl Into<String>, limit: u64) -> Result<Self, BudgetError> {
+    /// [`LimitError::NameLength`].
+    pub fn new(path: impl AsRef<Path>, name: impl Into<String>, limit: u64) -> Result<Self, LimitError> {
         let (limit, name) = (limit.min(MAX_LIMIT), checked(name.into())?);
         Ok(Self {
             folder: Folder::new(path),
@@ -155,19 +157,20 @@ impl Leased {
     ///
     /// [`NoTicket`] if a new lease is needed and the store has nothing left, or fails with a [`StoreError`].
     pub fn draw(&self) -> Result<Ticket, NoTicket> {
-        self.share.draw(self.again_after, |_| self.ask())
+        self.share.draw(self.again_after, |known, _| self.ask(known))
     }
 
     /// A new lease, which is empty where the limit is reached.
-    fn ask(&self) -> Result<Answer, StoreError> {
+    fn ask(&self, known: &mut Known) -> Result<Answer, StoreError> {
         let slot = self.folder.lock(&self.key)?;
-        let window = self.key.window()?;
-        let mut stored = slot.stored(window.as_ref());
+        let window = self.key.window(&mut known.boot).map_err(|error| slot.failed(error))?;
+        let mut stored = slot.stored(window.as_ref(), known)?;
         let number = window.map_or(0, |window| window.number);
         let asking = Asking { window: number, told: 0, wanted: self.lease };
-        let Range { first, tickets } = lease_of_budget(self.limit, asking, &mut stored).ok_or(StoreError::Lost)?;
+        let leased = lease_of_budget(self.limit, asking, &mut stored);
+        let Range { first, tickets } = leased.ok_or_else(|| slot.lost())?;
         if tickets > 0 {
-            slot.set(window.as_ref(), stored)?;
+            slot.set(window.as_ref(), stored, known)?;
         }
         let again_after = if window.is_some() { Duration::MAX } else { self.again_after };
         Ok(Answer { window, first, tickets, again_after, worth_asking: None })
@@ -180,14 +183,14 @@ impl LeasedQuota {
     ///
     /// # Errors
     ///
-    /// [`BudgetError`] says which argument is out of its range.
+    /// [`LimitError`] says which argument is out of its range.
     pub fn new(
         path: impl AsRef<Path>,
         name: impl Into<String>,
         reserve: u64,
         share: f64,
         per: Duration,
-    ) -> Result<Self, BudgetError> {
+    ) -> Result<Self, LimitError> {
         let terms = Terms::new(reserve, share, per)?.checked()?;
         let share = Share::new(Some(terms.period));
         Ok(Self {
@@ -234,8 +237,8 @@ impl LeasedQuota {
     ///
     /// # Errors
     ///
-    /// [`BudgetError`] says which argument is out of its range; then nothing changes.
-    pub fn set_terms(&self, reserve: u64, share: f64) -> Result<(), BudgetError> {
+    /// [`LimitError`] says which argument is out of its range; then nothing changes.
+    pub fn set_terms(&self, reserve: u64, share: f64) -> Result<(), LimitError> {
         let terms = Terms { reserve, share: thousandths(share)?, period: self.period }.checked()?;
         self.shared.terms.set(terms.reserve, terms.share);
         self.shared.share.may_ask();
@@ -263,9 +266,9 @@ impl LeasedQuota {
     ///
     /// [`NoTicket`] if a new lease is needed and the store has nothing left, or fails with a [`StoreError`].
     pub fn draw(&self) -> Result<Ticket, NoTicket> {
-        self.shared.share.draw(self.again_after, |tell| {
+        self.shared.share.draw(self.again_after, |known, tell| {
             let terms = self.terms();
-            let Found { window, stored, range: Range { first, tickets } } = self.ask(terms, true, tell)?;
+            let Found { window, stored, range: Range { first, tickets } } = self.ask(terms, true, known, tell)?;
             let worth = self.lease_of(terms.allowed(stored.asked)).saturating_mul(1000);
             let worth_asking =
                 worth.checked_add(terms.share.saturating_sub(1)).and_then(|worth| worth.checked_div(terms.share));
@@ -291,7 +294,9 @@ impl LeasedQuota {
     /// [`StoreError`] if the store cannot be read or written, or has lost its count of the current window.
     pub fn seen(&self) -> Result<Usage, StoreError> {
         let terms = self.terms();
-        let ask = |tell: Tell<'_>| self.ask(terms, false, tell).map(|found| (found.window, found.stored));
+        let ask = |known: &mut Known, tell: Tell<'_>| {
+            self.ask(terms, false, known, tell).map(|found| (found.window, found.stored))
+        };
         let (window, Stored { given, asked, .. }) = self.shared.share.ask(ask)?;
         let left = terms.allowed(asked).saturating_sub(given);
         Ok(Usage { window: window.number, asked, given, left, next: Duration::from_millis(window.ends()) })
@@ -299,18 +304,18 @@ impl LeasedQuota {
 
     /// Tells the store the requests of the present window, and takes a range of its tickets where that is wanted.
     /// Requests that were told are not told again, also where that failed.
-    fn ask(&self, terms: Terms, wants_tickets: bool, tell: Tell<'_>) -> Result<Found, StoreError> {
+    fn ask(&self, terms: Terms, wants_tickets: bool, known: &mut Known, tell: Tell<'_>) -> Result<Found, StoreError> {
         let slot = self.folder.lock(&self.key)?;
-        let window = Window::present(self.period)?;
-        let mut stored = slot.stored(Some(&window));
+        let window = Window::present(self.period, &mut known.boot).map_err(|error| slot.failed(error))?;
+        let mut stored = slot.stored(Some(&window), known)?;
         // comes to the window before any request is told, as none is where the store has a later one
-        terms.lease(window.number, 0, 0, &mut stored)?;
+        terms.lease(window.number, 0, 0, &mut stored).ok_or_else(|| slot.lost())?;
         let told = tell(&window);
         let allowed = terms.allowed(stored.asked.saturating_add(told));
         let wanted = if wants_tickets { self.lease_of(allowed) } else { 0 };
-        let range = terms.lease(window.number, told, wanted, &mut stored)?;
+        let range = terms.lease(window.number, told, wanted, &mut stored).ok_or_else(|| slot.lost())?;
         if told + range.tickets > 0 {
-            slot.set(Some(&window), stored)?;
+            slot.set(Some(&window), stored, known)?;
         }
         Ok(Found { window, stored, range })
     }
@@ -322,10 +327,10 @@ impl LeasedQuota {
 }
 
 impl Terms {
-    /// Takes a range of a window, and tells requests of it.
-    fn lease(self, window: u64, told: u64, wanted: u64, stored: &mut Stored) -> Result<Range, StoreError> {
+    /// Takes a range of a window, and tells requests of it. `None` where the store counts a later one.
+    fn lease(self, window: u64, told: u64, wanted: u64, stored: &mut Stored) -> Option<Range> {
         let asking = Asking { window, told, wanted };
-        lease_of_quota(self.reserve, self.share, asking, stored).ok_or(StoreError::Lost)
+        lease_of_quota(self.reserve, self.share, asking, stored)
     }
 }
 
@@ -387,9 +392,9 @@ impl Tickets for LeasedQuota {
 }
 
 /// A name that may be in a key.
-fn checked(name: String) -> Result<String, BudgetError> {
+fn checked(name: String) -> Result<String, LimitError> {
     match name.len() {
         1..=255 => Ok(name),
-        bytes => Err(BudgetError::NameLength { bytes }),
+        bytes => Err(LimitError::NameLength { bytes }),
     }
 }

@@ -2,18 +2,19 @@
 
 use crate::clock::whole_millis;
 use crate::engine::{Grant, Handle, LeasedDraw, LeasedKind, Taken, Ticket as Named, MAX_NUMBER};
-use crate::leased::folder::StoreError;
+use crate::leased::folder::{Known, StoreError};
 use crate::leased::uptime::{now, Window};
-use crate::limits::budget::BudgetError;
+use crate::limits::error::LimitError;
 use crate::limits::ticket::{Drawer, NoTicket, StoreFailure, Ticket};
 use crate::system::PerProcess;
 use std::fmt;
+use std::path::PathBuf;
 use std::sync::{Mutex, MutexGuard, PoisonError};
 use std::time::Duration;
 
 /// How long a store that failed, or that had nothing left, is left alone unless it is said.
 pub(crate) const AGAIN_AFTER: Duration = Duration::from_secs(1);
-/// How many leases in a row may be over before a ticket is drawn of them.
+/// How many leases in a row may be over when they come.
 const TRIES: usize = 3;
 
 /// A process's share of a limit. A forked child begins with none.
@@ -26,8 +27,8 @@ pub(crate) struct Share {
 /// What this process holds. Nobody who has a ticket at hand waits for one who asks the store.
 struct Leases {
     held: Mutex<Held>,
-    /// Locked by the one thread that asks the store; those that need its answer wait here.
-    asking: Mutex<()>,
+    /// Locked by the one thread that asks the store; those that need its answer wait here. What it knows of the store.
+    asking: Mutex<Known>,
 }
 
 struct Held {
@@ -62,36 +63,41 @@ impl Share {
     pub(crate) fn draw(
         &self,
         again_after: Duration,
-        ask: impl Fn(Tell<'_>) -> Result<Answer, StoreError>,
+        ask: impl Fn(&mut Known, Tell<'_>) -> Result<Answer, StoreError>,
     ) -> Result<Ticket, NoTicket> {
         let leases = self.leases();
         if let Some(drawn) = leases.draw(self.period) {
             return drawn;
         }
-        let asking = lock(&leases.asking);
+        let known = &mut *lock(&leases.asking);
+        // (another thread may have had an answer meanwhile)
+        if let Some(drawn) = leases.draw(self.period) {
+            return drawn;
+        }
+        // (a lease that is over when it comes is one of a window that is over: the next one is of a later window)
         for _ in 0..TRIES {
-            // (another thread may have had an answer meanwhile)
-            if let Some(drawn) = leases.draw(self.period) {
+            let answer = match ask(known, &|window| leases.tell(window)) {
+                Ok(answer) => answer,
+                Err(error) => return Err(leases.failed(StoreFailure::new(error), again_after)),
+            };
+            if let Some(drawn) = leases.granted(self.period, &answer) {
                 return drawn;
             }
-            match ask(&|window| leases.tell(window)) {
-                Ok(answer) if leases.granted(self.period, &answer) => (),
-                Ok(_) => break,
-                Err(error) => return Err(leases.failed(StoreFailure::new(error), again_after)),
+            if answer.tickets == 0 {
+                break;
             }
         }
-        drop(asking);
-        leases.draw(self.period).unwrap_or_else(|| Err(leases.used_up(self.period, again_after)))
+        Err(leases.used_up(self.period, again_after))
     }
 
     /// Asks the store, and takes no ticket of the window that it answers.
     pub(crate) fn ask<T>(
         &self,
-        ask: impl FnOnce(Tell<'_>) -> Result<(Window, T), StoreError>,
+        ask: impl FnOnce(&mut Known, Tell<'_>) -> Result<(Window, T), StoreError>,
     ) -> Result<(Window, T), StoreError> {
         let leases = self.leases();
-        let _asking = lock(&leases.asking);
-        let answer = ask(&|window| leases.tell(window))?;
+        let known = &mut *lock(&leases.asking);
+        let answer = ask(known, &|window| leases.tell(window))?;
         let held = &mut *lock(&leases.held);
         held.pass.granted(&Grant::none_of(&answer.0));
         held.may_ask();
@@ -130,32 +136,12 @@ impl Share {
 
 impl Leases {
     fn new(period: Option<u64>) -> Self {
-        Self { held: Mutex::new(Held::new(period)), asking: Mutex::new(()) }
+        Self { held: Mutex::new(Held::new(period)), asking: Mutex::default() }
     }
 
     /// A ticket at hand, or why there is none. `None` where the store may be asked.
     fn draw(&self, period: Option<u64>) -> Option<Result<Ticket, NoTicket>> {
-        let held = &mut *lock(&self.held);
-        let now = match now() {
-            Ok(now) => now,
-            Err(error) => return Some(Err(NoTicket::failed(error))),
-        };
-        match held.pass.draw(now) {
-            LeasedDraw::Ticket(Named { window, number }) => Some(Ok(Ticket::drawn(held.drawer, window, number))),
-            LeasedDraw::LeaseWanted => None,
-            LeasedDraw::NoMemory => Some(Err(NoTicket::failed(BudgetError::NoMemory))),
-            LeasedDraw::NotBefore(_) if held.is_worth_asking() => {
-                held.may_ask();
-                None
-            }
-            LeasedDraw::NotBefore(again) => {
-                let next_in = Duration::from_millis(again.saturating_sub(now));
-                Some(Err(match held.failure.clone() {
-                    Some(failure) => NoTicket::StoreFailed { failure, next_in: Some(next_in) },
-                    None => NoTicket::UsedUp { next_in: period.map(|_| next_in) },
-                }))
-            }
-        }
+        lock(&self.held).draw(period)
     }
 
     /// The requests that were counted since the window began, and not told before.
@@ -163,8 +149,8 @@ impl Leases {
         lock(&self.held).pass.tell(window.begins())
     }
 
-    /// Takes a store's answer, and says whether it has a ticket.
-    fn granted(&self, period: Option<u64>, answer: &Answer) -> bool {
+    /// Takes a store's answer and draws of it, before another thread can.
+    fn granted(&self, period: Option<u64>, answer: &Answer) -> Option<Result<Ticket, NoTicket>> {
         let held = &mut *lock(&self.held);
         let until = answer.window.map_or(MAX_NUMBER, |window| window.ends().min(MAX_NUMBER));
         let window = answer.window.map_or(0, |window| window.number);
@@ -180,7 +166,7 @@ impl Leases {
             held.pass.leave_alone(later(answer.again_after).min(until));
             held.worth_asking = answer.worth_asking;
         }
-        answer.tickets > 0
+        held.draw(period)
     }
 
     /// Leaves a store alone of which no lease lasted until a ticket was drawn, or that had nothing left.
@@ -203,6 +189,29 @@ impl Held {
     fn new(period: Option<u64>) -> Self {
         let pass = Handle::leased(period).expect("memory for a leased pass");
         Self { pass, drawer: Drawer::new(), failure: None, worth_asking: None }
+    }
+
+    fn draw(&mut self, period: Option<u64>) -> Option<Result<Ticket, NoTicket>> {
+        let now = match now() {
+            Ok(now) => now,
+            Err(error) => return Some(Err(NoTicket::failed(StoreError::Io(PathBuf::new(), error)))),
+        };
+        match self.pass.draw(now) {
+            LeasedDraw::Ticket(Named { window, number }) => Some(Ok(Ticket::drawn(self.drawer, window, number))),
+            LeasedDraw::LeaseWanted => None,
+            LeasedDraw::NoMemory => Some(Err(NoTicket::failed(LimitError::NoMemory))),
+            LeasedDraw::NotBefore(_) if self.is_worth_asking() => {
+                self.may_ask();
+                None
+            }
+            LeasedDraw::NotBefore(again) => {
+                let next_in = Duration::from_millis(again.saturating_sub(now));
+                Some(Err(match self.failure.clone() {
+                    Some(failure) => NoTicket::StoreFailed { failure, next_in: Some(next_in) },
+                    None => NoTicket::UsedUp { next_in: period.map(|_| next_in) },
+                }))
+            }
+        }
     }
 
     fn may_ask(&mut self) {
@@ -240,4 +249,66 @@ impl fmt::Debug for Share {
 
 fn lock<T>(shared: &Mutex<T>) -> MutexGuard<'_, T> {
     shared.lock().unwrap_or_else(PoisonError::into_inner)
+}
+
+#[cfg(test)]
+mod tests {
+    use super::{Answer, Share, TRIES};
+    use crate::leased::folder::StoreError;
+    use crate::leased::uptime::{now, Window};
+    use crate::limits::ticket::NoTicket;
+    use std::cell::Cell;
+    use std::sync::atomic::{AtomicU64, Ordering};
+    use std::thread;
+    use std::time::Duration;
+
+    const HOUR: Duration = Duration::from_secs(3600);
+
+    fn one_ticket(window: Option<Window>, first: u64) -> Result<Answer, StoreError> {
+        Ok(Answer { window, first, tickets: 1, again_after: HOUR, worth_asking: None })
+    }
+
+    /// A window of a millisecond that has just ended.
+    fn over() -> Window {
+        Window::of_number(now().unwrap() - 1, 1)
+    }
+
+    #[test]
+    fn a_lease_that_is_over_when_it_comes_is_followed_by_one_of_the_next_window() {
+        let (share, asked) = (Share::new(Some(1)), Cell::new(0));
+        let next = Window::of_number(now().unwrap() + 3_600_000, 1);
+        let ask = || {
+            asked.set(asked.get() + 1);
+            one_ticket(Some(if asked.get() < TRIES { over() } else { next }), 7)
+        };
+        assert_eq!(share.draw(HOUR, |_, _| ask()).unwrap().number(), 7);
+        assert_eq!(asked.get(), TRIES);
+    }
+
+    #[test]
+    fn a_store_that_is_slower_than_its_windows_is_left_alone() {
+        let (share, asked) = (Share::new(Some(1)), Cell::new(0));
+        for _ in 0..9 {
+            let drawn = share.draw(HOUR, |_, _| {
+                asked.set(asked.get() + 1);
+                one_ticket(Some(over()), 7)
+            });
+            assert!(matches!(drawn, Err(NoTicket::UsedUp { next_in: Some(wait) }) if wait <= HOUR), "{drawn:?}");
+        }
+        assert_eq!(asked.get(), TRIES);
+    }
+
+    /// Each thread draws of the lease that it asked for, and none of the others takes that ticket first.
+    #[test]
+    fn eight_threads_draw_leases_of_one_ticket_and_none_is_refused() {
+        let (share, given) = (Share::new(None), AtomicU64::new(0));
+        let ask = || one_ticket(None, given.fetch_add(1, Ordering::Relaxed));
+        let draws = || (0..2000).find_map(|_| share.draw(HOUR, |_, _| ask()).err());
+        let refused: Vec<_> = thread::scope(|scope| {
+            let threads: Vec<_> = (0..8).map(|_| scope.spawn(draws)).collect();
+            threads.into_iter().filter_map(|thread| thread.join().unwrap()).collect()
+        });
+        assert!(refused.is_empty(), "{refused:?}");
+        assert_eq!(given.load(Ordering::Relaxed), 16_000);
+    }
 }

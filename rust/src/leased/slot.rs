@@ -2,12 +2,12 @@
 
 use crate::engine::Stored;
 use crate::leased::uptime::{Boot, Window};
+use crate::system::read_whole;
 use std::fs::File;
-use std::os::unix::fs::FileExt;
 
 /// How many bytes a slot has, and each of its copies.
-pub(crate) const SIZE: u64 = 2 * COPY;
-pub(crate) const COPY: u64 = 512;
+pub(crate) const SIZE: usize = 2 * COPY;
+const COPY: usize = 512;
 
 const MAGIC: &[u8; 16] = b"hikebox slot 1\n\0";
 const TURN: usize = 16;
@@ -17,6 +17,7 @@ const ASKED: usize = 40;
 const BOOT: usize = 48;
 const LENGTH: usize = 84;
 const KEY: usize = 88;
+const FILE: usize = 504;
 const CHECK: usize = 508;
 /// How many bytes there are for a key.
 const MAX_KEY: usize = 416;
@@ -30,13 +31,15 @@ pub(crate) struct Record {
     window: u64,
     given: u64,
     asked: u64,
+    /// A random number that the file is made with: one that is made anew has another.
+    file: u32,
 }
 
 impl Record {
-    /// One of this key, which has at most 416 bytes, with nothing counted.
-    pub(crate) fn new(key: &str, window: Option<&Window>) -> Self {
+    /// One of this key, which has at most 416 bytes, with nothing counted, in a file of this number.
+    pub(crate) fn new(key: &str, window: Option<&Window>, file: u32) -> Self {
         debug_assert!(key.len() <= MAX_KEY);
-        let mut record = Self { key: key.to_owned(), turn: 0, boot: [0; 36], window: 0, given: 0, asked: 0 };
+        let mut record = Self { key: key.to_owned(), turn: 0, boot: [0; 36], window: 0, given: 0, asked: 0, file };
         record.be_of(window);
         record
     }
@@ -44,12 +47,11 @@ impl Record {
     /// The copy of the slot that was written last, of those that are right: of this key, where one is named. `None`
     /// where neither is, or the file is not as long as a slot.
     pub(crate) fn read(slot: &File, key: Option<&str>) -> Option<Self> {
-        let mut bytes = [0; SIZE as usize];
-        if slot.metadata().ok()?.len() != SIZE {
+        let mut bytes = [0; SIZE + 1];
+        if read_whole(slot, &mut bytes).ok()? != SIZE {
             return None;
         }
-        slot.read_exact_at(&mut bytes, 0).ok()?;
-        let copies = bytes.chunks_exact(COPY as usize).filter_map(Self::of_bytes);
+        let copies = bytes.chunks_exact(COPY).filter_map(Self::of_bytes);
         copies.filter(|copy| key.map_or(true, |key| copy.key == key)).max_by_key(|copy| copy.turn)
     }
 
@@ -69,11 +71,14 @@ impl Record {
             window: number(WINDOW)?,
             given: number(GIVEN)?,
             asked: number(ASKED)?,
+            file: u32::from_le_bytes(copy[FILE..CHECK].try_into().ok()?),
         })
     }
 
-    pub(crate) fn to_bytes(&self) -> [u8; COPY as usize] {
-        let mut copy = [0; COPY as usize];
+    /// The whole slot.
+    pub(crate) fn to_bytes(&self) -> [u8; SIZE] {
+        let mut slot = [0; SIZE];
+        let (copy, other) = slot.split_at_mut(COPY);
         let mut put = |at: usize, bytes: &[u8]| copy[at..at + bytes.len()].copy_from_slice(bytes);
         put(0, MAGIC);
         for (at, number) in [(TURN, self.turn), (WINDOW, self.window), (GIVEN, self.given), (ASKED, self.asked)] {
@@ -82,9 +87,11 @@ impl Record {
         put(BOOT, &self.boot);
         put(LENGTH, &(self.key.len() as u16).to_le_bytes());
         put(KEY, self.key.as_bytes());
+        put(FILE, &self.file.to_le_bytes());
         let check = crc32fast::hash(&copy[..CHECK]);
         copy[CHECK..].copy_from_slice(&check.to_le_bytes());
-        copy
+        other.copy_from_slice(copy);
+        slot
     }
 
     /// What is stored as a whole, or of the window that was counted last: nothing where that is of another start of the
@@ -95,6 +102,11 @@ impl Record {
         } else {
             Stored::default()
         }
+    }
+
+    /// The number of its file.
+    pub(crate) fn file(&self) -> u32 {
+        self.file
     }
 
     /// Whether there is no turn after its own: something else wrote it then.

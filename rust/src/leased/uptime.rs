@@ -1,7 +1,7 @@
 //! The machine's uptime, as all its processes see it, and the windows that it is cut into.
 
 use crate::clock::whole_millis;
-use crate::system::{boottime, generation};
+use crate::system::{boot, boottime, generation};
 use std::fs;
 use std::io;
 use std::sync::atomic::{AtomicI64, AtomicU64, Ordering};
@@ -19,9 +19,19 @@ pub(crate) struct Window {
 pub(crate) type Boot = [u8; 36];
 
 impl Window {
-    /// The present one of so many milliseconds.
-    pub(crate) fn present(period: u64) -> io::Result<Self> {
-        Ok(Self { number: now()? / period, boot: boot()?, period })
+    /// The present one of so many milliseconds, in a process that may know its machine's start already: that is read once.
+    pub(crate) fn present(period: u64, known: &mut Option<Boot>) -> io::Result<Self> {
+        let boot = match *known {
+            Some(boot) => boot,
+            None => *known.insert(boot()?),
+        };
+        Ok(Self { number: now()? / period, boot, period })
+    }
+
+    /// The one of this number, of no start of the machine.
+    #[cfg(test)]
+    pub(crate) fn of_number(number: u64, period: u64) -> Self {
+        Self { boot: [0; 36], number, period }
     }
 
     /// Its first moment.
@@ -38,15 +48,6 @@ impl Window {
 /// The present moment in milliseconds.
 pub(crate) fn now() -> io::Result<u64> {
     Ok(whole_millis(uptime()?))
-}
-
-/// The name of the present start of the machine.
-pub(crate) fn boot() -> io::Result<Boot> {
-    const PATH: &str = "/proc/sys/kernel/random/boot_id";
-    // (a chroot without /proc has none)
-    let missing = |error| io::Error::new(io::ErrorKind::Other, format!("{PATH}: {error}"));
-    let name = fs::read_to_string(PATH).map_err(missing)?;
-    name.trim().as_bytes().try_into().map_err(|_| io::Error::new(io::ErrorKind::InvalidData, "no boot id of 36 bytes"))
 }
 
 /// How long ago the machine started, which is the same in all its time namespaces.
@@ -84,7 +85,15 @@ fn offset_of(offsets: &str) -> i64 {
 
 #[cfg(test)]
 mod tests {
-    use super::offset_of;
+    use super::{offset_of, Window};
+
+    #[test]
+    fn the_start_of_the_machine_is_read_once() {
+        let mut known = None;
+        let read = Window::present(1, &mut known).unwrap().boot;
+        assert_eq!(known, Some(read));
+        assert_eq!(Window::present(1, &mut Some([7; 36])).unwrap().boot, [7; 36]);
+    }
 
     #[test]
     fn the_offset_is_that_of_boottime() {

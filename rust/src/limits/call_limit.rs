@@ -3,7 +3,7 @@
 use crate::clock::{whole_millis, Moment};
 use crate::engine::{self, BreakerTerms, BucketTerms, Course, Event, Handle, LimitKind, Refusal, Status};
 use crate::engine::{ON_BREAKER, ON_BUCKET, ON_IN_FLIGHT, ON_THROTTLE};
-use crate::limits::budget::BudgetError;
+use crate::limits::error::LimitError;
 use crate::limits::grants::Tickets;
 use crate::limits::ticket::{NoTicket, Ticket};
 use crate::policy::Policy;
@@ -26,7 +26,7 @@ use std::time::{Duration, Instant};
 /// let breaker = CallLimit::new(Breaker::consecutive(2, r#"{"spaced":30000}"#.parse()?))?;
 /// let mut runs = 0;
 /// let answer = retry(&policy, &breaker, || { runs += 1; Err::<(), _>("down") });
-/// assert_eq!(answer, Err(RetryError::BudgetRefused("down")));
+/// assert_eq!(answer, Err(RetryError::LimitRefused("down")));
 /// assert_eq!(runs, 2);
 /// match retry(&policy, &breaker, || Ok::<_, &str>(5)) {
 ///     Err(RetryError::NotAdmitted(refused)) => assert_eq!(refused.reason(), RefusalReason::BreakerOpen),
@@ -151,13 +151,19 @@ impl Bucket {
     /// gRPC's `retryThrottling`: a failure takes one token, a success gives `token_ratio` of one, and a retry is
     /// granted while more than half of `max_tokens` are left. As in gRPC, what follows the third decimal of the ratio
     /// is ignored.
-    #[must_use]
-    pub fn grpc(max_tokens: u32, token_ratio: f64) -> Self {
+    ///
+    /// # Errors
+    ///
+    /// [`LimitError::OutOfRange`] if there is no token, or the ratio is out of its range.
+    pub fn grpc(max_tokens: u32, token_ratio: f64) -> Result<Self, LimitError> {
         let capacity = f64::from(max_tokens);
+        let most = thousandths(capacity).filter(|most| *most > 0);
+        let most = within(most, MAX_CAPACITY, "max_tokens", "1 to 1099511627 tokens")?;
+        within(thousandths(token_ratio), most, "token_ratio", "0, or from 0.001 to max_tokens")?;
         // (a float may be short of its last decimal; a ratio below the third one is left for `thousandths` to judge)
         let whole = (token_ratio * 1000.0 + 1e-6).floor();
         let credit = if whole >= 1.0 { whole / 1000.0 } else { token_ratio };
-        Self { capacity, floor: capacity / 2.0 + 0.001, debit: 1.0, credit, cost: 0.0, refund: false }
+        Ok(Self { capacity, floor: capacity / 2.0 + 0.001, debit: 1.0, credit, cost: 0.0, refund: false })
     }
 
     /// The AWS SDKs' standard mode: 500 tokens, of which a retry takes 5. A success gives back what the call's last
@@ -167,13 +173,13 @@ impl Bucket {
         Self { capacity: 500.0, floor: 0.0, debit: 0.0, credit: 1.0, cost: 5.0, refund: true }
     }
 
-    fn made(&self) -> Result<Handle<LimitKind>, BudgetError> {
+    fn made(&self) -> Result<Handle<LimitKind>, LimitError> {
         let BucketNumbers { capacity, floor, debit, credit, .. } = self.numbers()?;
         Handle::bucket(BucketTerms { size: 0, capacity, floor, debit, credit, refund: self.refund }).map_err(fault)
     }
 
     /// Its numbers in thousandths.
-    fn numbers(&self) -> Result<BucketNumbers, BudgetError> {
+    fn numbers(&self) -> Result<BucketNumbers, LimitError> {
         let capacity = within(thousandths(self.capacity), MAX_CAPACITY, "capacity", CAPACITY)?;
         Ok(BucketNumbers {
             capacity,
@@ -187,17 +193,23 @@ impl Bucket {
 
 impl InFlight {
     /// Envoy's `retry_budget`: 20 per cent and 3 are its defaults.
-    #[must_use]
-    pub fn envoy(budget_percent: f64, min_retry_concurrency: u32) -> Self {
-        Self { least: min_retry_concurrency, share: budget_percent / 100.0 }
+    ///
+    /// # Errors
+    ///
+    /// [`LimitError::OutOfRange`] for what is no number of per cent, such as a share of 0.2.
+    pub fn envoy(budget_percent: f64, min_retry_concurrency: u32) -> Result<Self, LimitError> {
+        if budget_percent != 0.0 && !(1.0..=100.0).contains(&budget_percent) {
+            return Err(out_of_range("budget_percent", "per cent, 0 or from 1 to 100"));
+        }
+        Ok(Self { least: min_retry_concurrency, share: budget_percent / 100.0 })
     }
 
-    fn made(&self) -> Result<Handle<LimitKind>, BudgetError> {
+    fn made(&self) -> Result<Handle<LimitKind>, LimitError> {
         Handle::in_flight(self.least, self.thousandths()? as u32).map_err(fault)
     }
 
     /// Its share in thousandths.
-    fn thousandths(&self) -> Result<u64, BudgetError> {
+    fn thousandths(&self) -> Result<u64, LimitError> {
         within(thousandths(self.share).filter(|_| self.share <= 1.0), 1000, "share", "0, or from 0.001 to 1")
     }
 }
@@ -210,14 +222,19 @@ impl Breaker {
     }
 
     /// The open times: the waits of the policy on a course whose events have the input 0 and the random words 0.
-    fn times(&self) -> Result<Vec<u64>, BudgetError> {
+    fn times(&self) -> Result<Vec<u64>, LimitError> {
         let course = Course { size: mem::size_of::<Course>(), steps: 64, from: 0, took: 0 };
         let mut policy = self.open_for.share().map_err(fault)?;
         let (lines, _) = policy.course(course, &[Event { input: 0, words: [0; 4] }]).map_err(fault)?;
-        Ok(lines.iter().filter(|line| line.goes_on).map(|line| line.start - line.moment).collect())
+        let times: Vec<u64> = lines.iter().filter(|line| line.goes_on).map(|line| line.start - line.moment).collect();
+        match times.iter().max() {
+            None => Err(out_of_range("open_for", "a policy that goes on at least once")),
+            Some(0) => Err(out_of_range("open_for", NEVER_OPEN)),
+            Some(_) => Ok(times),
+        }
     }
 
-    fn made(&self, now: u64) -> Result<Handle<LimitKind>, BudgetError> {
+    fn made(&self, now: u64) -> Result<Handle<LimitKind>, LimitError> {
         if self.failures == 0 {
             return Err(out_of_range("failures", "1 to 4294967295"));
         }
@@ -225,9 +242,6 @@ impl Breaker {
             return Err(out_of_range("probes", "1 to 15"));
         }
         let times = self.times()?;
-        if times.is_empty() {
-            return Err(out_of_range("open_for", "a policy that goes on at least once"));
-        }
         let deadline = whole_millis(self.probe_deadline);
         let (failures, probes) = (self.failures.into(), self.probes.into());
         Handle::breaker(now, BreakerTerms { size: 0, failures, probes, deadline }, &times).map_err(fault)
@@ -241,7 +255,7 @@ impl Throttle {
         Self { ratio: 2.0, period: Duration::from_secs(60) }
     }
 
-    fn made(&self, now: u64) -> Result<Handle<LimitKind>, BudgetError> {
+    fn made(&self, now: u64) -> Result<Handle<LimitKind>, LimitError> {
         let (ratio, period) = (self.thousandths()?, whole_millis(self.period));
         if period == 0 {
             return Err(out_of_range("period", "at least a millisecond"));
@@ -250,7 +264,7 @@ impl Throttle {
     }
 
     /// Its ratio in thousandths.
-    fn thousandths(&self) -> Result<u64, BudgetError> {
+    fn thousandths(&self) -> Result<u64, LimitError> {
         let ratio = thousandths(self.ratio).filter(|ratio| *ratio >= 1000);
         within(ratio, u32::MAX.into(), "ratio", "1 to 4294967.295")
     }
@@ -258,7 +272,7 @@ impl Throttle {
 
 impl Terms {
     /// Puts them into the parameters of a storm.
-    pub(crate) fn on_storm(&self, storm: &mut engine::Storm) -> Result<(), BudgetError> {
+    pub(crate) fn on_storm(&self, storm: &mut engine::Storm) -> Result<(), LimitError> {
         match self {
             Self::Bucket(bucket) => {
                 let BucketNumbers { capacity, floor, debit, credit, cost } = bucket.numbers()?;
@@ -299,6 +313,11 @@ struct BucketNumbers {
 /// The greatest capacity, in thousandths of a token.
 const MAX_CAPACITY: u64 = 1 << 40;
 
+/// What a policy by which a breaker would never open should be.
+const NEVER_OPEN: &str =
+    "a policy with an open time above 0: open times are its waits for the least random numbers, and \
+full jitter makes these 0; write no jitter, or jittered(0.5..1.0)";
+
 /// The most probes of a breaker.
 const MAX_PROBES: u8 = 15;
 
@@ -315,24 +334,24 @@ fn thousandths(number: f64) -> Option<u64> {
 }
 
 /// Tokens in thousandths, at most as many as the capacity.
-pub(crate) fn tokens(number: f64, capacity: u64, parameter: &'static str) -> Result<u64, BudgetError> {
+pub(crate) fn tokens(number: f64, capacity: u64, parameter: &'static str) -> Result<u64, LimitError> {
     within(thousandths(number), capacity, parameter, TOKENS)
 }
 
 /// The number, if there is one and it is at most `most`.
-fn within(number: Option<u64>, most: u64, parameter: &'static str, expected: &'static str) -> Result<u64, BudgetError> {
+fn within(number: Option<u64>, most: u64, parameter: &'static str, expected: &'static str) -> Result<u64, LimitError> {
     number.filter(|number| *number <= most).ok_or_else(|| out_of_range(parameter, expected))
 }
 
-fn out_of_range(parameter: &'static str, expected: &'static str) -> BudgetError {
-    BudgetError::OutOfRange { parameter, expected }
+fn out_of_range(parameter: &'static str, expected: &'static str) -> LimitError {
+    LimitError::OutOfRange { parameter, expected }
 }
 
-fn fault(status: Status) -> BudgetError {
+fn fault(status: Status) -> LimitError {
     match status {
-        Status::NoMemory | Status::TooManyPasses => BudgetError::NoMemory,
+        Status::NoMemory | Status::TooManyPasses => LimitError::NoMemory,
         // (numbers are checked before, so these are limits that are joined)
-        _ => BudgetError::TooManyLimits,
+        _ => LimitError::TooManyLimits,
     }
 }
 
@@ -341,12 +360,12 @@ impl CallLimit {
     ///
     /// # Errors
     ///
-    /// [`BudgetError::OutOfRange`] if a number is out of its range, and [`BudgetError::NoMemory`].
-    pub fn new(terms: impl Into<Terms>) -> Result<Self, BudgetError> {
+    /// [`LimitError::OutOfRange`] if a number is out of its range, and [`LimitError::NoMemory`].
+    pub fn new(terms: impl Into<Terms>) -> Result<Self, LimitError> {
         Self::of(Made::Of(terms.into()))
     }
 
-    fn of(made: Made) -> Result<Self, BudgetError> {
+    fn of(made: Made) -> Result<Self, LimitError> {
         let began = BEGAN.get(|| Moment::of(Instant::now()).before(A_DAY));
         let handles = PerProcess::new(Handles::of(made.handle(moment_of(began))?));
         Ok(Self { shared: Arc::new(Shared { reads: made.reads(), made, began, handles }) })
@@ -362,8 +381,8 @@ impl CallLimit {
     ///
     /// # Errors
     ///
-    /// [`BudgetError::NoMemory`].
-    pub fn request(&self) -> Result<Request, BudgetError> {
+    /// [`LimitError::NoMemory`].
+    pub fn request(&self) -> Result<Request, LimitError> {
         let idle = lock(&self.handles().idle).pop();
         let handle = match idle {
             Some(handle) => handle,
@@ -385,6 +404,10 @@ impl CallLimit {
             Made::Of(_) => 0,
             Made::All(limits) => limits.iter().map(CallLimit::cost).max().unwrap_or(0),
         }
+    }
+
+    fn is(&self, other: &Self) -> bool {
+        Arc::ptr_eq(&self.shared, &other.shared)
     }
 
     /// The limits that it asks, each of terms of its own.
@@ -426,7 +449,7 @@ fn moment_of(began: Moment) -> u64 {
 /// ```
 /// use hikebox::{both, Breaker, Bucket, CallLimit, InFlight};
 ///
-/// let flights = CallLimit::new(InFlight::envoy(20.0, 3))?;
+/// let flights = CallLimit::new(InFlight::envoy(20.0, 3)?)?;
 /// let bucket = CallLimit::new(Bucket::aws())?;
 /// let breaker = CallLimit::new(Breaker::consecutive(5, r#"{"spaced":30000}"#.parse()?))?;
 /// let limit = both(&both(&flights, &bucket)?, &breaker)?;
@@ -436,15 +459,20 @@ fn moment_of(began: Moment) -> u64 {
 ///
 /// # Errors
 ///
-/// [`BudgetError::TooManyLimits`] if they are more than four, [`BudgetError::CostsDiffer`] if a retry takes more of one
-/// bucket than of another, and [`BudgetError::NoMemory`].
-pub fn both(first: &CallLimit, second: &CallLimit) -> Result<CallLimit, BudgetError> {
+/// [`LimitError::TooManyLimits`] if they are more than four, [`LimitError::SameLimit`] if one of them comes twice,
+/// [`LimitError::CostsDiffer`] if a retry takes more of one
+/// bucket than of another, and [`LimitError::NoMemory`].
+pub fn both(first: &CallLimit, second: &CallLimit) -> Result<CallLimit, LimitError> {
     let limits = [first.parts(), second.parts()].concat();
+    let is_known = |(place, limit): (usize, &CallLimit)| limits[..place].iter().any(|other| other.is(limit));
+    if limits.iter().enumerate().any(is_known) {
+        return Err(LimitError::SameLimit);
+    }
     let mut buckets = limits.iter().filter(|limit| matches!(limit.shared.made, Made::Of(Terms::Bucket(_))));
     let cost = buckets.next().map_or(0, CallLimit::cost);
     // (the engine has one cost for all of them)
     if buckets.any(|bucket| bucket.cost() != cost) {
-        return Err(BudgetError::CostsDiffer);
+        return Err(LimitError::CostsDiffer);
     }
     CallLimit::of(Made::All(limits))
 }
@@ -463,7 +491,7 @@ impl Made {
     }
 
     /// The limit in the engine, made at this moment.
-    fn handle(&self, now: u64) -> Result<Handle<LimitKind>, BudgetError> {
+    fn handle(&self, now: u64) -> Result<Handle<LimitKind>, LimitError> {
         match self {
             Self::Of(Terms::Bucket(bucket)) => bucket.made(),
             Self::Of(Terms::InFlight(flight)) => flight.made(),
@@ -472,7 +500,7 @@ impl Made {
             // (a handle that was split off is hardly split again, so each limit gives one of its first)
             Self::All(limits) => {
                 let mut parts = limits.iter().map(|limit| lock(&limit.handles().root).split().map_err(fault));
-                let mut all = parts.next().unwrap_or(Err(BudgetError::NoMemory))?;
+                let mut all = parts.next().unwrap_or(Err(LimitError::NoMemory))?;
                 for part in parts {
                     all.both(part?).map_err(fault)?;
                 }
@@ -594,9 +622,9 @@ impl Drop for Request {
 
 /// A request that was admitted, as a store of tickets. It is told how each run ended.
 #[derive(Debug)]
-pub struct Asked(Mutex<Request>);
+pub struct Admitted(Mutex<Request>);
 
-impl Asked {
+impl Admitted {
     pub(crate) fn of(request: Request) -> Arc<Self> {
         Arc::new(Self(Mutex::new(request)))
     }
@@ -610,7 +638,7 @@ impl Asked {
     }
 }
 
-impl Tickets for Asked {
+impl Tickets for Admitted {
     fn draw(&self) -> Result<Ticket, NoTicket> {
         match lock(&self.0).draw() {
             Ok(()) => Ok(Ticket::new(0)),

@@ -4,7 +4,7 @@ use crate::clock::Moment;
 #[cfg(feature = "leased")]
 use crate::leased::{Leased, LeasedQuota};
 use crate::limits::budget::Budget;
-use crate::limits::call_limit::{Asked, CallLimit, Refused, Request};
+use crate::limits::call_limit::{Admitted, CallLimit, Refused, Request};
 use crate::limits::quota::Quota;
 use crate::limits::ticket::{NoTicket, Ticket};
 use std::convert::Infallible;
@@ -13,23 +13,23 @@ use std::sync::Arc;
 
 /// What retries can draw their tickets on: a [`Budget`], a [`Quota`], a [`CallLimit`], an `Arc` of your own store of
 /// [`Tickets`], or [`Unlimited`] for no limit; with the feature `leased` also `Leased` and `LeasedQuota`. Everything
-/// that retries takes any of them. A [`Machine`](crate::Machine) and tower's own layer ask nobody before the first run,
-/// so they take those that never refuse it: all but a [`CallLimit`].
+/// that retries takes any of them. A [`Machine`](crate::Machine) asks nobody before the first run, so it takes those that
+/// never refuse it: all but a [`CallLimit`].
 ///
 /// ```
 /// use hikebox::{retry, Bucket, Budget, CallLimit, Grants, Policy, Quota, Unlimited};
 /// use std::time::Duration;
 ///
-/// fn runs(budget: &impl Grants) -> Result<u32, hikebox::PolicyError> {
+/// fn runs(limit: &impl Grants) -> Result<u32, hikebox::PolicyError> {
 ///     let policy: Policy = r#"{"recurs":5}"#.parse()?;
 ///     let mut runs = 0;
-///     let _ = retry(&policy, budget, || { runs += 1; Err::<(), _>("busy") });
+///     let _ = retry(&policy, limit, || { runs += 1; Err::<(), _>("busy") });
 ///     Ok(runs)
 /// }
 ///
 /// assert_eq!(runs(&Budget::new(2)?)?, 3);
 /// assert_eq!(runs(&Quota::new(1, 2.0, Duration::from_secs(60))?)?, 4); // one, and two for the one request
-/// assert_eq!(runs(&CallLimit::new(Bucket::grpc(6, 0.1))?)?, 3); // the third failure leaves half of the tokens
+/// assert_eq!(runs(&CallLimit::new(Bucket::grpc(6, 0.1)?)?)?, 3); // the third failure leaves half of the tokens
 /// assert_eq!(runs(&Unlimited)?, 6);
 /// # Ok::<(), Box<dyn std::error::Error>>(())
 /// ```
@@ -75,7 +75,7 @@ never_refuse!(
     Budget,
     Quota,
     Unlimited,
-    AnyBudget,
+    AnyLimit,
     #[cfg(feature = "leased")]
     Leased,
     #[cfg(feature = "leased")]
@@ -85,14 +85,14 @@ never_refuse!(
 /// Any of these limits but a [`CallLimit`], for one that is chosen when the program runs.
 ///
 /// ```
-/// use hikebox::{retry, AnyBudget, Budget, Policy, Quota, RetryError};
+/// use hikebox::{retry, AnyLimit, Budget, Policy, Quota, RetryError};
 /// use std::time::Duration;
 ///
-/// fn configured(kind: &str) -> Result<AnyBudget, hikebox::BudgetError> {
+/// fn configured(kind: &str) -> Result<AnyLimit, hikebox::LimitError> {
 ///     Ok(match kind {
 ///         "batch" => Budget::new(0)?.into(),
 ///         "service" => Quota::new(1, 0.0, Duration::from_secs(60))?.into(),
-///         _ => AnyBudget::Unlimited,
+///         _ => AnyLimit::Unlimited,
 ///     })
 /// }
 ///
@@ -106,7 +106,7 @@ never_refuse!(
 /// ```
 #[derive(Clone, Debug, Default)]
 #[non_exhaustive]
-pub enum AnyBudget {
+pub enum AnyLimit {
     /// No limit.
     #[default]
     Unlimited,
@@ -149,7 +149,7 @@ pub struct Unlimited;
 /// let store = Arc::new(Counter(AtomicU64::new(0)));
 /// let mut runs = 0;
 /// let answer = retry(&policy, &store, || { runs += 1; Err::<(), _>("busy") });
-/// assert_eq!(answer, Err(RetryError::BudgetRefused("busy")));
+/// assert_eq!(answer, Err(RetryError::LimitRefused("busy")));
 /// assert_eq!(runs, 3);
 /// # Ok::<(), hikebox::PolicyError>(())
 /// ```
@@ -165,7 +165,7 @@ pub trait Tickets: Send + Sync {
     /// # Errors
     ///
     /// [`NoTicket::UsedUp`] if there is none: the retry ends as
-    /// [`RetryError::BudgetRefused`](crate::RetryError::BudgetRefused). [`NoTicket::failed`] if the store cannot know:
+    /// [`RetryError::LimitRefused`](crate::RetryError::LimitRefused). [`NoTicket::failed`] if the store cannot know:
     /// the retry ends as [`RetryError::StoreFailed`](crate::RetryError::StoreFailed).
     fn draw(&self) -> Result<Ticket, NoTicket>;
 
@@ -179,7 +179,7 @@ pub trait Tickets: Send + Sync {
 }
 
 mod sealed {
-    use super::{Arc, Asked, Infallible, Moment, Refused, Request, Source, Ticket};
+    use super::{Admitted, Arc, Infallible, Moment, Refused, Request, Source, Ticket};
     use std::error::Error;
 
     /// What a retry draws on, and by which clock.
@@ -219,12 +219,20 @@ mod sealed {
     }
 
     /// What a call holds from its first run on.
-    pub trait Held {
+    pub trait Held: Default {
         /// Tells that its first run succeeded, and answers whether there is a limit that hears it.
         fn succeeded(&mut self) -> bool;
 
+        /// Tells this limit, or the one that was asked, that the first run succeeded.
+        #[inline]
+        fn succeeded_at_once(&mut self, limit: &(impl Limit + ?Sized), clock: &dyn Fn() -> Moment) {
+            if !self.succeeded() && limit.hears_of_successes() {
+                limit.count_success(None, clock);
+            }
+        }
+
         /// The request, for a retry to draw by.
-        fn asked(self) -> Option<Arc<Asked>>;
+        fn request(self) -> Option<Arc<Admitted>>;
     }
 
     impl Admission for Infallible {
@@ -243,7 +251,7 @@ mod sealed {
         }
 
         #[inline]
-        fn asked(self) -> Option<Arc<Asked>> {
+        fn request(self) -> Option<Arc<Admitted>> {
             None
         }
     }
@@ -266,8 +274,8 @@ mod sealed {
             true
         }
 
-        fn asked(self) -> Option<Arc<Asked>> {
-            self.map(Asked::of)
+        fn request(self) -> Option<Arc<Admitted>> {
+            self.map(Admitted::of)
         }
     }
 }
@@ -280,26 +288,9 @@ pub enum Source {
     Budget(Budget),
     Quota(Quota),
     /// Each request of it draws by a store of its own, once it is admitted.
-    Asked(CallLimit),
+    CallLimit(CallLimit),
     Store(Arc<dyn Tickets>),
     Unlimited,
-}
-
-#[cfg(feature = "tower")]
-impl Source {
-    /// A request is made now. The clock is looked at only where that matters.
-    pub(crate) fn count_request_now(&self) {
-        match self {
-            Self::Quota(quota) if !quota.counts_successes() => quota.deposit_by_clock(Moment::now()),
-            Self::Store(store) => store.deposit(),
-            Self::Budget(_) | Self::Quota(_) | Self::Asked(_) | Self::Unlimited => (),
-        }
-    }
-
-    /// A request has succeeded now.
-    pub(crate) fn count_success_now(&self, last: Option<Ticket>) {
-        self.count_success(last, &Moment::now);
-    }
 }
 
 impl Limit for Source {
@@ -309,7 +300,7 @@ impl Limit for Source {
 
     fn admit(&self) -> Result<Option<Request>, Refused> {
         match self {
-            Self::Asked(limit) => limit.admit(),
+            Self::CallLimit(limit) => limit.admit(),
             Self::Budget(_) | Self::Quota(_) | Self::Store(_) | Self::Unlimited => Ok(None),
         }
     }
@@ -318,7 +309,7 @@ impl Limit for Source {
         match self {
             Self::Quota(quota) => quota.count_request(now),
             Self::Store(store) => store.deposit(),
-            Self::Budget(_) | Self::Asked(_) | Self::Unlimited => (),
+            Self::Budget(_) | Self::CallLimit(_) | Self::Unlimited => (),
         }
     }
 
@@ -326,7 +317,7 @@ impl Limit for Source {
         match self {
             Self::Quota(quota) => quota.count_success(last, clock),
             Self::Store(store) => store.succeeded(last),
-            Self::Budget(_) | Self::Asked(_) | Self::Unlimited => (),
+            Self::Budget(_) | Self::CallLimit(_) | Self::Unlimited => (),
         }
     }
 
@@ -334,14 +325,14 @@ impl Limit for Source {
         match self {
             Self::Quota(quota) => quota.hears_of_successes(),
             Self::Store(_) => true,
-            Self::Budget(_) | Self::Asked(_) | Self::Unlimited => false,
+            Self::Budget(_) | Self::CallLimit(_) | Self::Unlimited => false,
         }
     }
 
     fn origin(&self, began: Moment) -> u64 {
         match self {
             Self::Quota(quota) => quota.origin(began),
-            Self::Budget(_) | Self::Asked(_) | Self::Store(_) | Self::Unlimited => 0,
+            Self::Budget(_) | Self::CallLimit(_) | Self::Store(_) | Self::Unlimited => 0,
         }
     }
 }
@@ -380,7 +371,7 @@ impl Limit for Quota {
 
 impl Limit for CallLimit {
     fn source(&self) -> Source {
-        Source::Asked(self.clone())
+        Source::CallLimit(self.clone())
     }
 
     fn admit(&self) -> Result<Option<Request>, Refused> {
@@ -414,7 +405,7 @@ macro_rules! store {
 store!([S: Tickets + 'static] S);
 store!([] dyn Tickets);
 
-impl AnyBudget {
+impl AnyLimit {
     fn get(&self) -> &dyn Limit {
         match self {
             Self::Unlimited => &Unlimited,
@@ -428,7 +419,7 @@ impl AnyBudget {
     }
 }
 
-impl Limit for AnyBudget {
+impl Limit for AnyLimit {
     fn source(&self) -> Source {
         self.get().source()
     }
@@ -451,18 +442,18 @@ impl Limit for AnyBudget {
 }
 
 /// The variant of each kind.
-macro_rules! any_budget {
+macro_rules! any_limit {
     ($($(#[$gate:meta])? $kind:ident),+) => {$(
         $(#[$gate])?
-        impl From<$kind> for AnyBudget {
-            fn from(budget: $kind) -> Self {
-                Self::$kind(budget)
+        impl From<$kind> for AnyLimit {
+            fn from(limit: $kind) -> Self {
+                Self::$kind(limit)
             }
         }
     )+};
 }
 
-any_budget!(
+any_limit!(
     Budget,
     Quota,
     #[cfg(feature = "leased")]
@@ -471,15 +462,15 @@ any_budget!(
     LeasedQuota
 );
 
-impl From<Unlimited> for AnyBudget {
+impl From<Unlimited> for AnyLimit {
     fn from(_: Unlimited) -> Self {
         Self::Unlimited
     }
 }
 
-impl<B: Into<AnyBudget>> From<Option<B>> for AnyBudget {
-    fn from(budget: Option<B>) -> Self {
-        budget.map_or(Self::Unlimited, Into::into)
+impl<B: Into<AnyLimit>> From<Option<B>> for AnyLimit {
+    fn from(limit: Option<B>) -> Self {
+        limit.map_or(Self::Unlimited, Into::into)
     }
 }
 
@@ -494,7 +485,7 @@ impl fmt::Debug for Source {
         match self {
             Self::Budget(budget) => budget.fmt(f),
             Self::Quota(quota) => quota.fmt(f),
-            Self::Asked(limit) => limit.fmt(f),
+            Self::CallLimit(limit) => limit.fmt(f),
             Self::Store(_) => f.write_str("a store of tickets"),
             Self::Unlimited => Unlimited.fmt(f),
         }

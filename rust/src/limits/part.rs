@@ -1,7 +1,7 @@
 //! Passes that are split off a limit's first one.
 
 use crate::engine::{Handle, PassKind, Status};
-use crate::limits::budget::BudgetError;
+use crate::limits::error::LimitError;
 use crate::limits::ticket::Drawer;
 use crate::system::generation;
 
@@ -26,8 +26,8 @@ pub(crate) struct Part<R: Root> {
 }
 
 impl<R: Root> Part<R> {
-    pub(crate) fn new(limit: R) -> Result<Self, BudgetError> {
-        let handle = Some(split(&limit).map_err(BudgetError::of)?);
+    pub(crate) fn new(limit: R) -> Result<Self, LimitError> {
+        let handle = Some(split(&limit).map_err(LimitError::of)?);
         Ok(Self { limit, handle, drawer: Drawer::new(), tickets: 0, generation: generation() })
     }
 

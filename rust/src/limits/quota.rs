@@ -4,8 +4,8 @@ use crate::clock::{whole_millis, Moment};
 #[cfg(feature = "leased")]
 use crate::engine::{quota_allows, MAX_NUMBER, MAX_TICKETS};
 use crate::engine::{Handle, PassKind, RetryKind, Status, Used};
-use crate::limits::budget::BudgetError;
 use crate::limits::counters::{Counter, Counters};
+use crate::limits::error::LimitError;
 use crate::limits::part::{Part, Root};
 use crate::limits::ticket::{NoTicket, Ticket};
 use crate::limits::uses::{options_of_uses, Uses};
@@ -91,7 +91,7 @@ struct Passes {
 /// assert!(pass.draw().is_ok());
 /// drop(pass);
 /// assert_eq!(quota.close().ok(), Some(2));
-/// # Ok::<(), hikebox::BudgetError>(())
+/// # Ok::<(), hikebox::LimitError>(())
 /// ```
 #[derive(Debug)]
 pub struct QuotaPass {
@@ -133,8 +133,8 @@ impl Quota {
     ///
     /// # Errors
     ///
-    /// [`BudgetError`] says which argument is out of its range.
-    pub fn new(reserve: u64, share: f64, per: Duration) -> Result<Self, BudgetError> {
+    /// [`LimitError`] says which argument is out of its range.
+    pub fn new(reserve: u64, share: f64, per: Duration) -> Result<Self, LimitError> {
         Self::made(Duration::ZERO, Moment::now(), Terms::new(reserve, share, per)?, false)
     }
 
@@ -143,8 +143,8 @@ impl Quota {
     ///
     /// # Errors
     ///
-    /// [`BudgetError`] says which argument is out of its range.
-    pub fn new_at(began: Instant, reserve: u64, share: f64, per: Duration) -> Result<Self, BudgetError> {
+    /// [`LimitError`] says which argument is out of its range.
+    pub fn new_at(began: Instant, reserve: u64, share: f64, per: Duration) -> Result<Self, LimitError> {
         Self::made(Duration::ZERO, Moment::of(began), Terms::new(reserve, share, per)?, false)
     }
 
@@ -156,8 +156,8 @@ impl Quota {
     ///
     /// # Errors
     ///
-    /// [`BudgetError`] says which argument is out of its range.
-    pub fn new_of_host(moment: Duration, reserve: u64, share: f64, per: Duration) -> Result<Self, BudgetError> {
+    /// [`LimitError`] says which argument is out of its range.
+    pub fn new_of_host(moment: Duration, reserve: u64, share: f64, per: Duration) -> Result<Self, LimitError> {
         Self::made(moment, Moment::now().before(moment), Terms::new(reserve, share, per)?, false)
     }
 
@@ -175,13 +175,13 @@ impl Quota {
     /// assert!(pass.draw_at(at(58)).is_ok());
     /// assert!(pass.draw_at(at(61)).is_ok());
     /// assert!(pass.draw_at(at(61)).is_err());
-    /// # Ok::<(), hikebox::BudgetError>(())
+    /// # Ok::<(), hikebox::LimitError>(())
     /// ```
     ///
     /// # Errors
     ///
-    /// [`BudgetError`] says which argument is out of its range.
-    pub fn carrying(reserve: u64, share: f64, per: Duration) -> Result<Self, BudgetError> {
+    /// [`LimitError`] says which argument is out of its range.
+    pub fn carrying(reserve: u64, share: f64, per: Duration) -> Result<Self, LimitError> {
         Self::made(Duration::ZERO, Moment::now(), Terms::new(reserve, share, per)?, true)
     }
 
@@ -189,8 +189,8 @@ impl Quota {
     ///
     /// # Errors
     ///
-    /// [`BudgetError`] says which argument is out of its range.
-    pub fn carrying_at(began: Instant, reserve: u64, share: f64, per: Duration) -> Result<Self, BudgetError> {
+    /// [`LimitError`] says which argument is out of its range.
+    pub fn carrying_at(began: Instant, reserve: u64, share: f64, per: Duration) -> Result<Self, LimitError> {
         Self::made(Duration::ZERO, Moment::of(began), Terms::new(reserve, share, per)?, true)
     }
 
@@ -198,16 +198,16 @@ impl Quota {
     ///
     /// # Errors
     ///
-    /// [`BudgetError`] says which argument is out of its range.
-    pub fn carrying_of_host(moment: Duration, reserve: u64, share: f64, per: Duration) -> Result<Self, BudgetError> {
+    /// [`LimitError`] says which argument is out of its range.
+    pub fn carrying_of_host(moment: Duration, reserve: u64, share: f64, per: Duration) -> Result<Self, LimitError> {
         Self::made(moment, Moment::now().before(moment), Terms::new(reserve, share, per)?, true)
     }
 
-    fn made(moment: Duration, began: Moment, terms: Terms, carries: bool) -> Result<Self, BudgetError> {
+    fn made(moment: Duration, began: Moment, terms: Terms, carries: bool) -> Result<Self, LimitError> {
         let Terms { reserve, share, period } = terms;
         let terms = AtomicTerms::new(reserve, share);
         let made = Made { terms, carries, period, began, from: whole_millis(moment) };
-        let root = made.root(reserve, share).map_err(BudgetError::of)?;
+        let root = made.root(reserve, share).map_err(LimitError::of)?;
         Ok(Self::of(root, made))
     }
 
@@ -225,7 +225,7 @@ impl Quota {
         ///
         /// let quota = Quota::new(0, 0.5, Duration::from_secs(3600))?.counting_successes();
         /// let policy: Policy = r#"{"recurs":3}"#.parse()?;
-        /// assert_eq!(retry(&policy, &quota, || Err::<(), _>("gone")), Err(RetryError::BudgetRefused("gone")));
+        /// assert_eq!(retry(&policy, &quota, || Err::<(), _>("gone")), Err(RetryError::LimitRefused("gone")));
         /// assert_eq!(quota.seen().asked, 0);
         /// for _ in 0..2 {
         ///     assert_eq!(retry(&policy, &quota, || Ok::<_, ()>(5)), Ok(5));
@@ -270,11 +270,11 @@ impl Quota {
     ///
     /// # Errors
     ///
-    /// [`BudgetError`] says which argument is out of its range; then nothing changes.
-    pub fn set_terms(&self, reserve: u64, share: f64) -> Result<(), BudgetError> {
+    /// [`LimitError`] says which argument is out of its range; then nothing changes.
+    pub fn set_terms(&self, reserve: u64, share: f64) -> Result<(), LimitError> {
         let share = thousandths(share)?;
         let mut root = self.lock();
-        root.set_terms(reserve, share).map_err(BudgetError::of)?;
+        root.set_terms(reserve, share).map_err(LimitError::of)?;
         self.shared.made.terms.set(reserve, share);
         Ok(())
     }
@@ -283,8 +283,8 @@ impl Quota {
     ///
     /// # Errors
     ///
-    /// [`BudgetError::NoMemory`].
-    pub fn pass(&self) -> Result<QuotaPass, BudgetError> {
+    /// [`LimitError::NoMemory`].
+    pub fn pass(&self) -> Result<QuotaPass, LimitError> {
         Ok(QuotaPass { part: Part::new(self.clone())?, latest: None })
     }
 
@@ -574,17 +574,17 @@ const MAX_SHARE: f64 = 10_000.0;
 
 impl Terms {
     /// The terms in the engine's units, where they have such; what else they have to keep to, the engine says.
-    pub(crate) fn new(reserve: u64, share: f64, per: Duration) -> Result<Self, BudgetError> {
+    pub(crate) fn new(reserve: u64, share: f64, per: Duration) -> Result<Self, LimitError> {
         let period = u64::try_from(per.as_millis()).unwrap_or(u64::MAX);
         Ok(Self { reserve, share: thousandths(share)?, period })
     }
 }
 
 /// Thousandths of a ticket, of a share that is such a number.
-pub(crate) fn thousandths(share: f64) -> Result<u64, BudgetError> {
+pub(crate) fn thousandths(share: f64) -> Result<u64, LimitError> {
     let thousandths = (share * 1000.0).round();
     if !(0.0..=MAX_SHARE).contains(&thousandths) || share < 0.0 || (share > 0.0 && thousandths == 0.0) {
-        return Err(BudgetError::ShareOutOfRange);
+        return Err(LimitError::ShareOutOfRange);
     }
     Ok(thousandths as u64)
 }
@@ -592,12 +592,12 @@ pub(crate) fn thousandths(share: f64) -> Result<u64, BudgetError> {
 #[cfg(feature = "leased")]
 impl Terms {
     /// The same where the engine takes them, for a quota that is kept elsewhere.
-    pub(crate) fn checked(self) -> Result<Self, BudgetError> {
+    pub(crate) fn checked(self) -> Result<Self, LimitError> {
         let Self { reserve, period, .. } = self;
         match self {
-            _ if reserve > MAX_TICKETS => Err(BudgetError::ReserveTooLarge),
-            _ if period < MIN_PERIOD => Err(BudgetError::PeriodTooShort),
-            _ if period > MAX_NUMBER => Err(BudgetError::PeriodTooLong),
+            _ if reserve > MAX_TICKETS => Err(LimitError::ReserveTooLarge),
+            _ if period < MIN_PERIOD => Err(LimitError::PeriodTooShort),
+            _ if period > MAX_NUMBER => Err(LimitError::PeriodTooLong),
             terms => Ok(terms),
         }
     }

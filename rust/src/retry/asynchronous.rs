@@ -112,13 +112,13 @@ macro_rules! until_it_succeeds {
 #[cfg(feature = "tokio")]
 pub async fn retry_async<T, E, F, B: Grants>(
     policy: &Policy,
-    budget: &B,
+    limit: &B,
     call: impl FnMut() -> F,
 ) -> Result<T, RetryError<E, B::Refusal>>
 where
     F: Future<Output = Result<T, E>>,
 {
-    Retrying::new(policy, budget).call_async(call).await
+    Retrying::new(policy, limit).call_async(call).await
 }
 
 /// [`retry_async`] for an async closure that changes what it captures: see [`Retrying::call_async_mut`].
@@ -129,10 +129,10 @@ where
 #[cfg(all(feature = "tokio", hikebox_async_closures))]
 pub async fn retry_async_mut<T, E, B: Grants>(
     policy: &Policy,
-    budget: &B,
+    limit: &B,
     call: impl AsyncFnMut() -> Result<T, E>,
 ) -> Result<T, RetryError<E, B::Refusal>> {
-    Retrying::new(policy, budget).call_async_mut(call).await
+    Retrying::new(policy, limit).call_async_mut(call).await
 }
 
 /// The trait, over what a compiler takes for a call of futures.
@@ -152,7 +152,7 @@ macro_rules! retryable {
         /// # tokio::runtime::Builder::new_current_thread().enable_time().build().unwrap().block_on(async {
         /// let policy: Policy = r#"{"meet":[{"recurs":3},{"spaced":1}]}"#.parse()?;
         /// let budget = Budget::new(10)?;
-        /// let text = fetch.retry(&policy).budget(&budget).when(|error| error.raw_os_error().is_none()).run().await?;
+        /// let text = fetch.retry(&policy).limit(&budget).when(|error| error.raw_os_error().is_none()).run().await?;
         /// assert_eq!(text, "fetched");
         /// # Ok::<(), Box<dyn std::error::Error>>(())
         /// # }).unwrap();
@@ -162,7 +162,7 @@ macro_rules! retryable {
             Self: $($makes)*,
             $($where)*
         {
-            /// Retries the call by the policy; on no limit, unless you add one by [`Retrying::budget`].
+            /// Retries the call by the policy; on no limit, unless you add one by [`Retrying::limit`].
             fn retry(self, policy: &Policy) -> Retrying<'_, E, Async<Self>> {
                 Retrying::of(policy, &Unlimited, Async(self))
             }
@@ -307,7 +307,7 @@ impl<E, F, H: Hooked<E>, K: Clock, S: AsyncSleep, R: Random, L: MayRefuse>
 /// # #[cfg(feature = "tokio")]
 /// # tokio::runtime::Builder::new_current_thread().enable_time().build().unwrap().block_on(async {
 /// let (policy, budget): (Policy, _) = (r#"{"recurs":3}"#.parse()?, Budget::new(10)?);
-/// assert_eq!(fetch.retry(&policy).budget(&budget).await?, 200);
+/// assert_eq!(fetch.retry(&policy).limit(&budget).await?, 200);
 /// # Ok::<(), Box<dyn std::error::Error>>(())
 /// # }).unwrap();
 /// ```

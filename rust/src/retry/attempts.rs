@@ -51,9 +51,7 @@ impl<E, H: Hooked<E>, K: Clock, S, R: Random, L: MayRefuse> Retrying<'_, E, (), 
     /// A request whose first run succeeded.
     #[inline]
     pub(crate) fn succeeds_at_once(&self, held: &mut L::Held) {
-        if !held.succeeded() && self.rules.limit().hears_of_successes() {
-            self.rules.limit().count_success(None, &|| self.host.clock.moment());
-        }
+        held.succeeded_at_once(self.rules.limit(), &|| self.host.clock.moment());
     }
 
     /// The first run, which begins with the retry.
@@ -65,7 +63,7 @@ impl<E, H: Hooked<E>, K: Clock, S, R: Random, L: MayRefuse> Retrying<'_, E, (), 
     /// A run succeeded, which ends the retry.
     #[inline]
     pub(crate) fn succeeds(&self, progress: &mut Progress) {
-        if progress.is_asked() || self.rules.limit().hears_of_successes() {
+        if progress.has_request() || self.rules.limit().hears_of_successes() {
             self.succeeded(progress);
         }
     }

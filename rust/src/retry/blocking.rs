@@ -11,7 +11,7 @@ use crate::retry::progress::Progress;
 use crate::retry::retrying::Retrying;
 use std::fmt;
 
-/// Runs the call until it succeeds: again after each failure, as the policy says, with a ticket of the budget for each
+/// Runs the call until it succeeds: again after each failure, as the policy says, with a ticket of the limit for each
 /// retry. The first run takes none, and counts as a request of a [`Quota`](crate::Quota).
 ///
 /// ```
@@ -40,10 +40,10 @@ use std::fmt;
 #[inline]
 pub fn retry<T, E, B: Grants>(
     policy: &Policy,
-    budget: &B,
+    limit: &B,
     call: impl FnMut() -> Result<T, E>,
 ) -> Result<T, RetryError<E, B::Refusal>> {
-    Retrying::new(policy, budget).call(call)
+    Retrying::new(policy, limit).call(call)
 }
 
 /// Calls that block and can be retried: every function or closure that returns a `Result`.
@@ -56,14 +56,14 @@ pub fn retry<T, E, B: Grants>(
 /// let budget = Budget::new(10)?;
 /// let text = (|| std::fs::read_to_string("Cargo.toml"))
 ///     .retry(&policy)
-///     .budget(&budget)
+///     .limit(&budget)
 ///     .when(|error| error.kind() == ErrorKind::Interrupted)
 ///     .run()?;
 /// # assert!(text.contains("hikebox"));
 /// # Ok::<(), Box<dyn std::error::Error>>(())
 /// ```
 pub trait BlockingRetryable<T, E>: FnMut() -> Result<T, E> + Sized {
-    /// Retries the call by the policy; on no limit, unless you add one by [`Retrying::budget`].
+    /// Retries the call by the policy; on no limit, unless you add one by [`Retrying::limit`].
     fn retry(self, policy: &Policy) -> Retrying<'_, E, Blocking<Self>> {
         Retrying::of(policy, &Unlimited, Blocking(self))
     }

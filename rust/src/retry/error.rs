@@ -21,8 +21,8 @@ pub enum RetryError<E, L = Infallible> {
     ScheduleDone(E),
     /// The call failed, and the next run would have begun past the deadline.
     Deadline(E),
-    /// The call failed, and the budget, the quota or another limit granted no retry.
-    BudgetRefused(E),
+    /// The call failed, and the limit granted no retry.
+    LimitRefused(E),
     /// The call failed with an error that is not retried.
     NotRetried(E),
     /// The call failed, and the store of tickets failed.
@@ -39,7 +39,7 @@ macro_rules! last_of {
         match $error {
             Self::ScheduleDone(error)
             | Self::Deadline(error)
-            | Self::BudgetRefused(error)
+            | Self::LimitRefused(error)
             | Self::NotRetried(error)
             | Self::StoreFailed(_, error)
             | Self::Broken(_, error) => error,
@@ -66,7 +66,7 @@ impl<E: fmt::Display, L: fmt::Display> fmt::Display for RetryError<E, L> {
         match self {
             Self::ScheduleDone(error) => write!(f, "{error:#} (the schedule was done)"),
             Self::Deadline(error) => write!(f, "{error:#} (the deadline leaves no time for a retry)"),
-            Self::BudgetRefused(error) => write!(f, "{error:#} (the budget refused a retry)"),
+            Self::LimitRefused(error) => write!(f, "{error:#} (the limit refused a retry)"),
             Self::NotRetried(error) => write!(f, "{error:#} (not an error to be retried)"),
             Self::StoreFailed(store, error) => write!(f, "{error:#} (the store of retry tickets failed: {store})"),
             Self::Broken(cause, error) => write!(f, "{error:#} (the retry could not go on: {cause})"),

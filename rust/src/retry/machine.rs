@@ -2,7 +2,7 @@
 
 use crate::clock::whole_millis;
 use crate::engine::{self, Handle, Next, RetryKind, Run, Status, MAX_NUMBER, NO_DEADLINE};
-use crate::limits::budget::BudgetError;
+use crate::limits::error::LimitError;
 use crate::limits::grants::{Grants, Source, Tickets};
 use crate::limits::part::Root;
 use crate::limits::ticket::{NoTicket, StoreFailure, Ticket};
@@ -97,8 +97,8 @@ pub enum Ending {
     ScheduleDone,
     /// The last run failed, and the next one would have begun past the deadline.
     Deadline,
-    /// The last run failed, and the budget, the quota or the store had no ticket for a retry.
-    BudgetRefused,
+    /// The last run failed, and the limit had no ticket for a retry.
+    LimitRefused,
     /// It was cancelled.
     Cancelled,
     /// It could not go on.
@@ -126,9 +126,9 @@ impl Machine {
     ///
     /// # Errors
     ///
-    /// [`BudgetError::NoMemory`].
-    pub fn new(policy: &Policy, budget: &impl Grants<Refusal = Infallible>) -> Result<Self, BudgetError> {
-        Self::on(policy, budget.source(), NO_DEADLINE)
+    /// [`LimitError::NoMemory`].
+    pub fn new(policy: &Policy, limit: &impl Grants<Refusal = Infallible>) -> Result<Self, LimitError> {
+        Self::on(policy, limit.source(), NO_DEADLINE)
     }
 
     /// [`Machine::new`] with a deadline: no run but the first begins past this moment. If the schedule plans one later,
@@ -152,18 +152,18 @@ impl Machine {
     ///
     /// # Errors
     ///
-    /// [`BudgetError::NoMemory`].
+    /// [`LimitError::NoMemory`].
     pub fn until(
         policy: &Policy,
-        budget: &impl Grants<Refusal = Infallible>,
+        limit: &impl Grants<Refusal = Infallible>,
         deadline: Duration,
-    ) -> Result<Self, BudgetError> {
-        Self::on(policy, budget.source(), whole_millis(deadline))
+    ) -> Result<Self, LimitError> {
+        Self::on(policy, limit.source(), whole_millis(deadline))
     }
 
-    pub(crate) fn on(policy: &Policy, source: Source, deadline: u64) -> Result<Self, BudgetError> {
+    pub(crate) fn on(policy: &Policy, source: Source, deadline: u64) -> Result<Self, LimitError> {
         let mut machine = Self::unmade(source, deadline);
-        machine.make(policy).map_err(BudgetError::of)?;
+        machine.make(policy).map_err(LimitError::of)?;
         Ok(machine)
     }
 
@@ -185,7 +185,7 @@ impl Machine {
         policy.with(|policy| match source {
             Source::Budget(budget) => budget.with_own(|pass| handle.begin(policy, pass, *deadline)),
             Source::Quota(quota) => quota.with(|root| handle.begin(policy, root, *deadline)),
-            Source::Asked(_) | Source::Store(_) | Source::Unlimited => handle.begin_on_nothing(policy, *deadline),
+            Source::CallLimit(_) | Source::Store(_) | Source::Unlimited => handle.begin_on_nothing(policy, *deadline),
         })
     }
 
@@ -354,7 +354,7 @@ impl Machine {
                     }
                 }
             }
-            Source::Asked(_) | Source::Unlimited => (),
+            Source::CallLimit(_) | Source::Unlimited => (),
         }
     }
 
@@ -388,7 +388,7 @@ impl Drawn {
                     self.granted += 1;
                     self.ticket = Some(ticket);
                 }
-                Err(NoTicket::UsedUp { .. }) => self.ended = Some(Ending::BudgetRefused),
+                Err(NoTicket::UsedUp { .. }) => self.ended = Some(Ending::LimitRefused),
                 Err(NoTicket::StoreFailed { failure, .. }) => {
                     self.failure = Some(failure);
                     self.ended = Some(Ending::Broken(Cause::StoreFailed));
@@ -404,7 +404,7 @@ fn ended_of(how: u32) -> Ending {
         engine::ENDED_WON => Ending::Won,
         engine::ENDED_DONE => Ending::ScheduleDone,
         engine::ENDED_DEADLINE => Ending::Deadline,
-        engine::ENDED_REFUSED => Ending::BudgetRefused,
+        engine::ENDED_LIMIT_REFUSED => Ending::LimitRefused,
         engine::ENDED_CANCELLED => Ending::Cancelled,
         engine::ENDED_NO_MEMORY => Ending::Broken(Cause::NoMemory),
         _ => Ending::Broken(Cause::Backwards),

@@ -7,7 +7,7 @@ mod error;
 mod hooks;
 mod host;
 #[cfg(feature = "tower")]
-mod limited;
+mod layer;
 pub(crate) mod machine;
 mod options;
 mod progress;
@@ -15,10 +15,8 @@ mod repeating;
 mod retrying;
 mod rules;
 #[cfg(feature = "tower")]
-mod tower;
+mod service;
 
-#[cfg(feature = "tower")]
-pub use self::tower::{Noted, RetryPolicy, RetryWait, Since, Whenever};
 pub use crate::clock::{Clock, SystemClock};
 #[cfg(feature = "tokio")]
 pub use asynchronous::retry_async;
@@ -31,9 +29,11 @@ pub use error::RetryError;
 pub use hooks::{Hooked, Hooks, NoHook, PlainHooks, SharedHooks};
 pub use host::{Host, Random, Sleep, SystemHost, SystemRandom, SystemSleep};
 #[cfg(feature = "tower")]
-pub use limited::{LimitLayer, Limited, LimitedCall};
+pub use layer::{LayerError, RetryLayer};
 pub use machine::{Cause, Ending, Machine, Report, Step};
 pub use repeating::{poll_until, repeat, RepeatError, Repeating};
 #[cfg(feature = "tokio")]
 pub use repeating::{poll_until_async, repeat_async};
 pub use retrying::{Retrying, SharedRetrying};
+#[cfg(feature = "tower")]
+pub use service::{RetryCall, RetryService};

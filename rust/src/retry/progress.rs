@@ -2,9 +2,8 @@
 
 use crate::clock::{whole_millis, Moment};
 use crate::engine::{Run, LOST, MAX_NUMBER, NO_DEADLINE};
-use crate::limits::call_limit::Asked;
+use crate::limits::call_limit::Admitted;
 use crate::limits::grants::{Held, Limit};
-use crate::limits::ticket::Ticket;
 use crate::retry::error::RetryError;
 use crate::retry::machine::{Ending, Machine};
 use crate::retry::options::Options;
@@ -28,7 +27,7 @@ pub(crate) struct Progress {
     began: Moment,
     running: Option<Running>,
     /// The request, of a limit that was asked before the first run: the retry draws by it.
-    asked: Option<Arc<Asked>>,
+    request: Option<Arc<Admitted>>,
 }
 
 /// A retry that the engine has begun. Its moments are whole milliseconds.
@@ -48,7 +47,7 @@ impl Progress {
     /// One whose first run begins now, holding this.
     #[inline]
     pub(crate) fn new(now: Moment, held: impl Held) -> Self {
-        Self { began: now, running: None, asked: held.asked() }
+        Self { began: now, running: None, request: held.request() }
     }
 
     /// How long ago the first run began.
@@ -63,15 +62,21 @@ impl Progress {
     pub(crate) fn lost(&mut self, rules: &Rules<'_>, now: Moment, lost: &mut Lost) -> Result<Duration, Ending> {
         match lost.retry_after {
             None => self.planned(rules, now, lost).map(Duration::from_millis),
-            Some(retry_after) => self.asked(rules, now, lost, retry_after),
+            Some(retry_after) => self.planned_no_earlier(rules, now, lost, retry_after),
         }
     }
 
     /// The same where the error asks for a wait.
     #[cold]
-    fn asked(&mut self, rules: &Rules<'_>, now: Moment, lost: &mut Lost, asked: Duration) -> Result<Duration, Ending> {
-        let asked = rules.options.granted(asked, self.passed(now)).ok_or(Ending::Deadline)?;
-        Ok(asked.max(Duration::from_millis(self.planned(rules, now, lost)?)))
+    fn planned_no_earlier(
+        &mut self,
+        rules: &Rules<'_>,
+        now: Moment,
+        lost: &mut Lost,
+        retry_after: Duration,
+    ) -> Result<Duration, Ending> {
+        let least = rules.options.granted(retry_after, self.passed(now)).ok_or(Ending::Deadline)?;
+        Ok(least.max(Duration::from_millis(self.planned(rules, now, lost)?)))
     }
 
     /// The milliseconds until the start that is planned.
@@ -86,8 +91,8 @@ impl Progress {
     /// The first run failed: the engine's retry begins. It is put into its place, also where that ends it.
     #[cold]
     fn begin(&mut self, rules: &Rules<'_>, now: Moment, lost: &mut Lost) -> Result<u64, Ending> {
-        let limit: &dyn Limit = match &self.asked {
-            Some(asked) => asked,
+        let limit: &dyn Limit = match &self.request {
+            Some(request) => request,
             None => rules.limit(),
         };
         let running = self.running.insert(Running::unmade(limit, &rules.options, self.began));
@@ -100,30 +105,24 @@ impl Progress {
     /// Tells a limit that was asked that the run under way failed, whether it is retried or not.
     #[inline]
     pub(crate) fn failed(&self) {
-        if let Some(asked) = &self.asked {
-            asked.failed();
+        if let Some(request) = &self.request {
+            request.failed();
         }
     }
 
     /// The run under way succeeded, and ends the retry: this limit counts it, or the one that was asked.
     pub(crate) fn succeeded(&mut self, limit: &dyn Limit, clock: &dyn Fn() -> Moment) {
-        let last = self.won();
-        match &self.asked {
-            Some(asked) => asked.succeeded(),
+        let last = self.running.as_mut().and_then(|running| running.machine.succeeded());
+        match &self.request {
+            Some(request) => request.succeeded(),
             None => limit.count_success(last, clock),
         }
     }
 
     /// Whether a limit was asked before the first run.
     #[inline]
-    pub(crate) fn is_asked(&self) -> bool {
-        self.asked.is_some()
-    }
-
-    /// The run under way succeeded, and ends the retry: the ticket of the last retry, of a store.
-    #[inline]
-    pub(crate) fn won(&mut self) -> Option<Ticket> {
-        self.running.as_mut().and_then(|running| running.machine.succeeded())
+    pub(crate) fn has_request(&self) -> bool {
+        self.request.is_some()
     }
 
     /// Begins the run that was waited for. Past the deadline the retry is over. `None` is answered where nobody had to
@@ -143,23 +142,11 @@ impl Progress {
         running.resume(began, now).map(|()| Some(now))
     }
 
-    /// The same for a host that makes the run in any case: one past the deadline is the last, and uses its ticket too.
-    #[cfg(feature = "tower")]
-    pub(crate) fn begin_in_any_case(&mut self, clock: impl FnOnce() -> Moment) {
-        if let Some(running) = &mut self.running {
-            let now = match running.deadline {
-                Some(_) => running.told_at(self.began, clock()),
-                None => running.latest,
-            };
-            running.begins_at(now);
-        }
-    }
-
     /// The error of a retry that ended so.
     pub(crate) fn error<E, L>(&self, ended: Ending, error: E) -> RetryError<E, L> {
         let failure = || self.running.as_ref().and_then(|running| running.machine.store_failure());
         match ended {
-            Ending::BudgetRefused => RetryError::BudgetRefused(error),
+            Ending::LimitRefused => RetryError::LimitRefused(error),
             Ending::Broken(cause) => match failure() {
                 Some(failure) => RetryError::StoreFailed(failure.clone(), error),
                 None => RetryError::Broken(cause, error),

@@ -32,11 +32,11 @@ use std::time::{Duration, Instant};
 /// ```
 ///
 /// Calls take `&self`, so its closures are `Fn`: one that counts uses a `Cell` or an atomic. A clone has the same
-/// settings and draws on the same budget; it is `Send` and `Sync` if its closures are. A call that succeeds at once
+/// settings and draws on the same limit; it is `Send` and `Sync` if its closures are. A call that succeeds at once
 /// takes no memory and no lock, except on a limit that hears of each call: a [`Quota`](crate::Quota) counts it by a
 /// pass that few threads share, and a [`CallLimit`](crate::CallLimit) lends it a handle.
 ///
-/// It borrows its policy and its budget. To keep one, make it own them ([`Retrying::into_owned`]), and give it a type
+/// It borrows its policy and its limit. To keep one, make it own them ([`Retrying::into_owned`]), and give it a type
 /// that you can name ([`Retrying::shared`]):
 ///
 /// ```
@@ -70,7 +70,7 @@ pub struct Retrying<'a, E, F = (), H = PlainHooks<E>, M = SystemHost, L = Infall
     error: PhantomData<fn(&E) -> L>,
 }
 
-/// A [`Retrying`] to keep: it owns its policy and its budget, and its hooks have one type. On a
+/// A [`Retrying`] to keep: it owns its policy and its limit, and its hooks have one type. On a
 /// [`CallLimit`](crate::CallLimit) it is a `SharedRetrying<E, Refused>`.
 pub type SharedRetrying<E, L = Infallible> = Retrying<'static, E, (), SharedHooks<E>, SystemHost, L>;
 
@@ -79,30 +79,24 @@ impl<'a, E> Retrying<'a, E> {
     #[inline]
     pub fn new<B: Grants>(
         policy: &'a Policy,
-        budget: &'a B,
+        limit: &'a B,
     ) -> Retrying<'a, E, (), PlainHooks<E>, SystemHost, B::Refusal> {
-        Retrying::of(policy, budget, ())
+        Retrying::of(policy, limit, ())
     }
 }
 
 impl<'a, E, F, L> Retrying<'a, E, F, PlainHooks<E>, SystemHost, L> {
     #[inline]
-    pub(super) fn of(policy: &'a Policy, budget: &'a impl Grants<Refusal = L>, call: F) -> Self {
-        Self {
-            rules: Rules::new(policy, budget),
-            call,
-            hooks: Hooks::plain(),
-            host: Host::system(),
-            error: PhantomData,
-        }
+    pub(super) fn of(policy: &'a Policy, limit: &'a impl Grants<Refusal = L>, call: F) -> Self {
+        Self { rules: Rules::new(policy, limit), call, hooks: Hooks::plain(), host: Host::system(), error: PhantomData }
     }
 }
 
 impl<'a, E, F, H, M, L> Retrying<'a, E, F, H, M, L> {
     /// The limit on which each retry draws a ticket.
-    pub fn budget<B: Grants>(self, budget: &'a B) -> Retrying<'a, E, F, H, M, B::Refusal> {
+    pub fn limit<B: Grants>(self, limit: &'a B) -> Retrying<'a, E, F, H, M, B::Refusal> {
         Retrying {
-            rules: Rules { limit: CowLimit::Borrowed(budget), ..self.rules },
+            rules: Rules { limit: CowLimit::Borrowed(limit), ..self.rules },
             call: self.call,
             hooks: self.hooks,
             host: self.host,
@@ -142,7 +136,7 @@ impl<'a, E, F, H, M, L> Retrying<'a, E, F, H, M, L> {
         self
     }
 
-    /// Makes it own its policy and its budget, for a field of a type or for a spawned task.
+    /// Makes it own its policy and its limit, for a field of a type or for a spawned task.
     ///
     /// ```
     /// # #[cfg(feature = "tokio")]
@@ -155,7 +149,7 @@ impl<'a, E, F, H, M, L> Retrying<'a, E, F, H, M, L> {
     ///
     /// let call = {
     ///     let (policy, budget): (Policy, _) = (r#"{"recurs":3}"#.parse()?, Budget::new(10)?);
-    ///     fetch.retry(&policy).budget(&budget).into_owned().run()
+    ///     fetch.retry(&policy).limit(&budget).into_owned().run()
     /// };
     /// assert_eq!(tokio::spawn(call).await??, 200);
     /// # Ok::<(), Box<dyn std::error::Error>>(())
@@ -171,7 +165,7 @@ impl<'a, E, F, H, M, L> Retrying<'a, E, F, H, M, L> {
         }
     }
 
-    /// Makes it own its policy and its budget, and puts its hooks behind one pointer, so that you can name its type:
+    /// Makes it own its policy and its limit, and puts its hooks behind one pointer, so that you can name its type:
     /// [`SharedRetrying`]. Hooks cannot be changed after that.
     pub fn shared(self) -> Retrying<'static, E, F, SharedHooks<E>, M, L>
     where
@@ -262,7 +256,7 @@ impl<E, F, H, M, L> fmt::Debug for Retrying<'_, E, F, H, M, L> {
     fn fmt(&self, f: &mut fmt::Formatter<'_>) -> fmt::Result {
         f.debug_struct("Retrying")
             .field("policy", &self.rules.policy)
-            .field("budget", &self.rules.limit().source())
+            .field("limit", &self.rules.limit().source())
             .field("max_retry_after", &self.rules.options.max_retry_after)
             .field("deadline", &self.rules.options.deadline)
             .finish_non_exhaustive()

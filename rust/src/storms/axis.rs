@@ -2,7 +2,7 @@
 
 use crate::clock::whole_millis;
 use crate::engine::{self, MAX_TICKETS, ON_BUDGET, ON_QUOTA};
-use crate::limits::budget::BudgetError;
+use crate::limits::error::LimitError;
 use crate::limits::quota::thousandths;
 use crate::storms::population::MAX_SHARES;
 use crate::storms::report::StormReport;
@@ -20,7 +20,7 @@ pub struct Axis {
     /// The values in the engine's units.
     pub(super) values: Vec<u64>,
     place: Place,
-    fault: Option<BudgetError>,
+    fault: Option<LimitError>,
 }
 
 /// Puts a value among the parameters of a storm.
@@ -88,7 +88,7 @@ impl Axis {
     /// The share of the quota, for the storms that have one: 0.2 is a retry for every five requests. It is counted in
     /// thousandths.
     pub fn share(values: impl IntoIterator<Item = f64>) -> Self {
-        let shares: Vec<Result<u64, BudgetError>> = values.into_iter().map(thousandths).collect();
+        let shares: Vec<Result<u64, LimitError>> = values.into_iter().map(thousandths).collect();
         let fault = shares.iter().find_map(|share| share.err());
         let put = |storm, share| engine::Storm { share, ..storm };
         Self { fault, ..Self::of_limit("share", ON_QUOTA, shares.into_iter().flatten(), put) }

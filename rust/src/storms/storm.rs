@@ -2,8 +2,8 @@
 
 use crate::clock::whole_millis;
 use crate::engine::{self, Handle, PassKind, Phase, Status, ON_BUDGET, ON_NOTHING, ON_QUOTA};
-use crate::limits::budget::BudgetError;
 use crate::limits::call_limit::{tokens as in_thousandths, CallLimit, Terms as LimitTerms};
+use crate::limits::error::LimitError;
 use crate::limits::quota::Terms;
 use crate::policy::Policy;
 use crate::storms::population::{self, Population};
@@ -56,7 +56,7 @@ pub struct Storm {
     /// Whether there is a brown-out.
     is_slow: bool,
     /// Why what the retries draw on is no budget, or no quota.
-    fault: Option<BudgetError>,
+    fault: Option<LimitError>,
 }
 
 /// Why a storm, a sweep or a border is not played. Its text is that of the error in it, so it has no source.
@@ -94,7 +94,7 @@ pub enum StormError {
         got: u64,
     },
     /// The limit of the budget, or a term of the quota, is out of range.
-    Tickets(BudgetError),
+    Tickets(LimitError),
     /// A sweep has no line.
     NoLine,
     /// A sweep is along a limit that none of its storms has.
@@ -275,7 +275,7 @@ impl Storm {
         self
     }
 
-    /// The moment at which the storm ends, at most two hours: by default a minute after the last request.
+    /// The moment at which the storm ends, at most two hours: by default a minute after [`Storm::seconds`].
     pub fn until(mut self, until: Duration) -> Self {
         self.until = Some(whole_millis(until));
         self
@@ -304,7 +304,7 @@ impl Storm {
     /// The retries draw on a budget of this many tickets, at most 4,294,967,296.
     pub fn budget(mut self, limit: u64) -> Self {
         (self.parameters.draws_on, self.parameters.limit) = (ON_BUDGET, limit);
-        self.fault = Handle::<PassKind>::fixed(limit).err().map(BudgetError::of);
+        self.fault = Handle::<PassKind>::fixed(limit).err().map(LimitError::of);
         self
     }
 
@@ -313,7 +313,7 @@ impl Storm {
         self.fault = match Terms::new(reserve, share, per) {
             Ok(Terms { reserve, share, period }) => {
                 self.parameters = engine::Storm { draws_on: ON_QUOTA, reserve, share, period, ..self.parameters };
-                Handle::quota(0, reserve, share, period, false).err().map(BudgetError::of)
+                Handle::quota(0, reserve, share, period, false).err().map(LimitError::of)
             }
             Err(fault) => Some(fault),
         };

@@ -1,9 +1,11 @@
-//! Files and their locks, which no forked child keeps, and the machine's uptime.
+//! Files and their locks, which no forked child keeps, and the machine's uptime, on Linux and macOS.
 
-use std::fs::File;
+use std::fs::{self, File};
 use std::io;
 use std::ops::Deref;
+use std::os::unix::fs::{FileExt, MetadataExt};
 use std::os::unix::io::AsRawFd;
+use std::path::Path;
 use std::sync::atomic::{AtomicI32, AtomicUsize, Ordering};
 use std::thread;
 use std::time::Duration;
@@ -120,18 +122,71 @@ fn flock(file: &File, operation: i32) -> io::Result<()> {
     }
 }
 
-/// How long ago the machine started, also while it slept, as this process's time namespace has it. Nobody can set this
-/// clock.
+/// Whether an open file is the one at this path.
+pub(crate) fn is_at(file: &File, path: &Path) -> bool {
+    match (file.metadata(), fs::metadata(path)) {
+        (Ok(own), Ok(found)) => (own.dev(), own.ino()) == (found.dev(), found.ino()),
+        _ => false,
+    }
+}
+
+/// Reads a file from its first byte on: how many there are, or that there are more than have room.
+pub(crate) fn read_whole(file: &File, bytes: &mut [u8]) -> io::Result<usize> {
+    loop {
+        match file.read_at(bytes, 0) {
+            Err(error) if error.kind() == io::ErrorKind::Interrupted => (),
+            read => return read,
+        }
+    }
+}
+
+/// Writes these bytes over the first ones of a file.
+pub(crate) fn write_whole(file: &File, bytes: &[u8]) -> io::Result<()> {
+    file.write_all_at(bytes, 0)
+}
+
+/// The clock that counts from the machine's start, also while it sleeps, and that nobody can set.
+#[cfg(target_os = "linux")]
+const UPTIME: libc::clockid_t = libc::CLOCK_BOOTTIME;
+#[cfg(target_vendor = "apple")]
+const UPTIME: libc::clockid_t = libc::CLOCK_MONOTONIC_RAW;
+
+/// How long ago the machine started, as this process's time namespace has it.
 pub(crate) fn boottime() -> io::Result<Duration> {
     let mut time = std::mem::MaybeUninit::<libc::timespec>::uninit();
     // SAFETY: the call writes the time to the place that it is handed, and it is read only where it answers 0.
     let time = unsafe {
-        if libc::clock_gettime(libc::CLOCK_BOOTTIME, time.as_mut_ptr()) != 0 {
+        if libc::clock_gettime(UPTIME, time.as_mut_ptr()) != 0 {
             return Err(io::Error::last_os_error());
         }
         time.assume_init()
     };
     Ok(Duration::new(u64::try_from(time.tv_sec).unwrap_or(0), u32::try_from(time.tv_nsec).unwrap_or(0)))
+}
+
+/// The name of the present start of the machine.
+#[cfg(target_os = "linux")]
+pub(crate) fn boot() -> io::Result<[u8; 36]> {
+    const PATH: &str = "/proc/sys/kernel/random/boot_id";
+    // (a chroot without /proc has none)
+    let missing = |error| io::Error::new(io::ErrorKind::Other, format!("{PATH}: {error}"));
+    named(fs::read_to_string(PATH).map_err(missing)?.trim().as_bytes())
+}
+
+#[cfg(target_vendor = "apple")]
+pub(crate) fn boot() -> io::Result<[u8; 36]> {
+    let (mut name, mut size) = ([0_u8; 64], 64);
+    let of = b"kern.bootsessionuuid\0".as_ptr().cast();
+    // SAFETY: the call writes at most so many bytes to the place that it is handed.
+    match unsafe { libc::sysctlbyname(of, name.as_mut_ptr().cast(), &mut size, std::ptr::null_mut(), 0) } {
+        0 => named(name.split(|byte| *byte == 0).next().unwrap_or_default()),
+        _ => Err(io::Error::last_os_error()),
+    }
+}
+
+fn named(name: &[u8]) -> io::Result<[u8; 36]> {
+    let why = || io::Error::new(io::ErrorKind::InvalidData, "expected a name of the machine's start of 36 bytes");
+    name.try_into().map_err(|_| why())
 }
 
 #[cfg(test)]

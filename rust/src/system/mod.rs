@@ -1,34 +1,35 @@
 //! Calls of the system that the standard library doesn't have, as safe ones, and values that threads and forks share.
 #![allow(unsafe_code)]
 
-#[cfg(feature = "leased")]
+#[cfg(all(feature = "leased", any(target_os = "linux", target_vendor = "apple")))]
+mod files;
+#[cfg(all(feature = "leased", not(any(target_os = "linux", target_vendor = "apple"))))]
+#[path = "no_files.rs"]
 mod files;
 mod made_once;
-#[cfg(feature = "tower")]
-mod to_take;
 mod try_lock;
 
 #[cfg(feature = "leased")]
-pub(crate) use files::{boottime, try_lock, unlock, OwnFile};
+pub(crate) use files::{boot, boottime, is_at, read_whole, try_lock, unlock, write_whole, OwnFile};
 pub(crate) use made_once::MadeOnce;
 use std::sync::atomic::{AtomicBool, AtomicPtr, AtomicU64, Ordering};
 #[cfg(not(feature = "tokio"))]
 use std::time::Instant;
-#[cfg(feature = "tower")]
-pub(crate) use to_take::ToTake;
 pub(crate) use try_lock::TryLock;
 
 /// What is called around a fork.
+#[cfg(unix)]
 type Handler = Option<unsafe extern "C" fn()>;
 
 extern "C" {
+    #[cfg(unix)]
     fn pthread_atfork(prepare: Handler, parent: Handler, child: Handler) -> i32;
-    #[cfg(not(feature = "tokio"))]
+    #[cfg(all(not(feature = "tokio"), target_os = "linux"))]
     fn clock_gettime(clock: i32, time: *mut Timespec) -> i32;
 }
 
 /// A time as the system tells it, on the 64-bit machines of this crate.
-#[cfg(not(feature = "tokio"))]
+#[cfg(all(not(feature = "tokio"), target_os = "linux"))]
 #[repr(C)]
 struct Timespec {
     seconds: i64,
@@ -36,17 +37,25 @@ struct Timespec {
 }
 
 /// Linux's monotonic clock.
-#[cfg(not(feature = "tokio"))]
+#[cfg(all(not(feature = "tokio"), target_os = "linux"))]
 const CLOCK_MONOTONIC: i32 = 1;
 
 /// The nanoseconds that the system's monotonic clock, which is that of an [`Instant`], tells.
-#[cfg(not(feature = "tokio"))]
+#[cfg(all(not(feature = "tokio"), target_os = "linux"))]
 #[inline]
 pub(crate) fn monotonic() -> u64 {
     let mut time = Timespec { seconds: 0, nanos: 0 };
     // SAFETY: the call writes the time alone, and Linux always has this clock.
     unsafe { clock_gettime(CLOCK_MONOTONIC, &mut time) };
     time.seconds as u64 * 1_000_000_000 + time.nanos as u64
+}
+
+/// On other systems the nanoseconds since this was first asked for: there the standard library alone reads that clock.
+#[cfg(all(not(feature = "tokio"), not(target_os = "linux")))]
+pub(crate) fn monotonic() -> u64 {
+    static FIRST: MadeOnce<Instant> = MadeOnce::new();
+    let first = FIRST.get(Instant::now);
+    Instant::now().saturating_duration_since(first).as_nanos() as u64
 }
 
 /// An instant, and what [`monotonic`] told at it: the same pair each time.
@@ -86,6 +95,7 @@ static GENERATION: AtomicU64 = AtomicU64::new(0);
 static IS_REGISTERED: AtomicBool = AtomicBool::new(false);
 
 /// Counts a fork, in the child. It calls nothing but what is safe there, whatever the parent's other threads did.
+#[cfg(unix)]
 unsafe extern "C" fn count_fork() {
     GENERATION.fetch_add(1, Ordering::Relaxed);
     #[cfg(feature = "leased")]
@@ -111,13 +121,16 @@ pub(crate) fn is_generation(number: u64) -> bool {
 /// then called several times around each fork. No thread goes on before they are registered.
 #[cold]
 fn register() {
-    #[cfg(feature = "leased")]
+    #[cfg(all(unix, feature = "leased"))]
     let (before, after): (Handler, Handler) = (Some(files::before_fork), Some(files::after_fork));
-    #[cfg(not(feature = "leased"))]
+    #[cfg(all(unix, not(feature = "leased")))]
     let (before, after): (Handler, Handler) = (None, None);
     // SAFETY: the functions are called around each fork, and change atomic numbers and own files alone. (Where there is no
     // memory to register them, children are taken for their parent.)
-    unsafe { pthread_atfork(before, after, Some(count_fork)) };
+    #[cfg(unix)]
+    unsafe {
+        pthread_atfork(before, after, Some(count_fork))
+    };
     IS_REGISTERED.store(true, Ordering::Release);
 }
 

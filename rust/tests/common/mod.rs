@@ -106,7 +106,7 @@ pub fn number_in_the_end(draw: impl Fn() -> Result<Ticket, NoTicket>) -> Option<
 #[cfg(feature = "leased")]
 pub fn is_locked(failed: &NoTicket) -> bool {
     let error = failed.failure().and_then(|failure| failure.get().downcast_ref::<hikebox::StoreError>());
-    matches!(error, Some(hikebox::StoreError::Locked))
+    matches!(error, Some(hikebox::StoreError::Locked(_)))
 }
 
 /// Waits until this happens, for a minute at most.
