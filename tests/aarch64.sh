@@ -1,5 +1,6 @@
 #!/usr/bin/env bash
-# Tests the files of dist/aarch64, or of the folder aarch64 in HIKEBOX_LIB_DIR, under qemu. In C: each group of tests
+# Tests the files of dist/aarch64, or of the folder aarch64 in HIKEBOX_LIB_DIR, under qemu. zsched: what it prints for each
+# command line of tests/program.sh. In C: each group of tests
 # of the library, linked and loaded, 300 random policies beside x86-64, storms, threads, and each growth of memory
 # refused in turn. In Rust: a program over the crate, and tests of the crate. In Python: the wheel in Debian's Python,
 # and tests of the package. The same groups in C run with musl. Debian's arm64 Python, musl and standard library of
@@ -30,8 +31,19 @@ tests_files() {
   [ -n "$declared" ] && [ "$exported" = "$declared" ] || wrong "libhikebox.so has other calls than the one for x86-64"
   beside=$(readelf -d "$dist/aarch64/libhikebox.so" | sed -n 's/.*(NEEDED).*\[\(.*\)\]/\1/p' | tr '\n' ' ')
   [ "$beside" = 'libc.so.6 ' ] || wrong "libhikebox.so needs $beside"
-  [ "$(readelf -V "$dist/aarch64/libhikebox.so" | grep -oE 'GLIBC_2\.[0-9]+' | sort -u)" = GLIBC_2.17 ] ||
-    wrong "libhikebox.so asks for another glibc"
+  asks_glibc libhikebox.so
+}
+
+# asks_glibc FILE: that it asks for no later glibc than 2.17
+asks_glibc() {
+  [ "$(readelf -V "$dist/aarch64/$1" | grep -oE 'GLIBC_2\.[0-9]+' | sort -u)" = GLIBC_2.17 ] || wrong "$1 asks for another glibc"
+}
+
+tests_program() {
+  asks_glibc zsched
+  printf '#!/bin/sh\nexec %s %s "$@"\n' "${emulates[*]}" "$dist/aarch64/zsched" >"$work/zsched"
+  chmod +x "$work/zsched"
+  HIKEBOX_ZSCHED=$work/zsched "$top/tests/program.sh" || wrong zsched
 }
 
 builds_c() {
@@ -55,20 +67,10 @@ tests_groups() {
 
 # 300 random policies along a course: what x86-64 prints, with the same status.
 tests_policies() {
-  local options policy steps from took input word program status
-  python3 "$top/tests/random_policies.py" 300 23 >"$work/policies"
-  while IFS=$'\t' read -r options policy; do
-    read -r steps from took input word <<<"$options"
-    for program in "$work/x86_64" "${emulates[*]} $work/linked"; do
-      status=0
-      # shellcheck disable=SC2086
-      printf '%s' "$policy" | $program plan "$steps" "$from" "$took" "$input,7,0,60" "seed:$word" || status=$?
-      echo "status $status"
-    done >"$work/out"
-    awk '{ lines[NR] = $0 }
-      END { for (at = 1; at <= NR / 2; at++) if (lines[at] != lines[at + NR / 2]) exit 1; exit NR % 2 || NR < 2 }' "$work/out" ||
-      wrong "plan $policy $options: $(cat "$work/out")"
-  done <"$work/policies"
+  python3 "$top/tests/random_policies.py" 300 23 | sed -E 's/^([^ ]+ [^ ]+ [^ ]+ [^ ]+) ([^\t]+)/\1,7,0,60 seed:\2/' >"$work/policies"
+  "$work/x86_64" plans <"$work/policies" >"$work/want"
+  "${emulates[@]}" "$work/linked" plans <"$work/policies" >"$work/out" || wrong "plans: $?"
+  [ "$(grep -c '^status ' "$work/want")" = 300 ] && diff "$work/want" "$work/out" || wrong "other plans than on x86-64"
 }
 
 # Each growth refused in turn, as tests/library.sh does it for x86-64.
@@ -189,6 +191,7 @@ tests_python() {
 }
 
 tests_files
+tests_program
 builds_c
 tests_groups
 tests_policies
@@ -202,6 +205,6 @@ else
   left_out=(musl Rust Python)
 fi
 [ "$failed" = 0 ] || exit 1
-parts='C, musl, Rust and Python'
-[ ${#left_out[@]} = 0 ] || parts="C; left out, since Debian's arm64 packages can't be fetched: ${left_out[*]}"
+parts='zsched, C, musl, Rust and Python'
+[ ${#left_out[@]} = 0 ] || parts="zsched and C; left out, since Debian's arm64 packages can't be fetched: ${left_out[*]}"
 echo "tests/aarch64.sh: $parts"

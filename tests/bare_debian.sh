@@ -1,11 +1,12 @@
 #!/usr/bin/env bash
-# tests/bare_debian.sh [--paste] FOLDER [SUITE]: what README.md says is done in a bare Debian, which debootstrap makes
-# in the folder (or made there before), bookworm where no other suite is named (bullseye, trixie). A user with sudo
-# installs what README names, this repository is cloned, and the lines for Python, Rust, C and the shell are pasted by
-# the user, and by root. The steps of the Dockerfile are made in two more bare systems beside, and what comes of them
-# is run. Then, but with --paste, bin/test runs: as a user, who is told at once what is missing, quick, as root, which
-# installs it, and as the user again. It wants root, debootstrap and the network, and is no part of bin/test;
-# HIKEBOX_LIB_DIR names other built files than those of dist/. Each step is told with its seconds; the folders are
+# tests/bare_debian.sh [--paste] FOLDER [SUITE [ARCH]]: what README.md says is done in a bare Debian, which debootstrap
+# makes in the folder (or made there before), bookworm where no other suite is named (bullseye, trixie), for amd64 or
+# arm64. What README names is installed, this repository is cloned, and all blocks of README are pasted at once into a
+# shell on a terminal (tests/pasted.py): into bash and into zsh, by root and by two users. For bookworm on amd64 the steps
+# of the Dockerfile are made in two more bare systems beside, and what comes of them is run. Then, but with --paste,
+# bin/test runs: as a user, who is told at once what is missing, as root, who is asked first, and as the user again. It
+# wants root, debootstrap and the network, and for arm64 qemu-user-static and binfmt_misc; it is no part of bin/test.
+# HIKEBOX_LIB_DIR names another folder that bin/dist made than dist/. Each step is told with its seconds; the folders are
 # left.
 set -euo pipefail
 top=$(cd "$(dirname "${BASH_SOURCE[0]}")/.." && pwd)
@@ -15,9 +16,10 @@ wrong_words() { sed -n '2,/^set /{s/^# \{0,1\}//p}' "${BASH_SOURCE[0]}" >&2; exi
 [ -n "${HIKEBOX_UNSHARED:-}" ] || HIKEBOX_UNSHARED=1 exec unshare --mount --propagation private "$0" "$@"
 tests_too=true
 [ "${1:-}" != --paste ] || { tests_too=false; shift; }
-[ $# = 1 ] || [ $# = 2 ] || wrong_words
+[ $# -ge 1 ] && [ $# -le 3 ] || wrong_words
 folder=$(realpath -m "$1")
 suite=${2:-bookworm}
+arch=${3:-amd64}
 work=$(mktemp -d)
 trap 'rm -rf "$work"' EXIT
 failed=0
@@ -40,23 +42,10 @@ step() {
 }
 
 as_root() { chroot "$folder" su - -c "cd /root; export DEBIAN_FRONTEND=noninteractive; $1"; }
-as_user() { chroot "$folder" su - ann -c "$1"; }
+as_user() { chroot "$folder" su - "$1" -c "$2"; }
 
-# block KIND WORDS: the block of this kind in README.md that has these words
-block() {
-  awk -v kind="$1" -v words="$2" '
-    /^```/ { if (!inside) { inside = $0 == "```" kind; text = ""; next } if (inside && index(text, words)) printf "%s", text; inside = 0; next }
-    inside { text = text $0 "\n" }' "$top/README.md"
-}
-
-# codes WORDS: the code in the line of README.md that has these words, a line each
-codes() { grep -F -- "$1" "$top/README.md" | grep -oE '`[^`]+`' | tr -d '`'; }
-
-# activates: how README.md says that the environment of Python is entered
-activates() { grep -oE '\. [^ ]+/bin/activate' "$top/README.md" | head -n 1; }
-
-# installs WORDS: how README.md says that the packages for this are installed
-installs() { grep -F -- "$1" "$top/README.md" | grep -oE 'apt-get install -y [a-z0-9 -]+' | head -n 1; }
+# The commands by which README.md says that the packages are installed.
+installs() { grep -oE '`apt-get [^`]+`' "$top/README.md" | tr -d '`'; }
 
 # mounts FOLDER: what programs in it want of the system
 mounts() {
@@ -68,11 +57,14 @@ mounts() {
 }
 
 makes_system() {
-  [ -e "$folder/etc/debian_version" ] || debootstrap --variant=minbase "$suite" "$folder" http://deb.debian.org/debian
+  [ -e "$folder/etc/debian_version" ] || debootstrap --arch="$arch" --variant=minbase "$suite" "$folder" http://deb.debian.org/debian
   [ -e "$folder.tar" ] || tar -C "$folder" -cf "$folder.tar" .
   mounts "$folder"
   [ ! -e "$folder/opt/rattle" ]
-  [ -d "$folder/home/ann" ] || as_root 'useradd -m -s /bin/bash ann'
+  local user
+  for user in ann bob; do [ -d "$folder/home/$user" ] || as_root "useradd -m -s /bin/bash $user"; done
+  # (zsh asks a new user what to write there)
+  touch "$folder/root/.zshrc" "$folder/home/ann/.zshrc" "$folder/home/bob/.zshrc"
 }
 
 # The repository to clone: HEAD, with other built files where these are named.
@@ -81,16 +73,13 @@ makes_repository() {
   git clone -q "file://$top" "$work/hikebox"
   [ -z "$dist" ] || (
     cd "$work/hikebox"
-    for file in zsched libhikebox.a libhikebox.so hikebox.h aarch64; do cp -r "$dist/$file" dist/; done
-    rm -f dist/*.whl dist/aarch64/*.whl
-    for machine in x86_64 aarch64; do
-      where=dist$([ "$machine" = x86_64 ] || echo /aarch64)
-      HIKEBOX_PLATFORM=$machine python3 python/build_backend.py wheel "$where"
-      mkdir -p "rust/lib/$machine"
-      cp "$where/libhikebox.a" "rust/lib/$machine"
+    rm -rf dist
+    cp -r "$dist" dist
+    for file in dist/libhikebox.a dist/*/libhikebox.a; do
+      place=${file%/libhikebox.a}
+      place=${place#dist}
+      install -D -m 644 "$file" "rust/lib/${place:-x86_64}/libhikebox.a"
     done
-    (cd dist && ../bin/digest zsched libhikebox.a libhikebox.so hikebox.h hikebox-*.whl aarch64/*) >"$work/SOURCES"
-    cp "$work/SOURCES" dist/SOURCES
     git add -A dist rust
     git -c user.name=x -c user.email=x@x commit -qm 'dist: built files that are tried'
   )
@@ -98,69 +87,19 @@ makes_repository() {
   git clone -q --bare "$work/hikebox" "$folder/srv/hikebox.git"
 }
 
-# What README.md says to install first, by a user with sudo. (sudo itself is the system's.)
-installs_first() {
+# What README.md names, and zsh.
+installs_packages() {
   local line
-  line=$(grep -oE '`apt-get update && apt-get install -y git [^`]+`' "$top/README.md" | tr -d '`')
-  as_root 'apt-get update && apt-get install -y --no-install-recommends sudo'
-  echo 'ann ALL=(ALL) NOPASSWD: ALL' >"$folder/etc/sudoers.d/ann"
-  as_user "${line//apt-get/sudo apt-get}"
-  as_root "git config --system safe.directory '*'"
+  while IFS= read -r line; do as_root "$line"; done < <(installs)
+  as_root "apt-get install -y --no-install-recommends zsh && git config --system safe.directory '*'"
 }
 
-gets_it() {
-  as_user 'rm -rf hikebox hikebox-venv && git clone -q /srv/hikebox.git hikebox'
-  as_user "cd hikebox && set -e; $(block sh 'python3 -m venv')"
-}
-
-pastes_python() {
-  block python 'from hikebox' >"$folder/home/ann/pasted.py"
-  [ "$(as_user "cd hikebox && $(activates) && python3 <../pasted.py")" = '# Hikebox' ]
-}
-
-pastes_shell() {
-  block sh 'hikebox run' >"$folder/home/ann/pasted.sh"
-  as_user "cd hikebox && $(activates) && bash -e ../pasted.sh" >"$work/told"
-  cat "$work/told"
-  grep -qx 'here at last' "$work/told"
-}
-
-# zsched prints its plan, or where glibc is too old a sentence.
-pastes_zsched() {
-  local line status=0
-  line=$(block sh 'bin/zsched plan' | grep '^bin/zsched')
-  as_user "cd hikebox && $line" >"$work/told" 2>&1 || status=$?
-  cat "$work/told"
-  if [ "$suite" = bullseye ]; then
-    [ "$status" = 2 ] && grep -q '^bin/zsched: expected x86-64 with glibc 2.34 or later, .* got x86_64 with glibc 2.31' "$work/told"
-  else
-    diff "$work/told" <(block text 'next 100')
-  fi
-}
-
-pastes_rust() {
-  as_root "$(installs 'cargo new')"
-  block rust 'use hikebox' >"$folder/home/ann/pasted.rs"
-  codes 'cargo new' | grep -E '^(cargo new|echo)' >"$folder/home/ann/pasted.sh"
-  printf 'cp ~/pasted.rs src/main.rs\ncargo run\n' >>"$folder/home/ann/pasted.sh"
-  as_user 'cd hikebox && rm -rf my_call && bash -e ../pasted.sh'
-}
-
-pastes_c() {
-  as_root "$(installs 'cc examples/c')"
-  as_user "cd hikebox && $(codes 'cc examples/c' | grep '^cc ')" >"$work/told"
-  cat "$work/told"
-  grep -q '^won after 3 runs' "$work/told"
-}
-
-# The lines for Python, the shell and C by root.
-pastes_all_as_root() {
-  as_root "rm -rf hikebox hikebox-venv && git clone -q /srv/hikebox.git hikebox && cd hikebox && set -e; $(block sh 'python3 -m venv')"
-  cp "$folder/home/ann/pasted.py" "$folder/root"
-  block sh 'hikebox run' >"$folder/root/pasted.sh"
-  [ "$(as_root "cd hikebox && $(activates) && python3 ../pasted.py")" = '# Hikebox' ]
-  as_root "rm -rf /tmp/late.txt /tmp/retries && cd hikebox && $(activates) && bash -e ../pasted.sh" | grep -qx 'here at last'
-  as_root "cd hikebox && $(codes 'cc examples/c' | grep '^cc ')" | grep -q '^won after 3 runs'
+# pastes SHELL WHO: all blocks of README.md at once, in a new clone; but that of Rust where Debian's is too old
+pastes() {
+  local words=()
+  [ "$suite" != bullseye ] || words=(--but 'cargo run')
+  as_user "$2" 'rm -rf hikebox hikebox-venv && git clone -q /srv/hikebox.git hikebox'
+  TERM=xterm "$top/tests/pasted.py" "${words[@]}" chroot "$folder" su - "$2" -s "/bin/$1"
 }
 
 # stage FOLDER NAME: makes the steps of this stage of the Dockerfile in a bare system in the folder
@@ -191,7 +130,7 @@ makes_image() {
   runs=(chroot --userspec=nobody "$image" env -i "PATH=/opt/hikebox/bin:/usr/local/bin:/usr/bin:/bin")
   "${runs[@]}" hikebox storm 'recurs(3)' | tee "$work/told"
   grep -q . "$work/told"
-  [ "$("${runs[@]}" zsched plan --steps 2 <"$top/plans/three-times.json")" = "$(block text 'next 100')" ]
+  [ "$("${runs[@]}" zsched plan --steps 2 <"$top/plans/three-times.json")" = $'0: (0, 0) next 100\n100: (1, 1) next 200' ]
   coproc lab { exec "${runs[@]}" hikebox lab --no-browser; }
   # shellcheck disable=SC2154
   read -r address <&"${lab[0]}"
@@ -204,42 +143,39 @@ makes_image() {
 # bin/test by who has no packages: in a second or two it says what is missing, how large it is, and the command.
 tests_without_packages() {
   local status=0 began=$SECONDS
-  as_user 'cd hikebox && bin/test' >"$work/told" 2>&1 || status=$?
+  as_user ann 'cd hikebox && bin/test' >"$work/told" 2>&1 || status=$?
   cat "$work/told"
   [ "$status" = 1 ] && [ $((SECONDS - began)) -lt 20 ] && grep -q 'packages are missing (.* to fetch, .* on the disk): ' "$work/told" &&
-    grep -q '^sudo apt-get update && sudo apt-get install -y ' "$work/told"
+    grep -q '^apt-get update && apt-get install -y ' "$work/told"
 }
 
-# bin/test quick: with the packages that README.md names, in under a minute.
-tests_quick() {
-  local began=$SECONDS
-  as_user 'cd hikebox && bin/test quick' | tee "$work/told"
-  [ $((SECONDS - began)) -lt 60 ] && grep -q ' passed, 0 failed$' "$work/told"
+# bin/test by root on a terminal, who is asked, and says no: nothing is installed.
+asks_root() {
+  local before
+  before=$(chroot "$folder" dpkg-query -W | wc -l)
+  ! script -qec "chroot $folder su - -c 'cd hikebox && bin/test'" /dev/null <<<n >"$work/told" || return 1
+  cat "$work/told"
+  grep -q 'install them now? \[y/N\]' "$work/told" && [ "$(chroot "$folder" dpkg-query -W | wc -l)" = "$before" ]
 }
 
-# tests WHO FOLDER: all parts pass, but those that run what only the kit builds
+# tests WHO FOLDER: all parts pass, but those that run what only the kit builds, and on arm64 those for aarch64 and Windows
 tests() {
-  "as_$1" "cd $2 && bin/test" 2>&1 | tee "$work/told"
-  [ "$(grep -c '^left out' "$work/told")" = 2 ] && grep -q ' passed, 0 failed$' "$work/told"
+  as_user "$1" "cd $2 && bin/test" 2>&1 </dev/null | tee "$work/told"
+  grep -q ' passed, 0 failed$' "$work/told" && [ "$(grep -c '^left out' "$work/told")" = "$([ "$arch" = amd64 ] && echo 2 || echo 4)" ]
 }
 
-step 'a bare Debian' makes_system
+step "a bare Debian: $suite, $arch" makes_system
 step 'the repository' makes_repository
-step "README's packages, by sudo" installs_first
-step 'the wheel' gets_it
-step 'Python' pastes_python
-step 'the shell' pastes_shell
-step 'zsched' pastes_zsched
-# (bullseye has Rust 1.48, and README names 1.63)
-[ "$suite" = bullseye ] || step 'Rust' pastes_rust
-step 'C' pastes_c
-step 'Python, the shell and C as root' pastes_all_as_root
-[ "$suite" != bookworm ] || step 'the steps of the Dockerfile' makes_image
+step "README's packages" installs_packages
+for who in root ann bob; do
+  for shell in bash zsh; do step "README in $shell by $who" pastes "$shell" "$who"; done
+done
+[ "$suite-$arch" != bookworm-amd64 ] || step 'the steps of the Dockerfile' makes_image
 $tests_too || exit "$failed"
 step 'bin/test as a user, without its packages' tests_without_packages
-step 'bin/test quick' tests_quick
+step 'bin/test as root, who is asked' asks_root
 step 'bin/test as root, which installs them' tests root hikebox
 grep '^bin/test: ' "$work/told" || true
-step 'bin/test as a user' tests user hikebox
+step 'bin/test as a user' tests ann hikebox
 grep '^bin/test: ' "$work/told" || true
 exit "$failed"

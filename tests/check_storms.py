@@ -340,7 +340,6 @@ COMES_TO = """\
 the most in a window are 2, from 0 ms
 1 ticket of 9 given
 won after 11 ms (50 in 100), 11 ms (99 in 100), 11 ms (all)
-never recovered
 """
 #: Two plans side by side: no retry, and one after 10 ms, in an outage of 5 ms.
 TABLE = """\
@@ -357,7 +356,7 @@ tickets                  0             0
 50 in 100 ms             -            11
 99 in 100 ms             -            11
 slowest ms               -            11
-recovered ms         never         never
+recovered ms         never             -
 """
 #: The same under two limits: one that has tokens enough, and one that allows no retry.
 CROSSED = """\
@@ -375,7 +374,7 @@ tickets                  0             0             1             0
 50 in 100 ms             -             -            11             -
 99 in 100 ms             -             -            11             -
 slowest ms               -             -            11             -
-recovered ms         never         never         never         never
+recovered ms         never         never             -         never
 """
 #: Limits under each of which two plans are played, with a plan of open times: the breaker is open for 300 ms each time.
 LIMITS = ["grpc:100/100", "breaker:5/1/1000", "inflight:3/200", "throttle:2000/60000"]

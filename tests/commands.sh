@@ -7,7 +7,9 @@ set -euo pipefail
 top=$(cd "$(dirname "${BASH_SOURCE[0]}")/.." && pwd)
 work=$(mktemp -d)
 trap 'rm -rf "$work"' EXIT
-zsched=${HIKEBOX_ZSCHED:-$top/dist/zsched}
+program=zsched
+[ "$HOSTTYPE" = x86_64 ] || program=$HOSTTYPE/zsched
+zsched=${HIKEBOX_ZSCHED:-$top/dist/$program}
 unset HIKEBOX_LIB_DIR HIKEBOX_LIBRARY HIKEBOX_ZSCHED
 export HIKEBOX_RT=$work/no-kit
 tree=$work/tree
@@ -19,11 +21,10 @@ copy() {
   mkdir "$tree"
   (cd "$top" && tar -cf - --exclude=out --exclude=__pycache__ bin c crates crates.txt HANDLES docs include python plans tests \
     rust/Cargo.toml rust/README.md rust/src/engine/sys.rs README.md LICENSE VERSION) | tar -xf - -C "$tree"
-  mkdir "$tree/dist"
-  cp "$zsched" "$tree/dist/zsched"
+  mkdir -p "$tree/dist/aarch64"
+  cp "$zsched" "$tree/dist/$program"
   : >"$tree/dist/libhikebox.so"
-  (cd "$tree" && bin/digest zsched libhikebox.a libhikebox.so hikebox.h hikebox.whl \
-    aarch64/libhikebox.a aarch64/libhikebox.so aarch64/hikebox.whl) >"$work/SOURCES"
+  (cd "$tree" && bin/digest {,aarch64/}{zsched,libhikebox.a,libhikebox.so,hikebox.whl} hikebox.h) >"$work/SOURCES"
   cp "$work/SOURCES" "$tree/dist/SOURCES"
   cd "$tree"
 }
@@ -40,9 +41,12 @@ wants() {
   }
 }
 
+# both FILE..: their names for both machines
+both() { echo "$*" "${@/#/aarch64/}"; }
+
 # makes_old FILES COMMAND..: this change makes these files of dist/ old, and no other; it is undone
 makes_old() {
-  local files=$1
+  local files=${1// /$'\n'}
   shift
   cp -al "$tree" "$work/changed"
   (cd "$work/changed" && "$@")
@@ -78,22 +82,27 @@ bin/bindings: c/texts.c is not what the header says: run bin/bindings' "$changed
 
 # Which files of dist/ a change makes old.
 changes() {
-  local wheels=$'hikebox.whl\naarch64/hikebox.whl' other=$'aarch64/libhikebox.a\naarch64/libhikebox.so\naarch64/hikebox.whl' library
-  library=$'libhikebox.a\nlibhikebox.so\nhikebox.whl\n'$other
+  local wheels all library libraries='libhikebox.a libhikebox.so hikebox.whl'
+  wheels=$(both hikebox.whl)
+  # shellcheck disable=SC2086
+  library=$(both $libraries) all=$(both zsched $libraries)
   makes_old '' true
   makes_old "$wheels" append python/src/hikebox/lab/lab.js
   makes_old "$wheels" append python/src/hikebox/retrying.py
   makes_old "$wheels" append python/build_backend.py
-  makes_old 'hikebox.h' append include/hikebox.h
+  makes_old hikebox.h append include/hikebox.h
   makes_old "$library" append c/texts.c
-  makes_old "$other" append c/heap.c
-  makes_old 'zsched' append crates/sched_cli/src/lib.rt
-  makes_old 'zsched' rm crates/sched_cli/src/lib.rt
+  makes_old "aarch64/zsched${all#*aarch64/zsched}" append c/heap.c
+  makes_old "$(both zsched)" append c/start.c
+  makes_old "$(both zsched)" append crates/sched_cli/src/lib.rt
+  makes_old "$(both zsched)" rm crates/sched_cli/src/lib.rt
   makes_old "$library" append crates/hikebox_c/src/lib.rt
-  makes_old $'libhikebox.so\nhikebox.whl\naarch64/libhikebox.so\naarch64/hikebox.whl' append bin/hikebox.map
-  makes_old $'zsched\n'"$library" append crates/sched_time/src/lib.rt
-  makes_old $'zsched\n'"$library" touch crates/sched_time/src/new.rt
-  makes_old 'zsched' replace 's/^zsched: /zsched: sched_effect /' crates.txt
+  makes_old "$(both libhikebox.so hikebox.whl)" append bin/hikebox.map
+  makes_old "$(both zsched libhikebox.so hikebox.whl)" append bin/glibc
+  makes_old "$all" append bin/dist
+  makes_old "$all" append crates/sched_time/src/lib.rt
+  makes_old "$all" touch crates/sched_time/src/new.rt
+  makes_old "$(both zsched)" replace 's/^zsched: /zsched: sched_effect /' crates.txt
   makes_old '' replace 's/^# The library/# A library/' crates.txt
   makes_old '' append crates/sched_run/src/lib.rt
   makes_old '' append crates/sched_task/src/tests.rt
@@ -107,8 +116,8 @@ changes() {
 
 # bin/zsched by its name, from elsewhere and through links; after a change, and once that is undone.
 runs_zsched() {
-  local plan=plans/three-times.json want old='bin/zsched: dist/zsched is older than its sources, and the Rattle kit, which would build it, is missing'
-  want=$(dist/zsched plan "$plan")
+  local plan=plans/three-times.json want old="bin/zsched: dist/$program is older than its sources, and the Rattle kit, which would build it, is missing"
+  want=$("dist/$program" plan "$plan")
   wants 0 "$want" '' bin/zsched plan "$plan"
   wants 0 "$want" '' env -C / "$tree/bin/zsched" plan "$tree/$plan"
   ln -s tree/bin/zsched "$work/link"
@@ -132,13 +141,13 @@ runs_zsched() {
   wants 0 "$want" '' bin/zsched plan "$plan"
 
   # A program that this machine can't run, as one whose loader is older, is refused in a sentence.
-  mv dist/zsched "$work/zsched"
-  printf '#!/none\n' >dist/zsched
-  chmod +x dist/zsched
+  mv "dist/$program" "$work/zsched"
+  printf '#!/none\n' >"dist/$program"
+  chmod +x "dist/$program"
   rm -rf out
-  wants 2 '' "bin/zsched: expected x86-64 with glibc 2.34 or later, as Debian 12 has, got $(uname -m) with $(getconf GNU_LIBC_VERSION); the libraries and the packages for Python and Rust need no more than README.md says" \
+  wants 2 '' "bin/zsched: expected glibc 2.14 or later (aarch64: 2.17), got $(getconf GNU_LIBC_VERSION); docs/INSTALL.md says what else there is" \
     bin/zsched plan "$plan"
-  mv "$work/zsched" dist/zsched
+  mv "$work/zsched" "dist/$program"
   rm -rf out
 
   # Where nothing can be noted, it runs too.
@@ -189,6 +198,8 @@ echo "rt: running out/$name; to give it other input, run that file yourself"
 END
   chmod +x "$work/kit"
   rm -rf crates/*/out
+  wants 0 '' .. env HIKEBOX_RT="$work/kit" HIKEBOX_BROKEN=1 bin/build --below zsched
+  wants 0 "$(bin/crates below zsched | grep -vx zsched | sort)" '' sh -c "find crates -path '*/out/rlib' | cut -d / -f 2 | sort"
   wants 1 '' .. env HIKEBOX_RT="$work/kit" HIKEBOX_BROKEN=1 bin/build zsched plan
   says '^bin/build: zsched is not built; '
   wants 0 '' .. env HIKEBOX_RT="$work/kit" bin/build zsched plan --steps 3
@@ -216,7 +227,7 @@ costs_little() {
   bin/zsched --version >/dev/null
   touch -d '1 hour' out/zsched-of-dist
   for _ in $(seq 100); do
-    own=$(spent dist/zsched --version)
+    own=$(spent "dist/$program" --version)
     looks=$(spent looks_at_files)
     whole=$(spent bin/zsched --version)
     [ $((whole - own)) -gt $((3 * looks)) ] || { tried=$((tried + 1)); return 0; }
@@ -233,7 +244,7 @@ without_kit() {
   wants 2 '' "bin/check: $missing" bin/check sched_time
   wants 2 '' "bin/build: $missing" bin/build zsched
   wants 2 '' "bin/dist: $missing" bin/dist
-  wants 2 '' 'bin/dist: bin/dist [--proved] [FOLDER], or bin/dist --tarball FOLDER' bin/dist one two
+  wants 2 '' 'bin/dist: bin/dist [--proved] [FOLDER], bin/dist --for TRIPLE FOLDER, bin/dist --wheels, or bin/dist --tarball FOLDER' bin/dist one two
   find . | cmp -s - "$work/before" || { echo "tests/commands.sh: files came or went where the kit is missing" >&2; failed=1; }
   wants 2 '' 'bin/crates: crates.txt has no crate none' bin/check none
   wants 2 '' 'bin/crates: crates.txt has no crate none' bin/build none
@@ -246,6 +257,8 @@ with_kit() {
   local few=$work/few
   mkdir -p "$few/bin" "$few/dist"
   cp bin/check bin/crates bin/digest bin/kit "$few/bin"
+  printf '#!/bin/sh\nexit 0\n' >"$few/bin/edits"
+  chmod +x "$few/bin/edits"
   : >"$few/dist/SOURCES"
   printf '# Crates\nlow:\nside tests_may=Wait: low\nmiddle may_wait=1: low serde_json\nmiddle_tests: middle low\nprogram: side middle\n' \
     >"$few/crates.txt"
@@ -276,33 +289,36 @@ asks() {
   done
 }
 
-# bin/check adds up what passed in `rt ci`, in the comparison of dist/ and in bin/test, here by scripts in their place. A fault
-# of each of them is counted, also where it told nothing.
+# bin/check adds up what passed in `rt ci`, in its ledger of wrong bodies, in the comparison of dist/ and in bin/test, here by
+# scripts in their place. A fault of each of them is counted, also where it told nothing.
 counts() {
   local checks=$work/checks line
   mkdir -p "$checks/bin" "$checks/dist"
   cp bin/check bin/crates bin/kit "$checks/bin"
   echo built >"$checks/dist/zsched"
   printf '#!/bin/sh\nmkdir "$2"\necho "$BUILT" >"$2/zsched"\nexit $DIST\n' >"$checks/bin/dist"
-  printf '#!/bin/sh\nexit 0\n' >"$checks/bin/build"
+  printf '#!/bin/sh\nexit 0\n' | tee "$checks/bin/build" >"$checks/bin/spent"
+  printf '#!/bin/sh\n[ "$1" != --judge ] || exit "$JUDGED"\n' >"$checks/bin/edits"
   printf '#!/bin/sh\n[ "$1" = --strict ] || exit 0\necho "$TESTED"\n[ "$TESTED" = "3 passed, 0 failed" ]\n' >"$checks/bin/test"
   chmod +x "$checks"/bin/*
-  export LINE BUILT DIST TESTED
-  while IFS='|' read -r LINE BUILT DIST TESTED status line; do
+  export LINE BUILT DIST TESTED JUDGED
+  while IFS='|' read -r LINE JUDGED BUILT DIST TESTED status line; do
     got=0
     "$checks/bin/check" >"$work/out" 2>&1 </dev/null || got=$?
     tried=$((tried + 1))
     [ "$(tail -n 1 "$work/out")" = "$line" ] && [ "$got" = "$status" ] || {
-      echo "tests/commands.sh: bin/check ($LINE|$BUILT|$DIST|$TESTED): status $got, wanted $status; $(tail -n 1 "$work/out"), wanted $line" >&2
+      echo "tests/commands.sh: bin/check ($LINE|$JUDGED|$BUILT|$DIST|$TESTED): status $got, wanted $status; $(tail -n 1 "$work/out"), wanted $line" >&2
       failed=1
     }
   done <<'END'
-9 passed, 0 failed|built|0|3 passed, 0 failed|0|13 passed, 0 failed
-8 passed, 1 failed|built|0|3 passed, 0 failed|1|8 passed, 1 failed
-9 passed, 0 failed|other|0|3 passed, 0 failed|1|12 passed, 1 failed
-9 passed, 0 failed|built|1|3 passed, 0 failed|1|9 passed, 2 failed
-9 passed, 0 failed|built|0|2 passed, 1 failed|1|12 passed, 1 failed
-9 passed, 0 failed|built|0|killed|1|10 passed, 1 failed
+9 passed, 0 failed|0|built|0|3 passed, 0 failed|0|14 passed, 0 failed
+8 passed, 1 failed|0|built|0|3 passed, 0 failed|1|8 passed, 1 failed
+9 passed, 0 failed|1|built|0|3 passed, 0 failed|1|13 passed, 1 failed
+9 passed, 0 failed|0|other|0|3 passed, 0 failed|1|13 passed, 1 failed
+9 passed, 0 failed|1|other|0|3 passed, 0 failed|1|12 passed, 2 failed
+9 passed, 0 failed|0|built|1|3 passed, 0 failed|1|10 passed, 2 failed
+9 passed, 0 failed|0|built|0|2 passed, 1 failed|1|13 passed, 1 failed
+9 passed, 0 failed|0|built|0|killed|1|11 passed, 1 failed
 END
   export HIKEBOX_RT=$work/no-kit
 }
@@ -310,7 +326,8 @@ END
 # bin/test names its parts, and leaves no process and no file, whether a part ends or it is ended itself.
 runs_tests() {
   local process id
-  wants 2 '' "bin/test: there is no part nope; the parts are $(sed -n 's/^parts=(\(.*\))$/\1/p' bin/test)" bin/test nope blocks
+  wants 2 '' "bin/test: there is no part nope; the parts are quick, which are some, and $(sed -n 's/^parts=(\(.*\))$/\1/p' bin/test)" bin/test nope blocks
+  wants 2 '' 'bin/test: there is no option --quick; bin/test --help lists them' bin/test --quick
   mkdir "$work/tmp"
   wants 0 $'passed  blocks\n1 passed, 0 failed' '' sh -c 'TMPDIR="$1" bin/test blocks | sed "/^bin.test: /d; s/^passed  blocks .*/passed  blocks/"' sh "$work/tmp"
   printf '#!/bin/sh\nsetsid sh -c "echo \\$\\$ >%s; exec sleep 1000" &\nuntil [ -s %s ]; do sleep 0.1; done\n' \
@@ -334,6 +351,55 @@ runs_tests() {
     { echo "tests/commands.sh: bin/test, ended by a signal, leaves $(ls -A "$work/tmp"), or the process $id" >&2; failed=1; }
 }
 
+# installs ANSWER WORD..: tests/packages.sh by one who is root, on a terminal, where a package is missing, with this answer; the
+# tools of the system are scripts, which note what they are told
+installs() {
+  : >"$work/installed"
+  env -u CI PATH="$work/tools:$PATH" script -qec "env ${*:2} tests/packages.sh --ask some-package" /dev/null <<<"$1" >"$work/out" 2>&1
+}
+
+# Root is asked on a terminal, and not in CI or elsewhere.
+asks_root() {
+  local question='install them now? \[y/N\]' status
+  mkdir "$work/tools"
+  printf '#!/bin/sh\necho 0\n' >"$work/tools/id"
+  printf '#!/bin/sh\nexit 1\n' >"$work/tools/dpkg-query"
+  printf '#!/bin/sh\ncase $* in *assume-no*) ;; *install*) echo "$*" >>%s ;; esac\n' "$work/installed" >"$work/tools/apt-get"
+  chmod +x "$work"/tools/*
+  for answer in n '' no y; do
+    status=0
+    installs "$answer" || status=$?
+    tried=$((tried + 1))
+    grep -q "$question" "$work/out" && [ "$status" = "$([ "$answer" = y ] && echo 0 || echo 1)" ] &&
+      [ "$(grep -c some-package "$work/installed")" = $((1 - status)) ] ||
+      { echo "tests/commands.sh: root is asked and answers '$answer': $status, $(cat "$work/out" "$work/installed")" >&2; failed=1; }
+  done
+  installs n CI=true && ! grep -q "$question" "$work/out" && grep -q some-package "$work/installed" ||
+    { echo "tests/commands.sh: in CI: $(cat "$work/out" "$work/installed")" >&2; failed=1; }
+  : >"$work/installed"
+  wants 0 '' .. env -u CI PATH="$work/tools:$PATH" tests/packages.sh --ask some-package
+  wants 0 1 '' grep -c some-package "$work/installed"
+}
+
+# Where zsched does not run, what needs it is left out by name, and the rest is run: here scripts in the place of the parts.
+tests_without_zsched() {
+  local part
+  cp -a dist "$work/kept"
+  printf '#!/bin/sh\nexit 1\n' >"dist/$program"
+  for part in smoke.sh program.sh documents.sh versions.sh layers.py nodes.py edits.py blocks.sh; do printf '#!/bin/sh\n' >"tests/$part"; done
+  # shellcheck disable=SC2065
+  bin/test quick >"$work/out" 2>&1 || failed=1
+  tried=$((tried + 1))
+  [ "$(grep -o '^left out: [a-z]* *it runs zsched' "$work/out" | sort | awk '{ print $3 }' | xargs)" = 'documents program' ] &&
+    [ "$(tail -n 1 "$work/out")" = '6 passed, 0 failed' ] ||
+    { echo "tests/commands.sh: bin/test quick without zsched: $(cat "$work/out")" >&2; failed=1; }
+  wants 0 "0 passed, 1 failed" "" sh -c "bin/test program | tail -n 1"
+  rm "dist/$program"
+  wants 0 "6 passed, 0 failed" "" sh -c "bin/test quick | tail -n 1"
+  rm -rf dist
+  mv "$work/kept" dist
+}
+
 wants 0 '' '' find "$top" -name .git -prune -o -name out -prune -o -type l -print
 copy
 changes
@@ -345,6 +411,8 @@ costs_little
 without_kit
 with_kit
 counts
+asks_root
 runs_tests
+tests_without_zsched
 [ "$failed" = 0 ] || exit 1
 echo "tests/commands.sh: $tried runs of the programs of bin/ are as wanted"

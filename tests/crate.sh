@@ -116,10 +116,10 @@ done
 status=0
 mkdir "$work/other"
 program "$work/other" "hikebox = { path = \"$work/crate\" }"
-for target in aarch64-apple-darwin i686-unknown-linux-gnu; do
+for target in riscv64gc-unknown-linux-gnu i686-unknown-linux-gnu x86_64-pc-windows-msvc; do
   status=0
   (cd "$work/other" && cargo build --quiet --target "$target") >"$work/said" 2>&1 || status=$?
-  [ "$status" != 0 ] && grep -q '^  hikebox: expected 64-bit Linux on x86_64 or aarch64, got .*; for another target set ' \
+  [ "$status" != 0 ] && grep -q '^  hikebox: expected 64-bit Linux or macOS on x86_64 or aarch64, or x86_64-pc-windows-gnu, got .*; for another target set ' \
     "$work/said" || fails "$target: status $status, $(cat "$work/said")"
 done
 # (a relative HIKEBOX_LIB_DIR is a folder in the crate's)

@@ -2,7 +2,9 @@
 # Compares every printed plan, pool and check in README.md and docs/ with what the program prints. A `sh` block with a
 # line `bin/zsched WORDS < plans/NAME.json`, or `< jobs/NAME.json`, or with the file's name as its last word, is followed
 # by a `text` block, its whole output; a `json` block before it, under the same heading, is the file's text. It fails where
-# one of them differs, and where no document prints a plan or a pool of these folders; and where a link of a page leads nowhere.
+# one of them differs, and where no document prints a plan or a pool of these folders; where a link of a page leads nowhere,
+# a figure of README.md is not the measured one, or the list of the crates is not what the crates say (tests/links.py,
+# tests/figures.py, tests/lists.py).
 # HIKEBOX_ZSCHED names the program, that of dist/ where it does not.
 set -euo pipefail
 top=$(cd "$(dirname "${BASH_SOURCE[0]}")/.." && pwd)
@@ -92,6 +94,7 @@ done
 
 "$top/tests/links.py" >"$work/links" || failed=1
 "$top/tests/figures.py" >"$work/figures" || failed=1
+"$top/tests/lists.py" --check >"$work/lists" || failed=1
 
 if [ "$failed" = 0 ]; then
   echo "tests/documents.sh: the documents print $printed plans and pools of jobs as the program does"

@@ -1,12 +1,14 @@
 #!/usr/bin/env python3
-"""The promises that the wrong bodies in crates/*/must-fail/*.edit break, as a list.
+"""The promises that the wrong bodies break, as a list: those in crates/*/must-fail/, and those of the ledger, in
+crates/*/edits/.
 
 The first line of each edit says which promise it breaks, with the group that the promise is of, as in
 `# limit: A plan is at most 32 nodes deep, and a deeper one is refused.`
 
     tests/edits.py          prints the list
     tests/edits.py --check  compares it with docs/reports/wrong-bodies.md, and checks that every edit has
-                            such a line and can be applied; it fails with a line for each fault
+                            such a line and can be applied, and that the ledger has a line for each of its own;
+                            it fails with a line for each fault
     tests/edits.py --write  writes docs/reports/wrong-bodies.md
 """
 
@@ -19,12 +21,14 @@ from dataclasses import dataclass
 
 TOP = pathlib.Path(__file__).resolve().parent.parent
 PAGE = TOP / "docs" / "reports" / "wrong-bodies.md"
-MAX_EDITS = 200
+LEDGER = TOP / "tests" / "edits.txt"
+MAX_TRIED = 70
 
 HEAD = """# Wrong bodies
 
-Every wrong body that the prover must refuse, by the promise that it breaks. `tests/edits.py --write` makes this page
-from the first lines of `crates/*/must-fail/*.edit`; [TESTING.md](../TESTING.md#wrong-bodies) says what they are for.
+Every wrong body that the prover must refuse, by the promise that it breaks. `rt ci` tries those in **bold** each time;
+the others are in the ledger. `tests/edits.py --write` makes this page from the first lines of the edits;
+[TESTING.md](../TESTING.md#wrong-bodies) says what they are for, and what the ledger is worth.
 """
 
 # The groups of promises, and the heading of each in the list.
@@ -51,10 +55,12 @@ class Edit:
     name: str
     group: str
     promise: str
+    is_tried: bool
 
     def row(self) -> str:
         """The line of the list that stands for it."""
-        return f"- {self.promise} (`{self.crate}`, `{self.name}`)"
+        name = f"**`{self.name}`**" if self.is_tried else f"`{self.name}`"
+        return f"- {self.promise} (`{self.crate}`, {name})"
 
 
 def promise_of(text: str) -> tuple[str, str]:
@@ -103,7 +109,7 @@ def read_edits() -> tuple[list[Edit], list[str]]:
     edits: list[Edit] = []
     faults: list[str] = []
     places = layers()
-    paths = TOP.glob("crates/*/must-fail/*.edit")
+    paths = [path for folder in ("must-fail", "edits") for path in TOP.glob(f"crates/*/{folder}/*.edit")]
     for path in sorted(paths, key=lambda path: (places.get(path.parent.parent.name, len(places)), path.name)):
         crate = path.parent.parent
         text = path.read_text(encoding="utf-8")
@@ -113,7 +119,7 @@ def read_edits() -> tuple[list[Edit], list[str]]:
         except (BadEdit, OSError) as fault:
             faults.append(f"{path.relative_to(TOP)}: {fault}")
         else:
-            edits.append(Edit(crate.name, path.stem, group, promise))
+            edits.append(Edit(crate.name, path.stem, group, promise, path.parent.name == "must-fail"))
     return edits, faults
 
 
@@ -134,8 +140,13 @@ def page_of(edits: list[Edit]) -> str:
 def faults_of(edits: list[Edit]) -> list[str]:
     """What is wrong with all edits together, and with the page."""
     faults: list[str] = []
-    if len(edits) > MAX_EDITS:
-        faults.append(f"expected at most {MAX_EDITS} edits, got {len(edits)}")
+    tried = sum(edit.is_tried for edit in edits)
+    if tried > MAX_TRIED:
+        faults.append(f"expected at most {MAX_TRIED} edits in must-fail/, got {tried}")
+    has = {line.split()[0] for line in LEDGER.read_text(encoding="utf-8").splitlines() if line[0] != "#"}
+    wants = {f"{edit.crate}/{edit.name}" for edit in edits if not edit.is_tried}
+    faults += [f"the ledger lacks {name}: bin/edits tries it" for name in sorted(wants - has)]
+    faults += [f"the ledger has {name}, which is no edit: bin/edits takes it out" for name in sorted(has - wants)]
     first: dict[str, Edit] = {}
     for edit in edits:
         other = first.setdefault(edit.promise, edit)

@@ -169,9 +169,6 @@ def sized():
     texts = {
         "include/hikebox.h": re.search(r"\* STRUCTS\.(.*?)\n \*\n", header, re.S),
         "docs/C.md": re.search(r"\*\*Structs that may grow\.\*\*(.*)", (TOP / "docs/C.md").read_text()),
-        "docs/VERSIONS.md": re.search(
-            r"structs of `hikebox\.h` begin with(.*)", (TOP / "docs/VERSIONS.md").read_text()
-        ),
     }
     for name, text in texts.items():
         yield name, set(re.findall(r"\bhikebox_\w+", text[1])), there

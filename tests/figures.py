@@ -1,6 +1,5 @@
 #!/usr/bin/env python3
-"""The figures of README.md: its sizes are those of the files in dist/, its times those of docs/BENCHMARKS.md, and the
-minutes of a whole check those of docs/TESTING.md."""
+"""The figures of README.md: its sizes are those of the files in dist/, its times those of docs/BENCHMARKS.md."""
 
 import pathlib
 import re
@@ -38,12 +37,9 @@ def figures():
     success, failures = cells("a call that succeeds"), cells("three failures and a success")
     yield f"{number(once[0])} and {attempt[0]} in Python, {number(success[0])} and {third(failures[0])} ns in Rust"
     yield f"| {number(once[1])} and {attempt[1]} | {number(success[2])} and {third(failures[2])} ns |"
-    yield f"a wheel of {megabytes('*.whl')} with no dependency, a static library of {megabytes('libhikebox.a')}"
+    yield f"a wheel of {megabytes('*linux*.whl')} with no dependency, a static library of {megabytes('libhikebox.a')}"
     yield f"{cells('the import, with byte code at hand')[0]} for the import in Python"
     yield f"{cells('a draw of a `Budget`')[0]} for a draw of a budget"
-    yield f"{cells('a function decorated, with its policy')[0]} to decorate a function in Python"
-    told = re.search(r"took (\d+) minutes on two .* an estimated (\d+)\.", (TOP / "docs/TESTING.md").read_text())
-    yield f"takes {told[1]} minutes on two cores, an estimated {told[2]} on four"
 
 
 def main():

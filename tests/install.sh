@@ -31,20 +31,35 @@ status=0
 [ "$status" = 2 ] && [ "$(cat "$work/err")" = 'bin/install: expected a folder after --prefix, got an empty word' ] ||
   wrong "an empty prefix: $status, $(cat "$work/err")"
 
-# For another machine: its libraries, and nothing that runs here.
+# For another machine: its libraries and its program, with the same pages.
+built=${HIKEBOX_LIB_DIR:-$top/dist}
 "$top/bin/install" --target aarch64 --prefix "$work/other" >/dev/null
-for file in libhikebox.a libhikebox.so; do
-  readelf -h "$work/other/lib/$file" | grep -q 'Machine: *AArch64' || wrong "$file for aarch64 is for another machine"
+for file in lib/libhikebox.a lib/libhikebox.so bin/zsched; do
+  readelf -h "$work/other/$file" | grep -q 'Machine: *AArch64' || wrong "$file for aarch64 is for another machine"
 done
-[ ! -e "$work/other/bin" ] && [ -e "$work/other/share/man/man3/hikebox.3" ] || wrong "what is installed for aarch64: $(ls -R "$work/other")"
+for page in man3/hikebox.3 man1/zsched.1; do
+  cmp "$prefix/share/man/$page" "$work/other/share/man/$page" || wrong "another $page is installed for aarch64"
+done
 status=0
 "$top/bin/install" --target riscv64 --prefix "$work/none" 2>"$work/err" || status=$?
-[ "$status" = 2 ] && [ "$(cat "$work/err")" = 'bin/install: expected the target x86_64 or aarch64, got riscv64' ] && [ ! -e "$work/none" ] ||
+[ "$status" = 2 ] && grep -qx 'bin/install: expected the target x86_64, aarch64, .* or aarch64-apple-darwin, got riscv64' "$work/err" && [ ! -e "$work/none" ] ||
   wrong "a target that there is not: $status, $(cat "$work/err")"
+
+# For other systems: what is loaded, by its names, and what is linked.
+for target in x86_64-pc-windows-gnu x86_64-apple-darwin aarch64-apple-darwin; do
+  case $target in
+    *windows*) names='bin/hikebox.dll lib/hikebox.lib lib/libhikebox.dll.a' ;;
+    *) names="lib/libhikebox.$version.dylib lib/libhikebox.$major.dylib lib/libhikebox.dylib" ;;
+  esac
+  "$top/bin/install" --target "$target" --prefix "$work/$target" >/dev/null
+  for file in include/hikebox.h lib/libhikebox.a lib/pkgconfig/hikebox.pc share/man/man3/hikebox.3 $names; do
+    [ -s "$work/$target/$file" ] || wrong "$target has no $file"
+  done
+  [ ! -e "$work/$target/bin/zsched" ] || wrong "$target has a zsched"
+done
 
 # Where zsched does not run, as with an older glibc, all else is installed, and a line says so. Without its files nothing
 # is.
-built=${HIKEBOX_LIB_DIR:-$top/dist}
 mkdir "$work/old"
 cp "$built/hikebox.h" "$built/libhikebox.a" "$built/libhikebox.so" "$work/old"
 status=0
@@ -55,7 +70,7 @@ printf '#!/bin/sh\nexit 1\n' >"$work/old/zsched"
 chmod +x "$work/old/zsched"
 HIKEBOX_LIB_DIR=$work/old "$top/bin/install" --target x86_64 --prefix "$work/older" >/dev/null 2>"$work/err" ||
   wrong "where zsched does not run: $(cat "$work/err")"
-grep -q '^bin/install: zsched is left out: expected x86-64 with glibc 2.34 or later, which it needs, got ' "$work/err" &&
+grep -q '^bin/install: zsched is left out: expected glibc 2.14 or later (aarch64: 2.17), which it needs, got ' "$work/err" &&
   [ ! -e "$work/older/bin" ] && [ -e "$work/older/share/man/man3/hikebox.3" ] && [ ! -e "$work/older/share/man/man1" ] ||
   wrong "where zsched does not run: $(cat "$work/err"; ls -R "$work/older")"
 status=0

@@ -18,7 +18,8 @@ import pytest
 
 sys.path.insert(0, str(Path(__file__).parent))
 
-from webdriver import COLOURS, CONTRAST, CONTROL, CROSSING, DELETE, DOWN, RIGHT, SHIFT, TAB, UP, Browser  # noqa: E402
+from webdriver import COLOURS, CONTRAST, CONTROL, CROSSING, DELETE, DOWN, END, RIGHT, SHIFT, TAB, UP  # noqa: E402
+from webdriver import Browser  # noqa: E402
 
 TOP = Path(__file__).resolve().parent.parent
 FULL = "recurs(8) & exponential(0.1, 2).cap(10).jittered(0, 1)"
@@ -177,7 +178,7 @@ LONG_POLICY = "recurs(10000) & spaced(0.01)"
 
 NEVER = "A: 18.4 % of 48,000 requests succeeded, not back by the end; 7.62 calls for each"
 ENDS = "B: 83.3 % of 48,000 requests succeeded, back at 20 s; 1.02 calls for each"
-STALE = "This picture shows the last valid input. What is wrong is marked."
+STALE = "This picture shows the last valid input. "
 
 
 def test_the_page_begins_with_the_storm_that_never_ends_and_the_one_that_a_quota_ends(
@@ -268,7 +269,8 @@ def test_all_of_it_by_the_keyboard(browser: Browser, lab: Lab) -> None:
     said = browser.wait("return document.getElementById('a-fault').textContent")
     assert said == "not a plan: no builder is called 'spced'; did you mean 'spaced'?"
     assert browser.run("return document.getElementById('a-text').getAttribute('aria-invalid')") == "true"
-    browser.wait(f"return document.getElementById('stale').textContent === '{STALE}'")
+    browser.wait("return document.getElementById('stale').textContent !== ''")
+    assert text_of(browser, "stale") == f"{STALE}Policy A: {said}"
     shot(browser, "fault")
     # a policy
     browser.keys("a", held=CONTROL)
@@ -318,7 +320,7 @@ def test_all_of_it_by_the_keyboard(browser: Browser, lab: Lab) -> None:
         (
             "Python of A",
             "from hikebox import recurs, storm\n\npolicy = recurs(3)\n"
-            f"print(storm(policy, capacity={capacity}, budget=100))\n",
+            f"print(storm(policy, capacity={capacity}, limit=100))\n",
         ),
         ("JSON of the policy of A", '{"recurs":3}'),
     ]:
@@ -338,8 +340,8 @@ STORIES = [
     ("quota", "18.4 % of 48,000 requests succeeded, not back", "83.3 % of 48,000 requests succeeded, back at 20 s"),
     (
         "retries",
-        "63.8 % of 48,000 requests succeeded, back at 33 s; 1.00",
-        "18.0 % of 48,000 requests succeeded, not back by the end; 3.46",
+        "63.9 % of 48,000 requests succeeded, back at 33 s; 1.00",
+        "18.1 % of 48,000 requests succeeded, not back by the end; 3.46",
     ),
     ("jitter", "37.0 % of 10,000 requests", "100 % of 10,000 requests"),
     (
@@ -355,7 +357,7 @@ STORIES = [
     (
         "beside",
         "83.3 % of 48,000 requests succeeded, back at 20 s; 1.02",
-        "20.7 % of 48,000 requests succeeded, not back by the end; 3.01",
+        "20.8 % of 48,000 requests succeeded, not back by the end; 3.01",
     ),
 ]
 
@@ -400,7 +402,8 @@ def test_a_wrong_number_is_told_at_its_box(browser: Browser, identity: str, type
     assert text_of(browser, f"{identity}-fault") == said
     assert browser.run("return document.getElementById(arguments[0]).getAttribute('aria-invalid')", identity) == "true"
     # (the numbers that it was while it was typed were right, and may have been played)
-    assert text_of(browser, "stale") == STALE
+    label = browser.run("return document.getElementById(arguments[0]).labels[0].textContent", identity)
+    assert text_of(browser, "stale") == f"{STALE}{label}: {said}."
     types(browser, identity, right)
     assert text_of(browser, f"{identity}-fault") == ""
     browser.wait("return document.getElementById('stale').textContent === ''")
@@ -413,7 +416,8 @@ def test_numbers_that_are_wrong_together_are_told(browser: Browser) -> None:
         "const said = 'it ends at 20000 ms, before it begins at 30000 ms';"
         "return document.getElementById('outage0-fault').textContent === said"
     )
-    assert text_of(browser, "stale") == STALE
+    said = "Outage from, ms: it ends at 20000 ms, before it begins at 30000 ms."
+    assert text_of(browser, "stale") == STALE + said
     types(browser, "outage1", "40000")
     browser.wait("return document.getElementById('outage0-fault').textContent === ''")
     comes_to(browser, "back at 40 s", "b")
@@ -438,7 +442,7 @@ def test_an_answer_to_a_number_of_before_leaves_the_fault_of_the_box(browser: Br
 
 def test_what_is_wrong_in_a_link_is_told(browser: Browser, lab: Lab) -> None:
     for carried, identity, fault, said in [
-        ("story=quota&rate=abc", "rate", "expected a whole number from 1 to 1,000,000, got 'abc'", ""),
+        ("story=quota&patience=abc", "patience", "expected a whole number from 1 to 3,600,000, got 'abc'", ""),
         ("rate=900&outage=5000", "outage1", "expected a whole number from 0 to 3,600,000, got nothing", ""),
         ("outage=5-6-7", "outage1", "expected a whole number from 0 to 3,600,000, got '6-7'", ""),
         ("story=flood&rats=5", "", "", "The link has what this page does not know: story=flood, rats."),
@@ -454,7 +458,8 @@ def test_what_is_wrong_in_a_link_is_told(browser: Browser, lab: Lab) -> None:
         browser.wait(PLAYED)
         assert text_of(browser, "said") == said
         if identity:
-            assert text_of(browser, f"{identity}-fault") == fault and text_of(browser, "stale") == STALE
+            assert text_of(browser, f"{identity}-fault") == fault
+            assert text_of(browser, "stale").startswith(STALE) and text_of(browser, "stale").endswith(f"ms: {fault}.")
     browser.open("about:blank")
     # A link without a story is not dropped.
     browser.open(f"{lab.address}#rate=900&b=recurs%280%29")
@@ -493,8 +498,64 @@ def test_a_page_without_a_picture_does_not_speak_of_one(browser: Browser, lab: L
     browser.open("about:blank")
     browser.open(f"{lab.address}#down=2")
     browser.wait("return document.getElementById('down-fault').textContent === 'expected 1 to 1, got 2'")
-    assert text_of(browser, "stale") == "What is wrong is marked."
+    assert text_of(browser, "stale") == "Replicas down in the outage: expected 1 to 1, got 2."
     assert not browser.run("return document.querySelector('#played svg')")
+
+
+def test_a_page_that_is_loaded_with_a_wrong_policy_says_what_is_wrong_where_the_picture_would_be(
+    browser: Browser, lab: Lab
+) -> None:
+    browser.open("about:blank")
+    browser.open(f"{lab.address}#a=recurs%283%29%20%26%20spced%281%29&b=")
+    browser.wait("return document.getElementById('stale').textContent !== ''")
+    said = "Policy A: not a plan: no builder is called 'spced'; did you mean 'spaced'?"
+    assert text_of(browser, "stale") == said
+    assert not browser.run("return document.querySelector('#played svg')")
+    seen = browser.run(
+        "const box = document.getElementById('stale').getBoundingClientRect();"
+        "return box.height > 0 && box.top >= 0 && box.bottom <= innerHeight"
+    )
+    assert seen
+    shot(browser, "wrong")
+
+
+def test_a_side_keeps_its_colour_where_the_other_one_is_wrong(browser: Browser, lab: Lab) -> None:
+    colours = (
+        "return [...document.querySelectorAll('#swept path[stroke-width]')].map((path) => path.getAttribute('stroke'))"
+    )
+    both = set(browser.run(colours))
+    browser.open("about:blank")
+    browser.open(f"{lab.address}#a=recurs%280%29&b=")
+    browser.wait(PLAYED)
+    of_a = set(browser.run(colours))
+    browser.open("about:blank")
+    browser.open(f"{lab.address}#a=spced%281%29&b=recurs%280%29")
+    browser.wait(PLAYED)
+    of_b = set(browser.run(colours))
+    assert of_a and of_b and not of_a & of_b and of_a | of_b <= both
+
+
+@pytest.mark.parametrize("seconds, most", [(60, 17_476), (600, 1_747), (10, 20_000)])
+def test_a_slider_goes_no_further_than_the_storm_is_played(browser: Browser, seconds: int, most: int) -> None:
+    # (of 1,048,576 requests at most)
+    types(browser, "seconds", str(seconds))
+    comes_to(browser, f"of {800 * seconds:,} requests")
+    browser.run("document.getElementById('rate-slider').focus()")
+    browser.keys(END)
+    rate = int(browser.run("return document.getElementById('rate').value"))
+    assert 0.9 * most <= rate <= most
+    comes_to(browser, f"of {rate * seconds:,} requests")
+    assert text_of(browser, "rate-fault") == text_of(browser, "stale") == ""
+
+
+def test_a_storm_of_a_million_requests_shows_the_share_that_is_played(browser: Browser) -> None:
+    browser.run("state.storm = { rate: 17000, queue: 5000 }; showControls(); stormChanged()")
+    share = browser.wait("return document.querySelector('#busy:not([hidden]) progress').value")
+    assert 0 < share < 1 and re.fullmatch(r"about \d+ % done\.", text_of(browser, "done"))
+    shot(browser, "share")
+    browser.wait(f"return document.querySelector('#busy:not([hidden]) progress').value > {share}")
+    comes_to(browser, "of 1,020,000 requests", "b")
+    browser.wait("return document.getElementById('busy').hidden")
 
 
 def test_a_browser_that_does_not_copy_shows_where_the_text_is(browser: Browser) -> None:
@@ -548,9 +609,9 @@ def test_a_quota_beside_clients_without_one_is_in_view(browser: Browser, lab: La
     browser.resize(width, height)
     browser.open(f"{lab.address}#story=beside")
     browser.wait(PLAYED)
-    comes_to(browser, "20.7 % of 48,000 requests succeeded, not back by the end; 3.01", "b")
+    comes_to(browser, "20.8 % of 48,000 requests succeeded, not back by the end; 3.01", "b")
     texts = browser.run("return [...document.querySelectorAll('#played text')].map((text) => text.textContent)")
-    assert {"A: beside 30 %, limited", "B: beside 30 %, not limited", "17.7 %", "27.7 %"} <= set(texts)
+    assert {"A: beside 30 %, limited", "B: beside 30 %, not limited", "17.8 %", "27.8 %"} <= set(texts)
     theirs = [text.partition(":")[0] for text in texts if text.startswith("beside, ")]
     assert theirs == ["beside, 30 %, limited", "beside, 30 %, not limited"]
     picture = browser.run("return document.querySelector('.picture').getBoundingClientRect().height")
@@ -573,7 +634,7 @@ def test_clients_beside_by_the_keyboard_the_link_and_the_copies(browser: Browser
     comes_to(browser, "B: 21.6 % of 4,800 requests succeeded, not back by the end; 2.43 calls for each", "b")
     browser.tab_to("b-limited")
     browser.keys(" ")
-    comes_to(browser, "B: 83.3 % of 4,800 requests succeeded, back at 20 s; 1.04 calls for each", "b")
+    comes_to(browser, "B: 83.4 % of 4,800 requests succeeded, back at 20 s; 1.04 calls for each", "b")
     browser.run("document.getElementById('beside-policy').focus()")
     browser.keys(DOWN)
     browser.wait("return programs[1] && programs[1].command.includes(\"--beside '20+limited=recurs(0)'\")")
@@ -678,7 +739,7 @@ def test_texts_can_be_read(browser: Browser, dark: bool, width: int, height: int
 def test_each_control_has_a_name_of_its_own(browser: Browser) -> None:
     labels = [browser.label(element) for element in browser.elements("input, select, textarea, button, summary")]
     assert len(labels) > 40 and "" not in labels
-    assert [label for label in labels if "Policy, as an expression" in label or "Budget, quota or limit" in label]
+    assert [label for label in labels if "Policy, as an expression" in label or "Limit" in label]
     regions = [browser.label(element) for element in browser.elements("main section")]
     assert regions == [
         "The storm",

@@ -11,7 +11,7 @@ from textwrap import wrap
 
 TOP = Path(__file__).resolve().parent.parent
 WIDTH = 100
-LEFT_OUT = ("example_", "check_", "bench_")
+LEFT_OUT = ("example_", "check", "bench")
 
 Crates = dict[str, list[str]]
 

@@ -1,6 +1,8 @@
 // Calls the library as a C program does. The first word says what it does:
 //   plan STEPS FROM TOOK INPUTS WORD  steps the policy on standard input along a course, and prints what `zsched plan` prints:
 //                                     one input or more, a word or seed:N
+//   plans                             the same for each line of standard input, which has these words and, after a tab, the
+//                                     policy; with the status of each
 //   retry BUDGET RUN..                runs a retry of the policy on standard input, whose runs end as the words say
 //                                     (won:1, lost:7, the last one repeated), and prints `zsched pool`'s line of it
 //   fault                             says what is wrong with the policy on standard input, as `zsched check` does
@@ -27,7 +29,14 @@
 //   calls                             each call that takes memory at least once; one that is refused for want of memory is made again
 #include "checks.h"
 #include <pthread.h>
+#ifdef _WIN32
+#include <windows.h>
+
+#include <psapi.h>
+#undef far
+#else
 #include <sys/resource.h>
+#endif
 
 int wrong;
 char input[1 << 20];
@@ -67,6 +76,23 @@ static hikebox_status say_fault(const char *json, char *text, size_t capacity, s
 void read_input(void) {
     size_t length = fread(input, 1, sizeof input - 1, stdin);
     input[length] = 0;
+}
+
+static int plans(void) {
+    static char line[1 << 20];
+    while (fgets(line, sizeof line, stdin)) {
+        char *words[5] = {0}, *policy = strchr(line, '\t');
+        size_t at = 0;
+        if (!policy) return 101;
+        line[strcspn(line, "\r\n")] = 0;
+        strcpy(input, policy + 1);
+        *policy = 0;
+        for (char *word = strtok(line, " "); word && at < 5; word = strtok(0, " "))
+            words[at++] = word;
+        if (at < 5) return 101;
+        printf("status %d\n", plan(words));
+    }
+    return wrong;
 }
 
 static int retry(char **words, int count) {
@@ -144,9 +170,15 @@ static int faults(void) {
 
 // The greatest size that the program had in memory, in bytes.
 static uint64_t most_memory(void) {
+#ifdef _WIN32
+    PROCESS_MEMORY_COUNTERS used;
+    holds(K32GetProcessMemoryInfo(GetCurrentProcess(), &used, sizeof used));
+    return used.PeakWorkingSetSize;
+#else
     struct rusage used;
     getrusage(RUSAGE_SELF, &used);
     return (uint64_t)used.ru_maxrss * 1024;
+#endif
 }
 
 // A retry keeps none of its failures, and has no last one.
@@ -248,12 +280,16 @@ static int handles(void) {
     wants(hikebox_quota_new(0, 1, 0, 100, false, &quota), HIKEBOX_OK);
     wants(hikebox_pass_split(&quota, &other_quota), HIKEBOX_OK);
     wants(hikebox_retry_new(&policy, &quota, HIKEBOX_NO_DEADLINE, &quota_machine), HIKEBOX_OK);
-    void *kinds[] = {&policy, &pass, &quota, &machine, &part};
+    hikebox_limit limit = HIKEBOX_INIT, other_limit = HIKEBOX_INIT;
+    wants(hikebox_in_flight_new(3, 200, &limit), HIKEBOX_OK);
+    wants(hikebox_limit_split(&limit, &other_limit), HIKEBOX_OK);
+    void *kinds[] = {&policy, &pass, &quota, &machine, &limit, &part};
     enum {
         POLICY,
         PASS,
         QUOTA,
         RETRY,
+        LIMIT,
         NOTHING,
         KINDS
     };
@@ -303,6 +339,18 @@ static int handles(void) {
             wants(hikebox_retry_end(handle, &other_quota), refused);
             wants(hikebox_retry_free(handle), refused);
         }
+        if (kind != LIMIT) {
+            wants(hikebox_limit_admit(handle, 0, 0, &number), refused);
+            wants(hikebox_limit_draw(handle, 0, 0, 0, &number), refused);
+            wants(hikebox_limit_failed(handle, 0), refused);
+            wants(hikebox_limit_succeeded(handle, 0), refused);
+            wants(hikebox_limit_cancelled(handle), refused);
+            wants(hikebox_limit_ended(handle), refused);
+            wants(hikebox_limit_split(handle, (hikebox_limit *)&spare), refused);
+            wants(hikebox_limit_both(handle, &other_limit), refused);
+            wants(hikebox_limit_both(&other_limit, handle), refused);
+            wants(hikebox_limit_free(handle), refused);
+        }
         holds(spare.held == NULL);
         if (kind == NOTHING) continue;
         // A handle that holds something, of whatever kind, is not filled.
@@ -318,6 +366,8 @@ static int handles(void) {
         wants(hikebox_pass_split(&other_quota, handle), HIKEBOX_FULL);
         wants(hikebox_retry_new(&other_policy, &other_quota, HIKEBOX_NO_DEADLINE, handle), HIKEBOX_FULL);
         wants(retry_on_nothing(&other_policy, HIKEBOX_NO_DEADLINE, handle), HIKEBOX_FULL);
+        wants(hikebox_in_flight_new(3, 200, handle), HIKEBOX_FULL);
+        wants(hikebox_limit_split(&other_limit, handle), HIKEBOX_FULL);
         holds(place.line == 0 && place.column == 0);
     }
     wants(hikebox_retry_end(&other_machine, &other_pass), HIKEBOX_OK);
@@ -325,6 +375,8 @@ static int handles(void) {
     wants(hikebox_retry_end(&quota_machine, &other_quota), HIKEBOX_OK);
     wants(hikebox_pass_join(&quota, &other_quota), HIKEBOX_OK);
     wants(hikebox_policy_free(&other_policy), HIKEBOX_OK);
+    wants(hikebox_limit_both(&limit, &other_limit), HIKEBOX_OK);
+    wants(hikebox_limit_free(&limit), HIKEBOX_OK);
     // Nothing was lost and no result was written.
     holds(number == 77 && other == 78 && most == 76 && length == 79 && line.moment == 5 && next.what == 9 &&
           next.granted == 9);
@@ -846,7 +898,7 @@ static void drawings(void) {
     // A second one is refused in the window that has given its ticket, and a later one draws again.
     wants(hikebox_retry_new(&often, &quota, HIKEBOX_NO_DEADLINE, &machine), HIKEBOX_OK);
     fails(&machine, 290, 290, HIKEBOX_OVER, 0);
-    ended(&machine, HIKEBOX_ENDED_REFUSED, 1);
+    ended(&machine, HIKEBOX_ENDED_LIMIT_REFUSED, 1);
     wants(hikebox_retry_end(&machine, &quota), HIKEBOX_OK);
     wants(hikebox_retry_new(&often, &quota, HIKEBOX_NO_DEADLINE, &machine), HIKEBOX_OK);
     fails(&machine, 300, 300, HIKEBOX_RUN, 1);
@@ -990,7 +1042,7 @@ static void late_wakes(hikebox_policy *policy, hikebox_pass *pass) {
     // The third kept it, and a fourth finds none.
     wants(hikebox_retry_new(policy, &quota, 500, &machine), HIKEBOX_OK);
     fails(&machine, 0, 0, HIKEBOX_OVER, 0);
-    ended(&machine, HIKEBOX_ENDED_REFUSED, 1);
+    ended(&machine, HIKEBOX_ENDED_LIMIT_REFUSED, 1);
     wants(hikebox_retry_end(&machine, &quota), HIKEBOX_OK);
     closes(&quota, 1);
 }
@@ -1735,6 +1787,7 @@ static int version(void) {
     char text[32];
     snprintf(text, sizeof text, "%d.%d.%d", HIKEBOX_VERSION_MAJOR, HIKEBOX_VERSION_MINOR, HIKEBOX_VERSION_PATCH);
     holds(!strcmp(text, HIKEBOX_VERSION) && !strcmp(text, hikebox_version()));
+    holds(strstr(hikebox_build(), " proved") || strstr(hikebox_build(), " of "));
     holds(HIKEBOX_VERSION_NUMBER / 1000000 == HIKEBOX_VERSION_MAJOR && HIKEBOX_VERSION_NUMBER >= 1000000);
 #if HIKEBOX_VERSION_NUMBER < 1000000
 #error "the number of the version is no number for the preprocessor"
@@ -1755,7 +1808,8 @@ static const struct {
 
 int main(int count, char **words) {
     const char *what = count > 1 ? words[1] : "";
-    if (!strcmp(what, "plan") && count == 7) return plan(words + 2);
+    if (!strcmp(what, "plan") && count == 7) return read_input(), plan(words + 2);
+    if (!strcmp(what, "plans")) return plans();
     if (!strcmp(what, "retry") && count > 3) return retry(words + 2, count - 2);
     if (!strcmp(what, "draw") && count == 4) return draw(words + 2);
     if (!strcmp(what, "fault")) return fault();

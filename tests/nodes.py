@@ -23,11 +23,11 @@ BEGIN, END = "<!-- tests/nodes.py writes this table. -->\n", "<!-- end -->\n"
 
 #: A node of each kind, what it is, and the most files that you may have to write for one more like it.
 SAMPLES = {
-    "linear": ("a leaf that keeps how many events there were", 23),
-    "windowed": ("a leaf that keeps more than that", 25),
-    "cap": ("a node over one plan that keeps nothing", 24),
-    "renew_idle": ("a node over one plan that keeps a moment", 30),
-    "feed": ("a node over two plans", 33),
+    "linear": ("a leaf that keeps how many events there were", 22),
+    "windowed": ("a leaf that keeps more than that", 24),
+    "cap": ("a node over one plan that keeps nothing", 23),
+    "renew_idle": ("a node over one plan that keeps a moment", 29),
+    "feed": ("a node over two plans", 32),
 }
 #: The files outside the engine that you write for each node; the builder stands in one of two files.
 BUILDERS = {
@@ -41,7 +41,6 @@ OUTSIDE = [
     "python/tests/faults.py",
     "python/tests/reference.py",
     "python/tests/test_policy.py",
-    "docs/PYTHON.md",
     "CHANGELOG.md",
 ]
 #: What a node's expressions give in Rust's tests is made by another program.

@@ -1,7 +1,8 @@
 #!/usr/bin/env bash
-# tests/packages.sh PACKAGE..: says which of these packages of Debian are missing and how large they are, and installs
-# them; who is not root gets the command that does it. tests/packages.sh --missing PACKAGE..: prints the missing ones.
-# Where there is no dpkg none is looked for.
+# tests/packages.sh [--ask] PACKAGE..: says which of these packages of Debian are missing and how large they are, and
+# installs them; who is not root gets the command that does it. With --ask it asks before it installs, if it runs on a
+# terminal and not in CI. tests/packages.sh --missing PACKAGE..: prints the missing ones. Where there is no dpkg none is
+# looked for.
 set -euo pipefail
 
 # missing PACKAGE..: prints those that are not installed
@@ -21,10 +22,22 @@ tell_missing() {
   echo "tests/packages.sh: ${#names[@]} packages are missing${size:+ ($size)}: ${names[*]}" >&2
 }
 
-only_asks=false
-[ "${1:-}" != --missing ] || { only_asks=true; shift; }
+# Asks, and ends with the command where the answer is another than yes.
+ask_first() {
+  local answer=
+  [ -z "${CI:-}" ] && [ -t 0 ] && [ -t 2 ] || return 0
+  read -r -p 'tests/packages.sh: install them now? [y/N] ' answer || echo >&2
+  case $answer in [yY] | [yY]es) ;; *) echo "apt-get update && ${install[*]}" >&2; exit 1 ;; esac
+}
+
+only_tells=false
+asks=false
+case ${1:-} in
+  --missing) only_tells=true; shift ;;
+  --ask) asks=true; shift ;;
+esac
 [ $# -gt 0 ] && command -v dpkg-query >/dev/null || exit 0
-if $only_asks; then
+if $only_tells; then
   missing "$@"
   exit
 fi
@@ -58,4 +71,5 @@ try() {
 
 try apt-get update "${wait[@]}"
 tell_missing
+! $asks || ask_first
 try "${install[@]}" "${wait[@]}"

@@ -50,7 +50,8 @@ static void read_again(hikebox_policy *policy) {
     wants(read_policy(text, policy), HIKEBOX_OK);
 }
 
-// The words are STEPS FROM TOOK INPUTS WORD, as zsched's options of these names have them, or seed:N for WORD.
+// Of the policy in `input`. The words are STEPS FROM TOOK INPUTS WORD, as zsched's options of these names have them, or
+// seed:N for WORD.
 int plan(char **words) {
     static hikebox_event events[HIKEBOX_MAX_STEPS];
     static hikebox_line lines[HIKEBOX_MAX_STEPS];
@@ -69,7 +70,6 @@ int plan(char **words) {
             events[given].input = events[given - 1].input;
         seed_words(strtoull(words[4] + 5, 0, 10), events, given);
     }
-    read_input();
     hikebox_status status = read_policy(input, &policy);
     if (status != HIKEBOX_OK) return (int)status;
     read_again(&policy);

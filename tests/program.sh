@@ -42,12 +42,13 @@ refuses() {
   wants 3 '' "zsched: $line\\n$more\\n" "$@"
 }
 
-# helps WORD..: zsched shows help on standard output with these words
+# helps WORD..: zsched shows help on standard output with these words, in lines of at most 80 columns
 helps() {
   local got=0
   "$zsched" "$@" </dev/null >"$work/out" 2>"$work/err" || got=$?
-  if [ "$got" != 0 ] || ! grep -q 'Usage: zsched' "$work/out" || [ -s "$work/err" ]; then
-    echo "tests/program.sh: zsched $*: no help" >&2
+  if [ "$got" != 0 ] || ! grep -q 'Usage: zsched' "$work/out" || grep -nE '.{81}' "$work/out" >&2 ||
+    [ -s "$work/err" ]; then
+    echo "tests/program.sh: zsched $*: no help, or too wide" >&2
     failed=1
   fi
 }
@@ -420,7 +421,7 @@ tickets                  1             1             0
 50 in 100 ms            21            11            21
 99 in 100 ms            22            11            22
 slowest ms              22            11            22
-recovered ms         never         never         never
+recovered ms         never         never             -
 '
 cd "$work"
 wants 0 "  won %  from ms  requests  retries  failed  waiting  # request, + retry
@@ -450,6 +451,24 @@ names='patience,requests,won,lost,denied,open,calls,hundredths,most_calls,most_f
 wants 0 "${names}5,1,0,1,0,0,1,100,1,0,0,,,,,false\n500,1,1,0,0,0,1,100,1,0,0,10,10,10,0,false\n" '' \
   storm $late --beside 1=a=b@1+2 --sweep patience=5,500
 wants 0 "${names}5,1,1,0,0,0,1,100,1,0,0,10,10,10,0,false\n" '' storm $late --beside 1@500=a=b@1+2 --sweep patience=5
+
+# Three requests come at 0, and the peer has room for two of them: 66.67 %, rounded to the nearest.
+printf '{"recurs":0}' >"$work/once"
+three='--rate 3 --together 3 --seconds 1 --outage 0..0 --queue 2'
+wants 0 "  won %  from ms  requests  retries  failed  waiting  # request, + retry
+     67        0         3        0       1        0  ##########################
+                                                      0                  3 calls
+3 requests: 2 won, 1 lost, 0 denied a retry, 0 left open
+3 calls, 1.00 for each request
+the most in a window are 3, from 0 ms
+won after 1 ms (50 in 100), 2 ms (99 in 100), 2 ms (all)
+never recovered
+" '' storm $three once
+wants 0 "  won %  queue  calls for each  slowest ms  recovered ms
+   66.7      2            1.00           2         never  ###############
+  100.0      3            1.00           3             0  ######################
+                                                          0                100 %
+" '' storm $three --sweep queue=2,3 once
 
 # added SHARE..: in the JSON of a storm of populations with these shares, in a line of standard input, of each hundred
 # requests each population has its share, and what is counted of the populations, in all and in each window, adds up to

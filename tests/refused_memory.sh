@@ -5,14 +5,15 @@
 # also answer that a worker was not started, or have one job that is broken. HIKEBOX_ZSCHED names the program, that of
 # dist/ where it does not.
 #
-# crates are the programs of check_refused_growths and check_refused_polls, which bin/build has built. A budget that was
-# refused, and a driver whose step was, have to be as before, and the same call has to succeed when it is made again. A
-# task whose poll was refused one has to be broken for good, with its driver as before.
+# crates is the program `checks`, which bin/build has built. A budget that was refused, and a driver whose step was, have
+# to be as before, and the same call has to succeed when it is made again. A task whose poll was refused one has to be
+# broken for good, with its driver as before.
 #
 # As many runs as there are processors are tried side by side.
 set -euo pipefail
 top=$(cd "$(dirname "${BASH_SOURCE[0]}")/.." && pwd)
 zsched=${HIKEBOX_ZSCHED:-$top/dist/zsched}
+checks=$top/crates/checks/out/checks
 case ${1:-} in
   zsched | crates) ;;
   *) echo "tests/refused_memory.sh: refused_memory.sh zsched|crates" >&2; exit 2 ;;
@@ -141,26 +142,25 @@ refuses_jobs() {
 # Each growth of a program that makes a refused call again: where one was refused, the line with the fault is the line
 # before, and all others are as they are without a refusal. Each of the 24 calls is refused at least once.
 refuses_calls() {
-  local program=$top/crates/check_refused_growths/out/check_refused_growths
   local growth=0 status
-  cp "$top/crates/check_refused_growths/stdout" "$work/out.whole"
+  "$checks" growths >"$work/out.whole"
   : >"$work/shown"
   while :; do
     growth=$((growth + 1))
     status=0
-    with_refused "$growth" "$program" || status=$?
+    with_refused "$growth" "$checks" growths || status=$?
     [ -s "$work/refused" ] || break
     if grep '^NoMemory: ' "$work/out" >>"$work/shown"; then
       [ "$status" = 0 ] && grep -v '^NoMemory: ' "$work/out" | cmp -s - "$work/out.whole" &&
         awk '/^NoMemory: / && $0 != "NoMemory: " before { exit 1 } { before = $0 }' "$work/out" ||
-        wrong "$growth" "$status" check_refused_growths
+        wrong "$growth" "$status" "checks growths"
     else
-      [ "$status" = 5 ] && is_front || wrong "$growth" "$status" check_refused_growths
+      [ "$status" = 5 ] && is_front || wrong "$growth" "$status" "checks growths"
     fi
   done
   [ "$status" = 0 ] && cmp -s "$work/out" "$work/out.whole" && [ "$(sort -u "$work/shown" | wc -l)" = 24 ] ||
-    wrong none "$status" check_refused_growths
-  echo "tests/refused_memory.sh: check_refused_growths: $(wc -l <"$work/shown") of $((growth - 1)) growths refused in a call"
+    wrong none "$status" "checks growths"
+  echo "tests/refused_memory.sh: checks growths: $(wc -l <"$work/shown") of $((growth - 1)) growths refused in a call"
 }
 
 # breaks_for_good: one task is broken by want of memory at one poll. It is ready from then on and shows no change, and its
@@ -184,26 +184,25 @@ breaks_for_good() {
 # Each growth of a program that polls tasks. Polls are refused one in as many different ways as there are growths of
 # the lists and outputs in them. One that is refused after the last line, where the queue ends, changes nothing.
 refuses_polls() {
-  local program=$top/crates/check_refused_polls/out/check_refused_polls
   local growth=0 status
-  cp "$top/crates/check_refused_polls/stdout" "$work/out.whole"
+  "$checks" polls >"$work/out.whole"
   : >"$work/shown"
   while :; do
     growth=$((growth + 1))
     status=0
-    with_refused "$growth" "$program" || status=$?
+    with_refused "$growth" "$checks" polls || status=$?
     [ -s "$work/refused" ] || break
     if grep -m 1 'Broken(NoMemory)' "$work/out" >>"$work/shown"; then
-      [ "$status" = 0 ] && breaks_for_good || wrong "$growth" "$status" check_refused_polls
+      [ "$status" = 0 ] && breaks_for_good || wrong "$growth" "$status" "checks polls"
     elif [ "$status" = 0 ]; then
-      cmp -s "$work/out" "$work/out.whole" || wrong "$growth" "$status" check_refused_polls
+      cmp -s "$work/out" "$work/out.whole" || wrong "$growth" "$status" "checks polls"
     else
-      [ "$status" = 5 ] && is_front || wrong "$growth" "$status" check_refused_polls
+      [ "$status" = 5 ] && is_front || wrong "$growth" "$status" "checks polls"
     fi
   done
   [ "$status" = 0 ] && cmp -s "$work/out" "$work/out.whole" && [ "$(sort -u "$work/shown" | wc -l)" = 38 ] ||
-    wrong none "$status" check_refused_polls
-  echo "tests/refused_memory.sh: check_refused_polls: $(wc -l <"$work/shown") of $((growth - 1)) growths refused in a poll"
+    wrong none "$status" "checks polls"
+  echo "tests/refused_memory.sh: checks polls: $(wc -l <"$work/shown") of $((growth - 1)) growths refused in a poll"
 }
 
 # The stored output of the program, on the plan of its stored input.
@@ -266,8 +265,9 @@ tries_zsched() {
   beside tries refuses_jobs 0 ' in 1 windows' "$three_calls" --quota 100/0/1000
 }
 
-# The programs of crates.
+# The calls and the polls of `checks`, which together print what is stored of it.
 tries_crates() {
+  "$checks" | cmp - "$top/crates/checks/stdout"
   beside tries refuses_calls
   beside tries refuses_polls
 }

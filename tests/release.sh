@@ -20,22 +20,19 @@ fails() {
 # A checkout whose dist/ is of its sources, and crates in the place of crates.io.
 mkdir -p "$clone" "$work/cargo"
 tar -C "$top" --exclude=./.git --exclude=./out --exclude=out --exclude=./dist --exclude=__pycache__ -cf - . | tar -C "$clone" -xf -
-mkdir -p "$clone/dist/aarch64"
-for file in zsched libhikebox.a libhikebox.so hikebox.h aarch64/libhikebox.a aarch64/libhikebox.so; do
-  cp "$dist/$file" "$clone/dist/$file"
+files=({,aarch64/}{zsched,libhikebox.a,libhikebox.so})
+wheels=(hikebox.whl aarch64/hikebox.whl)
+for triple in x86_64-pc-windows-gnu x86_64-apple-darwin aarch64-apple-darwin; do
+  mapfile -t -O "${#files[@]}" files < <(cd "$dist" && printf '%s\n' "$triple"/*)
+  wheels+=("$triple/hikebox.whl")
 done
-for machine in x86_64 aarch64; do
-  folder=$clone/dist$([ "$machine" = x86_64 ] || echo "/$machine")
-  HIKEBOX_PLATFORM=$machine python3 "$clone/python/build_backend.py" wheel "$folder" >/dev/null
-  mkdir -p "$clone/rust/lib/$machine"
-  cp "$folder/libhikebox.a" "$clone/rust/lib/$machine"
+for file in "${files[@]}"; do
+  install -D "$dist/$file" "$clone/dist/$file"
+  [ "${file##*/}" != libhikebox.a ] || install -D -m 644 "$dist/$file" "$clone/rust/lib/$([[ $file == */* ]] || echo x86_64/)$file"
 done
-(
-  cd "$clone/dist"
-  ../bin/digest zsched libhikebox.a libhikebox.so hikebox.h hikebox-*.whl aarch64/*
-  grep '^kit ' "$top/dist/SOURCES"
-) >"$work/SOURCES"
+{ "$clone/bin/digest" "${files[@]}" hikebox.h "${wheels[@]}"; grep '^kit ' "$top/dist/SOURCES"; } >"$work/SOURCES"
 cp "$work/SOURCES" "$clone/dist/SOURCES"
+"$clone/bin/dist" --wheels 2>/dev/null
 git -C "$clone" init -q
 git -C "$clone" add -A
 git -C "$clone" -c user.name=x -c user.email=x@x commit -qm 'What is released'
@@ -49,6 +46,8 @@ printf '%s\n' SHA256SUMS "hikebox-$version-linux-aarch64.tar.gz" "hikebox-$versi
   "hikebox-$version-py3-none-manylinux_2_14_x86_64.musllinux_1_2_x86_64.whl" \
   "hikebox-$version-py3-none-manylinux_2_17_aarch64.musllinux_1_2_aarch64.whl" \
   "hikebox-$version.cdx.json" "hikebox-$version.crate" "hikebox-$version.tar.gz" >"$work/want"
+printf "hikebox-$version-%s\n" py3-none-{win_amd64,macosx_10_13_x86_64,macosx_11_0_arm64}.whl \
+  {x86_64-pc-windows-gnu,x86_64-apple-darwin,aarch64-apple-darwin}.tar.gz >>"$work/want"
 (cd "$work/release" && printf '%s\n' *) | LC_ALL=C sort | cmp - <(LC_ALL=C sort "$work/want") ||
   fails "it has other files: $(ls "$work/release")"
 (cd "$work/release" && sha256sum --quiet -c SHA256SUMS) || fails "a checksum is wrong"
@@ -113,4 +112,16 @@ echo >>"$clone/python/README.md"
 git -C "$clone" -c user.name=x -c user.email=x@x commit -qam 'A change of the package'
 "$clone/bin/release" "$work/third" 2>"$work/said" && fails "an old dist/ is taken"
 grep -q 'older than their sources: hikebox-.*whl' "$work/said" || fails "an old dist/: $(cat "$work/said")"
+
+# After a change of the package bin/dist --wheels makes the wheels anew, and nothing else; over old libraries it does not.
+cp -r "$clone/dist" "$work/kept"
+"$clone/bin/dist" --wheels 2>"$work/said" || fails "bin/dist --wheels: $(cat "$work/said")"
+[ -z "$("$clone/bin/digest" --changed)" ] || fails "bin/dist --wheels leaves old: $("$clone/bin/digest" --changed)"
+for file in "${files[@]}"; do cmp "$work/kept/$file" "$clone/dist/$file" || fails "bin/dist --wheels changes $file"; done
+[ "$(diff "$work/kept/SOURCES" "$clone/dist/SOURCES" | grep -c '^> .*hikebox-.*whl ')" = ${#wheels[@]} ] || fails "SOURCES after bin/dist --wheels"
+echo >>"$clone/c/texts.c"
+status=0
+"$clone/bin/dist" --wheels 2>"$work/said" || status=$?
+[ "$status" = 1 ] && grep -q '^bin/dist: older than their sources: libhikebox.so aarch64/libhikebox.so.*; bin/dist without --wheels builds them$' \
+  "$work/said" || fails "bin/dist --wheels over old libraries: $status, $(cat "$work/said")"
 echo "tests/release.sh: wheels, source archive, crate, tarballs and a bill of materials, twice the same"

@@ -304,7 +304,7 @@ int runs(void) {
     other_runs(&policy, &pass);
     refused_runs(&policy, &pass);
     wants(after(&policy, &no_tickets, HIKEBOX_NO_DEADLINE, &retry, &first, &next), HIKEBOX_OK);
-    holds(is_at(&next, HIKEBOX_OVER, 0, 0, 1) && next.how == HIKEBOX_ENDED_REFUSED);
+    holds(is_at(&next, HIKEBOX_OVER, 0, 0, 1) && next.how == HIKEBOX_ENDED_LIMIT_REFUSED);
     wants(hikebox_retry_end(&retry, &no_tickets), HIKEBOX_OK);
     // (two of the first retry, and one of each of two others)
     wants(hikebox_pass_close(&pass, &tickets), HIKEBOX_OK);

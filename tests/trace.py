@@ -31,7 +31,7 @@ from hikebox import Budget, exponential, recurs, retry
 
 failures = iter([OSError("busy"), OSError("busy"), None])
 
-@retry(recurs(5) & exponential(0.01, 2), on=OSError, budget=Budget(100))
+@retry(recurs(5) & exponential(0.01, 2), on=OSError, limit=Budget(100))
 def call():
     failure = next(failures)
     if failure is not None:

@@ -18,7 +18,7 @@ from typing import Any, Dict, List, Optional
 ELEMENT = "element-6066-11e4-a52e-4f735466cecf"
 #: Keys that have no sign of their own.
 TAB, SHIFT, CONTROL, DELETE = "\ue004", "\ue008", "\ue009", "\ue017"
-HOME, RIGHT, UP, DOWN = "\ue011", "\ue014", "\ue013", "\ue015"
+END, HOME, RIGHT, UP, DOWN = "\ue010", "\ue011", "\ue014", "\ue013", "\ue015"
 
 _OPTIONS = ["--headless=new", "--no-sandbox", "--disable-gpu", "--disable-dev-shm-usage", "--no-first-run"]
 _OPTIONS += ["--disable-background-networking", "--disable-component-update", "--disable-sync", "--hide-scrollbars"]

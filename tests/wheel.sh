@@ -2,7 +2,7 @@
 # Builds the wheel twice, to the same bytes, and tries it in a fresh environment of each Python that is found, or of
 # those that HIKEBOX_PYTHONS names; and in one of Debian's the wheel of dist/, or of the folder HIKEBOX_LIB_DIR, what
 # pip makes of the package's folder and of a source archive without an index. Each engine runs where the tags of its
-# wheel say.
+# wheel say, and pip takes the wheel of each system there.
 set -euo pipefail
 top=$(cd "$(dirname "${BASH_SOURCE[0]}")/.." && pwd)
 folder=${HIKEBOX_LIB_DIR:-$top/dist}
@@ -52,11 +52,29 @@ has_its_tag() {
   [ "$beside" = 'libc.so.6 ' ] || fails "${1##*/} needs $beside"
 }
 
+# picks PLATFORM PART: pip takes the wheel with this part in its name for the platform, or none where the part is empty
+picks() {
+  rm -rf "$work/picked"
+  /usr/bin/python3 -m pip download -q --find-links "$folder" --find-links "$folder/aarch64" --only-binary :all: --no-deps --python-version 3.11 \
+    --platform "$1" --dest "$work/picked" hikebox >"$work/said" 2>&1 || true
+  [ "$(ls "$work/picked" 2>/dev/null)" = "${2:+$(basename "$(find "$folder" "$folder/aarch64" -maxdepth 1 -name "hikebox-*$2*.whl")")}" ] ||
+    fails "pip takes $(ls "$work/picked") for $1: $(cat "$work/said")"
+}
+
 backend=$top/python/build_backend.py
 wheel=$(/usr/bin/python3 "$backend" wheel "$work/wheels")
 again=$(/usr/bin/python3 "$backend" wheel "$work/again")
 cmp "$wheel" "$again" || fails "two builds of the wheel differ"
-for built in "$folder"/hikebox-*.whl "$folder"/aarch64/hikebox-*.whl; do has_its_tag "$built"; done
+for built in "$folder"/hikebox-*linux*.whl "$folder"/aarch64/hikebox-*.whl; do has_its_tag "$built"; done
+for machine in x86_64 aarch64; do
+  for system in "manylinux_2_$([ "$machine" = x86_64 ] && echo 14 || echo 17)" musllinux_1_2; do picks "${system}_$machine" "linux_1_2_$machine"; done
+done
+picks manylinux_2_13_x86_64 ''
+for built in "$folder"/hikebox-*-macosx_*.whl; do "$top/tests/macho.py" "$built" "$folder/hikebox.h"; done
+picks win_amd64 win_amd64
+for system in macosx_11_0_arm64 macosx_15_0_arm64; do picks "$system" macosx_11_0_arm64; done
+for system in macosx_10_13_x86_64 macosx_15_0_x86_64; do picks "$system" macosx_10_13_x86_64; done
+for system in win32 win_arm64 macosx_10_12_x86_64; do picks "$system" ''; done
 
 tried=' '
 found="/usr/bin/python3.? /usr/bin/python3.?? ${HOME:-}/.pyenv/versions/*/bin/python3"
@@ -68,7 +86,7 @@ for python in /usr/bin/python3 ${HIKEBOX_PYTHONS:-$found}; do
   tried="$tried$version "
   tries "$python" "$wheel"
 done
-tries /usr/bin/python3 "$folder"/hikebox-*.whl
+tries /usr/bin/python3 "$folder"/hikebox-*linux*.whl
 unset HIKEBOX_LIBRARY
 tries /usr/bin/python3 "$top/python"
 tries /usr/bin/python3 "$(/usr/bin/python3 "$backend" sdist "$work/sdist")"

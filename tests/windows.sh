@@ -1,0 +1,106 @@
+#!/usr/bin/env bash
+# Tests the files for Windows of dist/, or of HIKEBOX_LIB_DIR, under wine. The DLL has the calls of hikebox.h, and needs
+# msvcrt.dll alone. Each group of tests of the library in C runs, linked with the static library and with the DLL; so do
+# 300 random policies, which print what the library for this machine prints, sixteen threads on one budget, and
+# examples/c/storm.c. The wheel has the same DLL. README's program in Rust runs over the crate.
+set -euo pipefail
+top=$(cd "$(dirname "${BASH_SOURCE[0]}")/.." && pwd)
+dist=${HIKEBOX_LIB_DIR:-$top/dist}
+files=$dist/x86_64-pc-windows-gnu
+work=$(mktemp -d)
+export WINEPREFIX=$work/wine WINEDEBUG=-all WINEDLLOVERRIDES='winemenubuilder.exe,mscoree,mshtml=d'
+trap 'wineserver -k -w || true; rm -rf "$work"' EXIT
+cross=x86_64-w64-mingw32
+failed=0
+
+wrong() {
+  echo "tests/windows.sh: $*" >&2
+  failed=1
+}
+
+# runs PROGRAM WORD..: a program of Windows, with the ends of lines of this system
+runs() {
+  local status=0
+  wine "$work/$1.exe" "${@:2}" >"$work/said" || status=$?
+  tr -d '\r' <"$work/said"
+  return "$status"
+}
+
+# What the DLL has and needs, by objdump.
+tests_dll() {
+  local declared exported needed
+  declared=$(sed -nE 's/^(.* )?(hikebox_status |const char \*)(hikebox_[a-z_]*)\(.*/\3/p' "$dist/hikebox.h" | LC_ALL=C sort)
+  "$cross-objdump" -p "$files/hikebox.dll" >"$work/dll"
+  exported=$(awk '/^\[Ordinal\/Name Pointer\] Table/ { inside = 1; next } !NF { inside = 0 } inside { print $NF }' "$work/dll" | LC_ALL=C sort)
+  [ -n "$declared" ] && [ "$exported" = "$declared" ] || wrong "hikebox.dll has other calls than hikebox.h"
+  needed=$(sed -n 's/.*DLL Name: //p' "$work/dll" | tr '\n' ' ')
+  [ "$needed" = 'msvcrt.dll ' ] || wrong "hikebox.dll needs $needed"
+  shown=$("$cross-nm" --defined-only "$files/libhikebox.a" | awk '$2 ~ /^[A-Z]$/ { print $3 }' | LC_ALL=C sort)
+  [ "$shown" = "$declared" ] || wrong "libhikebox.a shows other names than the calls of hikebox.h"
+  python3 -m zipfile -e "$dist"/hikebox-*-win_amd64.whl "$work/wheel"
+  cmp "$files/hikebox.dll" "$work/wheel/hikebox/libhikebox.so" || wrong 'the wheel has another DLL'
+}
+
+builds() {
+  local sources=() name flags=(-std=gnu11 -Wall -Wextra -Werror -O1 "-I$dist" -pthread -static)
+  for name in library policies leases structs limits; do sources+=("$top/tests/$name.c"); done
+  "$cross-gcc-posix" "${flags[@]}" -o "$work/linked.exe" "${sources[@]}" "$files/libhikebox.a"
+  "$cross-gcc-posix" "${flags[@]}" -DHIKEBOX_DLL -o "$work/loaded.exe" "${sources[@]}" "$files/hikebox.lib"
+  cp "$files/hikebox.dll" "$work"
+  cc -std=gnu11 -O1 "-I$dist" -pthread -o "$work/own" "${sources[@]}" "$dist/libhikebox.a"
+  "$cross-gcc-posix" "${flags[@]}" -o "$work/storm.exe" "$top/examples/c/storm.c" "$files/libhikebox.a"
+  cc -O1 "-I$dist" -pthread -o "$work/storm" "$top/examples/c/storm.c" "$dist/libhikebox.a"
+}
+
+tests_groups() {
+  local program words groups
+  mapfile -t groups < <("$work/own" groups)
+  for program in linked loaded; do
+    for words in "${groups[@]}" calls 'draw 16 1000000'; do
+      # shellcheck disable=SC2086
+      runs "$program" $words >"$work/out" 2>&1 || wrong "$program $words: $(cat "$work/out")"
+    done
+  done
+}
+
+tests_policies() {
+  local program
+  python3 "$top/tests/random_policies.py" 300 29 | sed -E 's/^([^ ]+ [^ ]+ [^ ]+ [^ ]+) ([^\t]+)/\1,7,0,60 seed:\2/' >"$work/policies"
+  "$work/own" plans <"$work/policies" >"$work/want"
+  [ "$(grep -c '^status ' "$work/want")" = 300 ] || wrong 'the policies have no 300 plans'
+  for program in linked loaded; do
+    runs "$program" plans <"$work/policies" >"$work/out" && diff "$work/want" "$work/out" || wrong "$program: other plans than on Linux"
+  done
+}
+
+# What bin/install puts into a folder, where GNU's linker takes the DLL.
+tests_installed() {
+  "$top/bin/install" --target x86_64-pc-windows-gnu --prefix "$work/prefix" >/dev/null
+  "$cross-gcc-posix" -O1 -DHIKEBOX_DLL "-I$work/prefix/include" -o "$work/prefix/bin/storm.exe" "$top/examples/c/storm.c" \
+    "-L$work/prefix/lib" -lhikebox
+  "$cross-objdump" -p "$work/prefix/bin/storm.exe" >"$work/needs"
+  grep -q 'DLL Name: hikebox.dll' "$work/needs" || wrong 'the installed DLL is not loaded'
+  runs prefix/bin/storm | cmp - <("$work/storm") || wrong 'examples/c/storm.c with the installed DLL'
+}
+
+# The crate with Debian's rustc, whose standard library for Windows lies beside that for this machine.
+tests_rust() {
+  mkdir -p "$work/program/src"
+  printf '[package]\nname = "program"\nversion = "0.1.0"\nedition = "2021"\n[dependencies]\nhikebox = { path = "%s" }\n' \
+    "$top/rust" >"$work/program/Cargo.toml"
+  awk '/^```rust/ { inside = 1; next } /^```/ { inside = 0 } inside' "$top/README.md" >"$work/program/src/main.rs"
+  (cd "$work/program" && HIKEBOX_LIB_DIR=$files RUSTC=/usr/bin/rustc CARGO_INCREMENTAL=0 CARGO_TARGET_DIR=$work/target \
+    CARGO_TARGET_X86_64_PC_WINDOWS_GNU_LINKER=$cross-gcc-posix /usr/bin/cargo build --quiet --offline --target x86_64-pc-windows-gnu) &&
+    cp "$work/target/x86_64-pc-windows-gnu/debug/program.exe" "$work" && (cd "$work/program" && runs program) || wrong "the program in README.md over the crate"
+}
+
+wineboot --init >/dev/null 2>&1
+tests_dll
+builds
+tests_groups
+tests_policies
+tests_installed
+tests_rust
+runs storm | cmp - <("$work/storm") || wrong examples/c/storm.c
+[ "$failed" = 0 ] || exit 1
+echo "tests/windows.sh: each group and 300 policies under wine, linked and from the DLL"
