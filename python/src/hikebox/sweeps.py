@@ -343,7 +343,7 @@ def find_from(policy: Policy, parameters: Parameters, what: str, told: Told = si
 
     def recovers(value: int) -> bool:
         tried[value] = play(*goal.put(policy, parameters, value))
-        told(len(tried), (goal.most - goal.least).bit_length() + 2)
+        told(len(tried), (goal.most - goal.least).bit_length() + 2, None)
         return _recovers(tried[value])
 
     good, bad = (goal.least, goal.most) if goal.wants_most else (goal.most, goal.least)

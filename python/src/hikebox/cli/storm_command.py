@@ -4,8 +4,9 @@ from __future__ import annotations
 
 import sys
 import time
+from contextlib import contextmanager
 from textwrap import wrap
-from typing import Any, Callable, List, NamedTuple, Optional, Sequence, Tuple
+from typing import Any, Callable, Iterator, List, NamedTuple, Optional, Sequence, Tuple
 
 from ..errors import StormError
 from ..limits.kinds import times_of
@@ -13,7 +14,7 @@ from ..policy import Policy
 from ..storms.storm import Storm
 from ..storms.axes import values_of
 from ..storms.bars import bars, has_colour
-from ..storms.cores import Told, play_all
+from ..storms.cores import Told, play_all, silent
 from ..limits.terms import LimitTerms
 from ..storms.parameters import Parameters, limit_text, plural
 from ..storms.populations import Clients
@@ -24,7 +25,7 @@ from .scenario import Line, Scenario, scenario_of
 from .status_line import StatusLine
 from .storm_options import limits_of, parameters_of
 
-__all__ = ["Result", "result_of", "wanted_of"]
+__all__ = ["Result", "result_of", "telling", "wanted_of"]
 
 #: How wide a picture is where nothing is said.
 _WIDTH = 760
@@ -128,16 +129,27 @@ def _look_at(given: Any, count: int) -> None:
 def result_of(given: Any, policy_of: PolicyOf) -> Result:
     """Plays the storms that the options ask for, and tells them."""
     wanted = wanted_of(given, policy_of)
-    line = StatusLine(sys.stderr, True)
-    begun = time.monotonic()
-
-    def told(done: int, all: int) -> None:
-        line.show(f"{done} of {all} {plural(all, 'storm')} played, {time.monotonic() - begun:.0f} s")
-
-    try:
+    with telling() as told:
         if given.find:
             return _found(given, wanted, told)
         return _swept(given, wanted, told) if given.sweep else _played(given, wanted, told)
+
+
+@contextmanager
+def telling() -> Iterator[Told]:
+    """What tells on a terminal how many storms are played."""
+    line = StatusLine(sys.stderr, True)
+    begun = time.monotonic()
+
+    def told(done: int, all: int, share: Optional[float]) -> None:
+        about = "" if share is None else f", about {100 * share:.0f} %"
+        line.show(f"{done} of {all} {plural(all, 'storm')} played{about}, {time.monotonic() - begun:.0f} s")
+
+    try:
+        if line.is_on:
+            yield told
+        else:
+            yield silent
     finally:
         line.clear()
 
