@@ -12,7 +12,7 @@ trap 'rm -rf "$beside"' EXIT
 
 # Strictly, and the same with stubs of other libraries on the machine and without.
 types() {
-  MYPYPATH=src mypy --strict --cache-dir "$work/mypy" src tests
+  MYPYPATH=src:../bench/reality mypy --strict --cache-dir "$work/mypy" src tests ../bench/reality
 }
 
 # tests FILE: a file of tests, or a folder whose examples are tests

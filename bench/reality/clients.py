@@ -1,0 +1,109 @@
+"""Clients in a process of their own: requests at an even pace, each retried by this package."""
+
+from __future__ import annotations
+
+import asyncio
+import socket
+import struct
+from dataclasses import dataclass, field
+from itertools import cycle
+from multiprocessing.connection import Connection
+from typing import Counter, List, Set
+
+from hikebox import AsyncRetrying, NotAdmitted, Policy
+
+from pace import Behind, Pace, until
+from peer import DONE, told
+from stories import LIMITS, PlayClock, Story
+
+
+_FAILURES = (OSError, asyncio.TimeoutError)
+#: (a connection is reset where it is closed)
+_RESETS = struct.pack("ii", 1, 0)
+
+
+@dataclass
+class Tally:
+    """What became of the requests, in windows of a second."""
+
+    requests: Counter[int] = field(default_factory=Counter)
+    won: Counter[int] = field(default_factory=Counter)
+    #: The calls that began, and the requests that were denied their first.
+    calls: Counter[int] = field(default_factory=Counter)
+    not_admitted: Counter[int] = field(default_factory=Counter)
+    behind: Behind = Behind(0, 0, 0)
+
+
+@dataclass(frozen=True)
+class Clients:
+    """Whose requests they are: the share of all, and the name of the limit."""
+
+    share: float
+    limit: str
+
+
+class Population:
+    """Clients with one policy and one limit."""
+
+    def __init__(self, story: Story, clients: Clients, clock: PlayClock, ports: List[int]) -> None:
+        self._story, self._clock, self._share = story, clock, clients.share
+        self._ports = cycle(ports)
+        limit = LIMITS[clients.limit](clock)
+        self._retrying = AsyncRetrying(Policy.parse(story.policy), on=_FAILURES, limit=limit, clock=clock)
+        self.tally = Tally()
+
+    async def play(self) -> None:
+        """Makes all requests, and waits until they are over, or the play is."""
+        under_way: Set[asyncio.Task[None]] = set()
+        for due in self._story.moments(self._share):
+            await until(self._clock, due)
+            task = asyncio.create_task(self._request(due))
+            under_way.add(task)
+            task.add_done_callback(under_way.discard)
+        while under_way and self._clock() < self._story.until:
+            await asyncio.sleep(0.1)
+
+    async def _request(self, due: float) -> None:
+        second = int(due + 1e-6)
+        self.tally.requests[second] += 1
+        try:
+            await self._retrying(self._call)
+            self.tally.won[second] += 1
+        except NotAdmitted:
+            self.tally.not_admitted[second] += 1
+        except _FAILURES:
+            pass
+
+    async def _call(self) -> None:
+        self.tally.calls[int(self._clock())] += 1
+        await asyncio.wait_for(_ask(next(self._ports)), self._story.patience)
+
+
+async def _ask(port: int) -> None:
+    loop = asyncio.get_running_loop()
+    # (streams cost twice as much; and a connection that is reset leaves no port that waits for a minute)
+    with socket.socket() as line:
+        line.setblocking(False)
+        line.setsockopt(socket.SOL_SOCKET, socket.SO_LINGER, _RESETS)
+        line.connect_ex(("127.0.0.1", port))
+        answer = await loop.sock_recv(line, 16)
+    if answer != DONE:
+        raise ConnectionError("shed" if answer else "refused")
+
+
+async def _play(pipe: Connection, story: Story, clients: Clients, ports: List[int]) -> Tally:
+    pipe.send("ready")
+    clock = PlayClock(await told(pipe))
+    await until(clock, 0.0)
+    pace = Pace(clock)
+    ticking = asyncio.create_task(pace.keep())
+    population = Population(story, clients, clock, ports)
+    await population.play()
+    ticking.cancel()
+    population.tally.behind = pace.behind
+    return population.tally
+
+
+def run_clients(pipe: Connection, story: Story, clients: Clients, ports: List[int]) -> None:
+    """The process: takes the moment at which the play begins, and at the end says what became of its requests."""
+    pipe.send(asyncio.run(_play(pipe, story, clients, ports)))
