@@ -1,9 +1,9 @@
 #!/usr/bin/env bash
 # tests/style.sh [--write]: the layout of all files, by the formatter and the linter of each language: black and flake8,
 # rustfmt, clang-format, shellcheck. With --write the formatters lay the files out. What black and clang-format lay out
-# differs from version to version: those of Debian 12 count, and others are left out. `rt fmt` lays out the engine's
-# files; here are its rules beside: 120 columns (of the header, too), a first line that says what a file of specs or proofs is for, and the
-# three sentences at the head of each library.
+# differs from version to version: those of Debian 12 count, and others are left out. `rattle fmt` lays out the engine's
+# files where the kit is there; here are its rules beside: 120 columns (of the header, too), a first line that says what
+# a file of specs or proofs is for, and the three sentences at the head of each library.
 set -euo pipefail
 cd "$(dirname "${BASH_SOURCE[0]}")/.."
 writes=false
@@ -64,11 +64,18 @@ has() {
   return 1
 }
 
+# the kit's formatter, if it is there
+rattle=$(dirname "$(readlink -f "$(bin/kit tests/style.sh 2>/dev/null || true)")")/rattle
+mapfile -t laid_out < <(git ls-files 'crates/*.rt' 'crates/*.antt')
+[ -x "$rattle" ] || { echo "tests/style.sh: the Rattle kit is missing, so the layout of crates/ is not looked at" >&2; laid_out=(); }
+
 if $writes; then
+  [ ${#laid_out[@]} = 0 ] || "$rattle" fmt --write "${laid_out[@]}"
   black --quiet --line-length 120 --target-version py39 "${python[@]}"
   rustfmt --edition 2021 --config-path rust "${rust[@]}"
   clang-format -i "${c[@]}"
 else
+  [ ${#laid_out[@]} = 0 ] || passes 'rattle fmt' "$rattle" fmt --check "${laid_out[@]}"
   ! has black ' 23.' || passes black black --quiet --check --diff --line-length 120 --target-version py39 "${python[@]}"
   passes rustfmt rustfmt --check --edition 2021 --config-path rust "${rust[@]}"
   ! has clang-format ' 14.' || passes clang-format clang-format --dry-run --Werror "${c[@]}"

@@ -54,7 +54,9 @@ pub(crate) fn push_recovered(text: &mut String, totals: &Totals) -> Result<(), N
 pub(crate) fn share_of(parts: u64, counts: &Counts) -> Option<u64> {
     let (won, all) = (counts.won, counts.requests);
     let halves = won.saturating_mul(parts).saturating_mul(2);
-    let nearest = halves.saturating_add(all).checked_div(all.saturating_mul(2))?;
+    let nearest = halves
+        .saturating_add(all)
+        .checked_div(all.saturating_mul(2))?;
     if won == 0 || won == all {
         return Some(nearest);
     }
