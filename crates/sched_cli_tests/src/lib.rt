@@ -1,5 +1,4 @@
-//! Tests of `sched_cli` by its public calls alone. They stand apart so that they are proved without a second proof of
-//! that library.
+//! Tests of the command line and of what it prints by public calls alone, without a second proof of these libraries.
 #![tactic(auto)]
 
 #[cfg(test)]

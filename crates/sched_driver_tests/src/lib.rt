@@ -1,5 +1,4 @@
-//! Tests of `sched_driver` and `sched_driver_stepper` by their public calls alone. They stand apart so that they are
-//! proved without a second proof of these libraries.
+//! Tests of plans, steps, records and drivers by public calls alone, without a second proof of these libraries.
 #![tactic(auto)]
 
 #[cfg(test)]
