@@ -9,3 +9,7 @@ pub mod Throttle
 pub mod Step
 pub mod Turns
 pub mod Kinds
+pub mod Holds
+pub mod Honest
+pub mod FlightTokens
+pub mod FlightHonest

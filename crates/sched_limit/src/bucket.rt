@@ -96,10 +96,13 @@ impl Bucket {
 
 impl Machine for Bucket {
     ghost use Rattle.sched_limit.specs.Bucket.{bucket_next};
+    ghost use Rattle.sched_limit_word.specs.Tokens.{no_tokens};
 
     ghost first = { λ b. b.capacity };
 
     ghost next = { bucket_next };
+
+    ghost tokens = { λ b. no_tokens };
 
     fn first(&self) -> u64 {
         self.capacity
@@ -119,6 +122,8 @@ impl Machine for Bucket {
 }
 
 impl Refuses for Bucket {
+    ghost use Rattle.sched_limit.specs.Holds.{no_holds};
+    ghost use Rattle.sched_limit.specs.Honest.{free_honest};
     ghost use Rattle.sched_limit.specs.Bucket.{bucket_refusal, bucket_worth};
 
     ghost refusal = { bucket_refusal };
@@ -126,6 +131,10 @@ impl Refuses for Bucket {
     ghost generation = { λ b level. 0 };
 
     ghost worth = { bucket_worth };
+
+    ghost holds = { λ b. no_holds };
+
+    ghost honest = { λ b. free_honest _ };
 
     fn refusal(&self, call: Call, level: u64) -> Option<Refusal> {
         match call {
