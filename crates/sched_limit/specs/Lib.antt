@@ -11,5 +11,6 @@ pub mod Turns
 pub mod Kinds
 pub mod Holds
 pub mod Honest
+pub mod BucketTokens
 pub mod FlightTokens
 pub mod FlightHonest

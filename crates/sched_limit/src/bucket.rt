@@ -96,13 +96,13 @@ impl Bucket {
 
 impl Machine for Bucket {
     ghost use Rattle.sched_limit.specs.Bucket.{bucket_next};
-    ghost use Rattle.sched_limit_word.specs.Tokens.{no_tokens};
+    ghost use Rattle.sched_limit.specs.BucketTokens.{bucket_tokens};
 
     ghost first = { λ b. b.capacity };
 
     ghost next = { bucket_next };
 
-    ghost tokens = { λ b. no_tokens };
+    ghost tokens = { bucket_tokens };
 
     fn first(&self) -> u64 {
         self.capacity
@@ -122,8 +122,7 @@ impl Machine for Bucket {
 }
 
 impl Refuses for Bucket {
-    ghost use Rattle.sched_limit.specs.Holds.{no_holds};
-    ghost use Rattle.sched_limit.specs.Honest.{free_honest};
+    ghost use Rattle.sched_limit.specs.BucketTokens.{bucket_holds, bucket_honest};
     ghost use Rattle.sched_limit.specs.Bucket.{bucket_refusal, bucket_worth};
 
     ghost refusal = { bucket_refusal };
@@ -132,9 +131,9 @@ impl Refuses for Bucket {
 
     ghost worth = { bucket_worth };
 
-    ghost holds = { λ b. no_holds };
+    ghost holds = { λ b. bucket_holds };
 
-    ghost honest = { λ b. free_honest _ };
+    ghost honest = { bucket_honest };
 
     fn refusal(&self, call: Call, level: u64) -> Option<Refusal> {
         match call {
