@@ -98,7 +98,7 @@ module _ (k : InFlight) where
   run_counted (m ∷ run) word kind r own =
       let before = run_counted run m.found kind r.2 own.1 in
       let le = word_has (flight_used m.call kind) (used_by (flight_tokens k) kind run)
-          (gained_by (flight_tokens k) kind run) (in_flight kind m.found) (own.0 kind) before in
+      (gained_by (flight_tokens k) kind run) (in_flight kind m.found) (own.0 kind) before in
       omega (arith, ap (in_flight kind) (r.0 ∙ r.1), counted m.call m.found kind le, before)
 
 pub in_flight_is_counted : InFlightIsCounted
