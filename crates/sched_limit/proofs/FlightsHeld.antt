@@ -43,7 +43,8 @@ module _ (k : InFlight) where
   admits_counted false w (suc kind) = omega arith
 
   abbrev Counted : Call → ℕ → ℕ → Type 0
-  Counted c w kind = in_flight kind (flight_next k c w) + flight_used c kind ≡ in_flight kind w + flight_gained k c kind w
+  Counted c w kind =
+      in_flight kind (flight_next k c w) + flight_used c kind ≡ in_flight kind w + flight_gained k c kind w
 
   small : (w : ℕ) → retries_of w < 4294967296
   small w = omega arith

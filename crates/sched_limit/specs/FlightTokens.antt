@@ -1,5 +1,5 @@
--- The tokens of what is in flight: kind 0 is that of its slots, and each other that of its requests. An admission gains a
--- request, and a granted draw a slot; what ends, draws or is cancelled gives them back.
+-- The tokens of what is in flight: kind 0 is that of its slots, and each other that of its requests. An admission gains
+-- a request, and a granted draw a slot; what ends, draws or is cancelled gives them back.
 use Rattle.std.specs.Prelude.{◌≡◌, ℕ, zero, suc, ◌+◌, ◌-◌, if◌then◌else◌, nat_lt}
 use Rattle.atomic_table.specs.Table.{State}
 use Rattle.sched_limit_word.specs.Laws.{word_of}

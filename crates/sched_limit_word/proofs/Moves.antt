@@ -22,8 +22,8 @@ use Rattle.sched_limit_word.proofs.Owned.{owns_set, owns_more, may_run, may_here
 
 module _ (next : Next) (first : ℕ) where
   -- the rule, where the word has become n
-  abbrev kept-at : (ws : List ℕ) (homes : List (Option Call)) (views : List View) (n : ℕ) (run : List Move) → length ws ≡ 16
-      → IsRun next first run n
+  abbrev kept-at : (ws : List ℕ) (homes : List (Option Call)) (views : List View) (n : ℕ) (run : List Move)
+      → length ws ≡ 16 → IsRun next first run n
       → ((h : Move → ℕ) → total h run ≡ moves_of h views) → weights views ≡ all_parts
       → ((by : ℕ) (v : View) → get_elem? views by ≡ some v → Fits first run v)
       → IsKept next first (record { words = set ws 8 n; homes = homes; views = views })
@@ -103,7 +103,8 @@ module _ (next : Next) (first : ℕ) where
           refl,
         )
 
-    pub learns_ok : (n id : ℕ) (m : Sat) (st : Step Call) → Allows (IsOwned o next first) n id m 8 (λ x. x) (learns st m)
+    pub learns_ok : (n id : ℕ) (m : Sat) (st : Step Call)
+        → Allows (IsOwned o next first) n id m 8 (λ x. x) (learns st m)
     learns_ok n id m st s owned wide at fits =
         let kept = owned.kept in
         let few = term_le (λ (u : View). u.weight) s.views id m.0 at in (

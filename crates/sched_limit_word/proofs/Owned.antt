@@ -1,5 +1,6 @@
 -- What passes own of a limit's tokens, as their moves change.
-use Rattle.std.proofs.Common.{◌≡◌, ◌≢◌, ℕ, zero, suc, ◌+◌, ◌<◌, ◌≤◌, List, [], ◌∷◌, ◌++◌, set, sym, subst, ⊎_elim, arith}
+use Rattle.std.proofs.Common.{◌≡◌, ◌≢◌, ℕ, zero, suc, ◌+◌, ◌<◌, ◌≤◌, List, [], ◌∷◌, ◌++◌, set, sym, subst}
+use Rattle.std.proofs.Common.{⊎_elim, arith}
 use mathlib.Core.Option.{some}
 use lib.ListN.{get_elem?}
 use Rattle.atomic_table.proofs.Lists.{at_set}
@@ -26,8 +27,8 @@ more_le zero t g h may le = omega (arith, le)
 more_le (suc u) t g h may le = omega (arith, may (omega arith))
 
 -- a call may be made on the same machine, with the same moves
-pub may_of : {M : Type 0} (tokens : M → Tokens) (next : M → Next) (c : Call) (x y : M) → x ≡ y → (moves same : List Move)
-    → moves ≡ same → MayCall (tokens y) (next y) c same → MayCall (tokens x) (next x) c moves
+pub may_of : {M : Type 0} (tokens : M → Tokens) (next : M → Next) (c : Call) (x y : M) → x ≡ y
+    → (moves same : List Move) → moves ≡ same → MayCall (tokens y) (next y) c same → MayCall (tokens x) (next x) c moves
 may_of {M} tokens next c x y is moves same e may =
     subst (λ (ms : List Move). MayCall (tokens x) (next x) c ms) (sym e)
     (subst (λ (m : M). MayCall (tokens m) (next m) c same) (sym is) may)

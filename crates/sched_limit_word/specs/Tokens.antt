@@ -1,5 +1,5 @@
--- Tokens of a limit: what a move gains, of a kind that a number names, and what it uses. What is used was gained before,
--- and is used once.
+-- Tokens of a limit: what a move gains, of a kind that a number names, and what it uses. What is used was gained
+-- before, and is used once.
 use Rattle.std.specs.Prelude.{◌≡◌, ℕ, ◌+◌, ◌<◌, ◌≤◌, List, [], ◌∷◌}
 use mathlib.Core.Option.{some}
 use lib.ListN.{get_elem?}

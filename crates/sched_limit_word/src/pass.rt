@@ -49,8 +49,8 @@ impl Pass {
     }
 
     /// Makes a call, and answers the word that it found, of which the machine makes the one that it leaves. Where that
-    /// is the same, nothing is written. `RacesLost` where other calls came first so many times. What the call gives back
-    /// this pass has gained, and has not given back before.
+    /// is the same, nothing is written. `RacesLost` where other calls came first so many times. What the call gives
+    /// back, this pass has gained, and has not given back before.
     pub fn call<M: Machine>(
         &mut self,
         limit: &Limit<M>,

@@ -3,7 +3,7 @@
 //! | Step | On the word | The stepping pass |
 //! |---|---|---|
 //! | `Look` | the word is read | has seen it, and has lost no race since |
-//! | `Try` | the word becomes another, where it is the one expected | gains the move, which uses what it owns, or a loss |
+//! | `Try` | the word becomes another, where it is the one expected | gains the move, or a loss |
 //! | `Part` | none changes | gives some of its parts to a new pass |
 //! | `Merge` | none changes | takes in another pass, which is spent |
 //! | `Learn` | none changes | learns how many parts it has, and where it has all that its moves are the run |
