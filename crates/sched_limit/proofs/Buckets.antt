@@ -1,9 +1,10 @@
 -- The laws of a bucket.
 use Rattle.std.proofs.Common.{◌≡◌, ℕ, ◌+◌, ◌-◌, ◌≤◌, true, ◌==◌, ◌||◌, ◌&&◌, leb, List, [], ◌∷◌, refl, arith}
 use Rattle.std.proofs.Common.{le-leb, leb-true, eq-eqb}
-use Rattle.sched_ticket.proofs.Sums.{total-plus}
+use Rattle.sched_ticket.proofs.Sums.{total-plus, total-le}
 use Rattle.sched_limit_word.specs.Rule.{moves_of}
 use Rattle.sched_limit_word.specs.Laws.{IsKeptBy, word_of}
+use Rattle.sched_limit_word.specs.Tokens.{gained_by, used_by}
 use Rattle.sched_limit_word.specs.declared.call.Call.{Call}
 use Rattle.sched_limit_word.specs.declared.call.Call.TheVariants.{Admit, Draw, Failed, Succeeded, Ended, Returned}
 use Rattle.sched_limit_word.specs.declared.call.Call.TheVariants.{Closed}
@@ -11,6 +12,7 @@ use Rattle.sched_limit_word.specs.declared.view.Move.{Move}
 use Rattle.sched_limit_word.specs.declared.view.View.{View}
 use Rattle.sched_limit_word.proofs.Views.{what_is_kept_holds, sums_telescope}
 use Rattle.sched_limit.specs.Bucket.{bucket_next}
+use Rattle.sched_limit.specs.BucketTokens.{DrawsComeBackOnce, bucket_tokens}
 use Rattle.sched_limit.specs.Laws.{LevelStaysWithin, TokensAreCounted, GrantsLeaveTheFloor, granted, debited, credited}
 use Rattle.sched_limit.specs.Laws.{is_above}
 use Rattle.sched_limit.specs.declared.bucket.Bucket.{Bucket}
@@ -87,3 +89,9 @@ tokens_are_counted b s kept =
 pub grants_leave_the_floor : GrantsLeaveTheFloor
 grants_leave_the_floor b = each_is (bucket_next b) b.capacity (λ (w : ℕ). leb w b.capacity) (is_above b) (kept_within b)
     (λ c w _. above b c w)
+
+pub draws_come_back_once : DrawsComeBackOnce
+draws_come_back_once b s owned cost =
+    let o = bucket_tokens b in
+    total-le (λ (v : View). used_by o cost v.moves) (λ (v : View). gained_by o cost v.moves) s.views
+    (λ i v there. owned.owns i v there cost)

@@ -5,24 +5,23 @@ use Rattle.sched_limit_word.specs.declared.call.Call.{Call}
 use Rattle.sched_limit_word.specs.declared.call.Call.TheVariants.{Admit, Draw, Failed, Succeeded, Ended, Returned}
 use Rattle.sched_limit_word.specs.declared.call.Call.TheVariants.{Closed}
 use Rattle.sched_limit_word.specs.declared.view.Move.{Move}
-use Rattle.sched_limit_word.proofs.Views.{sums_telescope}
 use Rattle.sched_limit.specs.InFlight.{flight_next, requests_of, retries_of, bound}
-use Rattle.sched_limit.specs.Laws.{GrantsAreWithinTheBound, RequestsAreCounted, entered, is_within}
+use Rattle.sched_limit.specs.Laws.{GrantsAreWithinTheBound, is_within}
 use Rattle.sched_limit.specs.declared.in_flight.InFlight.{InFlight}
 use Rattle.sched_limit.proofs.Cases.{by_lt, or_left, or_right, each_is}
 
 -- a word of so many requests and retries
-requests_laid : (q r : ℕ) → r < 4294967296 → (q * 4294967296 + r) / 4294967296 ≡ q
+pub requests_laid : (q r : ℕ) → r < 4294967296 → (q * 4294967296 + r) / 4294967296 ≡ q
 requests_laid q r small = omega (arith, small)
 
-retries_laid : (q r : ℕ) → r < 4294967296 → (q * 4294967296 + r) % 4294967296 ≡ r
+pub retries_laid : (q r : ℕ) → r < 4294967296 → (q * 4294967296 + r) % 4294967296 ≡ r
 retries_laid q r small = omega (arith, small)
 
 least_of : (n : ℕ) → min n 4294967295 ≤ 4294967295
 least_of n = omega arith
 
 module _ (k : InFlight) where
-  bound_le : (q : ℕ) → bound k q ≤ 4294967295
+  pub bound_le : (q : ℕ) → bound k q ≤ 4294967295
   bound_le q = least_of (max k.least (k.share * q / 1000))
 
   -- a retry more, where that is within the bound of so many requests
@@ -57,16 +56,6 @@ module _ (k : InFlight) where
   within (Returned cost slots) w = refl
   within (Closed now) w = refl
 
-difference : (a b : ℕ) → a + (b - a) ≡ b + (a - b)
-difference a b = omega arith
-
 pub grants_are_within_the_bound : GrantsAreWithinTheBound
 grants_are_within_the_bound k =
     each_is (flight_next k) 0 (λ (w : ℕ). true) (is_within k) (refl, λ c w _. refl) (λ c w _. within k c w)
-
-pub requests_are_counted : RequestsAreCounted
-requests_are_counted k s kept =
-    let so = sums_telescope (flight_next k) 0 s kept (λ (w : ℕ). true) requests_of
-    (λ (m : Move). entered m.left m.found) (λ (m : Move). entered m.found m.left) (refl, λ c w _. refl)
-    (λ c w _. difference (requests_of (flight_next k c w)) (requests_of w)) in
-    omega (arith, so)

@@ -2,6 +2,7 @@
 pub mod Cases
 pub mod Buckets
 pub mod Flights
+pub mod FlightsHeld
 pub mod Breakers
 pub mod Throttles
 mod Rows

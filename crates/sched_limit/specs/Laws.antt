@@ -71,16 +71,6 @@ is_within k call found left = true
 abbrev pub GrantsAreWithinTheBound : Type 0
 GrantsAreWithinTheBound = (k : InFlight) → EachMove (flight_next k) 0 (is_within k)
 
--- how many requests came in, and how many are over
-abbrev pub entered : ℕ → ℕ → ℕ
-entered found left = requests_of left - requests_of found
-
--- the requests in flight, and those that are over, are those that came in
-abbrev pub RequestsAreCounted : Type 0
-RequestsAreCounted = (k : InFlight) (s : State Call View) → IsKept (flight_next k) 0 s →
-    requests_of (word_of s) + moves_of (λ (m : Move). entered m.left m.found) s.views
-    ≡ moves_of (λ (m : Move). entered m.found m.left) s.views
-
 -- a breaker that is tripped has no more probes out than it admits
 abbrev pub has_few_probes : Breaker → ℕ → Bool
 has_few_probes b word = not (word % 2 == 1) || nat_le (admitted_of word) b.probes

@@ -9,3 +9,8 @@ pub mod Throttle
 pub mod Step
 pub mod Turns
 pub mod Kinds
+pub mod Holds
+pub mod Honest
+pub mod BucketTokens
+pub mod FlightTokens
+pub mod FlightHonest

@@ -251,10 +251,13 @@ fn stamp_of(word: u64) -> u64
 
 impl Machine for Breaker {
     ghost use Rattle.sched_limit.specs.Breaker.{breaker_next};
+    ghost use Rattle.sched_limit_word.specs.Tokens.{no_tokens};
 
     ghost first = { λ b. 0 };
 
     ghost next = { breaker_next };
+
+    ghost tokens = { λ b. no_tokens };
 
     fn first(&self) -> u64 {
         0
@@ -286,6 +289,8 @@ impl Machine for Breaker {
 }
 
 impl Refuses for Breaker {
+    ghost use Rattle.sched_limit.specs.Holds.{no_holds};
+    ghost use Rattle.sched_limit.specs.Honest.{free_honest};
     ghost use Rattle.sched_limit.specs.Word.{stamp_of};
     ghost use Rattle.sched_limit.specs.Breaker.{breaker_refusal};
 
@@ -294,6 +299,10 @@ impl Refuses for Breaker {
     ghost generation = { λ b word. stamp_of word };
 
     ghost worth = { λ b drawn. 0 };
+
+    ghost holds = { λ b. no_holds };
+
+    ghost honest = { λ b. free_honest _ };
 
     fn refusal(&self, call: Call, word: u64) -> Option<Refusal> {
         match call {

@@ -96,10 +96,13 @@ impl Bucket {
 
 impl Machine for Bucket {
     ghost use Rattle.sched_limit.specs.Bucket.{bucket_next};
+    ghost use Rattle.sched_limit.specs.BucketTokens.{bucket_tokens};
 
     ghost first = { λ b. b.capacity };
 
     ghost next = { bucket_next };
+
+    ghost tokens = { bucket_tokens };
 
     fn first(&self) -> u64 {
         self.capacity
@@ -119,6 +122,7 @@ impl Machine for Bucket {
 }
 
 impl Refuses for Bucket {
+    ghost use Rattle.sched_limit.specs.BucketTokens.{bucket_holds, bucket_honest};
     ghost use Rattle.sched_limit.specs.Bucket.{bucket_refusal, bucket_worth};
 
     ghost refusal = { bucket_refusal };
@@ -126,6 +130,10 @@ impl Refuses for Bucket {
     ghost generation = { λ b level. 0 };
 
     ghost worth = { bucket_worth };
+
+    ghost holds = { λ b. bucket_holds };
+
+    ghost honest = { bucket_honest };
 
     fn refusal(&self, call: Call, level: u64) -> Option<Refusal> {
         match call {

@@ -58,10 +58,13 @@ impl InFlight {
 
 impl Machine for InFlight {
     ghost use Rattle.sched_limit.specs.InFlight.{flight_next};
+    ghost use Rattle.sched_limit.specs.FlightTokens.{flight_tokens};
 
     ghost first = { λ k. 0 };
 
     ghost next = { flight_next };
+
+    ghost tokens = { flight_tokens };
 
     fn first(&self) -> u64 {
         0
@@ -92,12 +95,18 @@ impl Machine for InFlight {
 
 impl Refuses for InFlight {
     ghost use Rattle.sched_limit.specs.InFlight.{flight_refusal};
+    ghost use Rattle.sched_limit.specs.FlightTokens.{flight_holds};
+    ghost use Rattle.sched_limit.specs.FlightHonest.{flight_honest};
 
     ghost refusal = { flight_refusal };
 
     ghost generation = { λ k word. 0 };
 
     ghost worth = { λ k drawn. 0 };
+
+    ghost holds = { λ k. flight_holds };
+
+    ghost honest = { flight_honest };
 
     fn refusal(&self, call: Call, word: u64) -> Option<Refusal> {
         let requests = word / REQUEST;

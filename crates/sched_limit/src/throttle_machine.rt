@@ -133,10 +133,13 @@ fn closed_in(window: u64, word: u64) -> u64
 
 impl Machine for Throttle {
     ghost use Rattle.sched_limit.specs.Throttle.{throttle_next};
+    ghost use Rattle.sched_limit_word.specs.Tokens.{no_tokens};
 
     ghost first = { λ t. 0 };
 
     ghost next = { throttle_next };
+
+    ghost tokens = { λ t. no_tokens };
 
     fn first(&self) -> u64 {
         0
@@ -178,6 +181,8 @@ impl Machine for Throttle {
 }
 
 impl Refuses for Throttle {
+    ghost use Rattle.sched_limit.specs.Holds.{no_holds};
+    ghost use Rattle.sched_limit.specs.Honest.{free_honest};
     ghost use Rattle.sched_limit.specs.Throttle.{throttle_refusal};
 
     ghost refusal = { throttle_refusal };
@@ -185,6 +190,10 @@ impl Refuses for Throttle {
     ghost generation = { λ t word. 0 };
 
     ghost worth = { λ t drawn. 0 };
+
+    ghost holds = { λ t. no_holds };
+
+    ghost honest = { λ t. free_honest _ };
 
     #[inline(always)]
     fn refusal(&self, call: Call, word: u64) -> Option<Refusal> {

@@ -1,6 +1,7 @@
 //! What a request holds of a limit, until it is given back.
 ghost use Rattle.std.specs.Prelude.{◌≡◌, Ok, IfOk, IfErr};
 ghost use Rattle.sched_limit_word.specs.Held.{IsOf};
+ghost use Rattle.sched_limit.specs.Holds.{IsHeld, MayMake};
 ghost use Rattle.sched_limit.specs.Step.{nothing, rules};
 ghost use Rattle.sched_limit.specs.declared.request.Told.TheVariants as told_as;
 ghost use Rattle.sched_limit_request.specs.Tells.{Makes, Misses, IsTold};
@@ -40,8 +41,12 @@ impl Hold {
         told: &Told,
         random: u32,
     ) -> Result<(), Refusal>
-        requires { IsOf limit.now pass.old }
+        requires of { IsOf limit.now pass.old }
+        requires held { let m = limit.now.machine in
+            IsHeld (M.tokens m) (M.holds m) self.old.request pass.old.has.moves }
         ensures of { IsOf limit.now pass.new }
+        ensures held { let m = limit.now.machine in
+            IsHeld (M.tokens m) (M.holds m) self.new.request pass.new.has.moves }
         ensures told { let m = rules M.next M.refusal M.generation M.worth limit.now.machine in
             IsTold m told.now random self.old.request result self.new.request pass.old.has pass.new.has }
     {
@@ -61,7 +66,8 @@ impl Hold {
     /// Tells that the request is over, which gives back what it holds.
     #[inline(always)]
     pub(crate) fn end<M: Refuses>(self, pass: &mut Pass, limit: &Limit<M>)
-        requires { IsOf limit.now pass.old }
+        requires of { IsOf limit.now pass.old }
+        requires held { let m = limit.now.machine in IsHeld (M.tokens m) (M.holds m) self.request pass.old.has.moves }
         ensures of { IsOf limit.now pass.new }
         ensures told { let m = rules M.next M.refusal M.generation M.worth limit.now.machine in
             IsTold m told_as.Ended 0 self.request (Ok tt) nothing pass.old.has pass.new.has }
@@ -80,7 +86,8 @@ fn find<M: Refuses>(
     call: &Option<Call>,
     tries: u64,
 ) -> Result<u64, RacesLost>
-    requires { IsOf limit.now pass.old }
+    requires of { IsOf limit.now pass.old }
+    requires may { MayMake (M.tokens limit.now.machine) (M.next limit.now.machine) call.now pass.old.has.moves }
     ensures of { IsOf limit.now pass.new }
     ensures ok { IfOk result (λ w. Makes (M.next limit.now.machine) call.now w pass.old.has pass.new.has) }
     ensures err { IfErr result (λ _. Misses call.now tries pass.old.has pass.new.has) }

@@ -23,13 +23,15 @@ pub struct OnLimit<M: Refuses> {
 
 impl<M: Refuses> Model for OnLimit<M> {
     ghost use Rattle.sched_limit_word.specs.Held.{IsOf};
+    ghost use Rattle.sched_limit.specs.Holds.{IsHeld};
     ghost use Rattle.sched_limit_request.specs.Limits.{OfLimit};
 
     ghost Value = { OfLimit M };
 
     ghost view = { λ d. record { pass = d.pass; limit = d.limit.value; request = d.hold.request } };
 
-    ghost invariant = { λ d. IsOf d.limit.value d.pass };
+    ghost invariant = { λ d. let m = d.limit.value.machine in
+        IsOf d.limit.value d.pass × IsHeld (M.tokens m) (M.holds m) d.hold.request d.pass.has.moves };
 }
 
 impl<M: Refuses> OnLimit<M> {

@@ -6,17 +6,19 @@ use lib.ListN.{get_elem?}
 use Rattle.atomic_table.specs.Table.{Splits, Joins}
 use Rattle.atomic_table.proofs.Lists.{at_set, at_snoc, set_else}
 use Rattle.sched_ticket.specs.Lists.{total}
-use Rattle.sched_ticket.proofs.Sums.{total-append, total-set}
+use Rattle.sched_ticket.proofs.Sums.{total-append, total-set, each-only, each-split, each-joined}
 use Rattle.sched_ticket.proofs.Ways.{part-some}
 use Rattle.sched_limit_word.specs.View.{first_view, without_part, part_of, joined_view, blank_view}
 use Rattle.sched_limit_word.specs.Rule.{Next, Fits, IsKept}
+use Rattle.sched_limit_word.specs.Tokens.{Tokens, Owns, IsOwned}
 use Rattle.sched_limit_word.specs.declared.call.Call.{Call}
 use Rattle.sched_limit_word.specs.declared.view.Move.{Move}
 use Rattle.sched_limit_word.specs.declared.view.View.{View}
+use Rattle.sched_limit_word.proofs.Owned.{owns_none, owns_both, at_other}
 
 module _ (next : Next) (first : ℕ) where
-  pub splits_ok : (id : ℕ) (v : View) → 1 < v.weight → Splits (IsKept next first) id v (without_part v) (part_of v)
-  splits_ok id v more s kept at =
+  abbrev splits_kept : (id : ℕ) (v : View) → 1 < v.weight → Splits (IsKept next first) id v (without_part v) (part_of v)
+  splits_kept id v more s kept at =
       let views : List View = s.views in
       let f = kept.each id v at in
       let left : View = without_part v in
@@ -46,9 +48,9 @@ module _ (next : Next) (first : ℕ) where
             (at_snoc (set views id left) right u by there);
       }
 
-  pub joins_ok : (id : ℕ) (v : View) (other : ℕ) (w : View) → 0 < v.weight
+  abbrev joins_kept : (id : ℕ) (v : View) (other : ℕ) (w : View) → 0 < v.weight
       → Joins (IsKept next first) id v other w (joined_view v w) blank_view
-  joins_ok id v other w live s kept at apart there =
+  joins_kept id v other w live s kept at apart there =
       let views : List View = s.views in
       let f = kept.each id v at in
       let joined : View = joined_view v w in
@@ -83,9 +85,9 @@ module _ (next : Next) (first : ℕ) where
   only-first (suc by) v at = absurd (some-ne-none v (sym at))
 
   -- the first state
-  pub first_kept : (ws : List ℕ) (homes : List (Option Call)) → length ws ≡ 16 → slice_index ws 8 ≡ first
+  abbrev opens_kept : (ws : List ℕ) (homes : List (Option Call)) → length ws ≡ 16 → slice_index ws 8 ≡ first
       → IsKept next first (record { words = ws; homes = homes; views = first_view first ∷ [] })
-  first_kept ws homes long word = record {
+  opens_kept ws homes long word = record {
     run = [];
     long = long;
     is_run = word;
@@ -93,3 +95,32 @@ module _ (next : Next) (first : ℕ) where
     parts = omega arith;
     each = λ by v at. subst (Fits first []) (only-first by v at) (record { seen = λ _. refl; spent = λ none. refl });
   }
+
+  module _ {o : Tokens} where
+    pub splits_ok : (id : ℕ) (v : View) → 1 < v.weight → Splits (IsOwned o next first) id v (without_part v) (part_of v)
+    splits_ok id v more s owned at = record {
+      kept = splits_kept id v more s owned.kept at;
+      own = owned.own;
+      owns = each-split (λ (u : View). Owns o u.moves) s.views id (without_part v) (part_of v) (owned.owns id v at)
+          (owns_none o) owned.owns;
+    }
+
+    pub joins_ok : (id : ℕ) (v : View) (other : ℕ) (w : View) → 0 < v.weight
+        → Joins (IsOwned o next first) id v other w (joined_view v w) blank_view
+    joins_ok id v other w live s owned at apart there = record {
+      kept = joins_kept id v other w live s owned.kept at apart there;
+      own = owned.own;
+      owns = each-joined (λ (u : View). Owns o u.moves) s.views id other (joined_view v w) blank_view
+          (owns_both o v.moves w.moves (owned.owns id v at)
+          (owned.owns other w (at_other s.views id other (joined_view v w) w apart there)))
+          (owns_none o) owned.owns;
+    }
+
+    -- the first state
+    pub first_kept : (ws : List ℕ) (homes : List (Option Call)) → length ws ≡ 16 → slice_index ws 8 ≡ first
+        → IsOwned o next first (record { words = ws; homes = homes; views = first_view first ∷ [] })
+    first_kept ws homes long word = record {
+      kept = opens_kept ws homes long word;
+      own = tt;
+      owns = each-only (λ (u : View). Owns o u.moves) (first_view first) (owns_none o);
+    }

@@ -4,6 +4,7 @@ use Rattle.sched_ticket.specs.Lists.{total}
 use Rattle.sched_ticket.proofs.Sums.{alone, term_le}
 use Rattle.sched_limit_word.specs.Laws.{MovesAreOneRun, SightIsTrue, WhatIsKeptHolds, EachMoveIsSo, SumsTelescope}
 use Rattle.sched_limit_word.specs.Laws.{PartsAreKept, SpentHasNothing, WholeHasAll, word_of}
+use Rattle.sched_limit_word.specs.Tokens.{UsedWasGained}
 use Rattle.sched_limit_word.specs.declared.view.View.{View}
 use Rattle.sched_limit_word.proofs.Runs.{kept_now, kept_there, each_so, telescopes, lapse, none_lapses, each_is_so}
 
@@ -24,6 +25,9 @@ each_move_is_so next first s kept by v at Q R keeps so =
     let all = none_lapses R kept.run (each_so next first Q keeps R so kept.run (word_of s) kept.is_run) in
     each_is_so R v.moves
     (omega (arith, kept.shared (lapse R), term_le (λ (u : View). total (lapse R) u.moves) s.views by v at, all))
+
+pub used_was_gained : UsedWasGained
+used_was_gained o next first s owned = (owned.own, owned.owns)
 
 pub sums_telescope : SumsTelescope
 sums_telescope next first s kept Q value taken given keeps so =

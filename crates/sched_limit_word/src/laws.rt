@@ -2,6 +2,7 @@
 //! splits and joins. Each function does nothing: its contract is a law of the table's rule.
 ghost use Rattle.sched_limit_word.specs.Laws.{MovesAreOneRun, SightIsTrue, WhatIsKeptHolds, EachMoveIsSo};
 ghost use Rattle.sched_limit_word.specs.Laws.{SumsTelescope, PartsAreKept, SpentHasNothing, WholeHasAll};
+ghost use Rattle.sched_limit_word.specs.Tokens.{UsedWasGained};
 
 /// All moves of all passes are one run of the machine: each found the word that the one before left, and left what its
 /// call makes of it. What a pass has seen was there.
@@ -15,6 +16,11 @@ pub fn moves_are_one_run()
 pub fn what_is_kept_holds()
     ensures words { WhatIsKeptHolds }
     ensures moves { EachMoveIsSo }
+{}
+
+/// What a move gives back was gained before it, and is given back once: in the run of all moves, and by each pass.
+pub fn used_was_gained()
+    ensures { UsedWasGained }
 {}
 
 /// Of all passes, what was taken and what is left is what there was and what was given.

@@ -7,12 +7,16 @@ use crate::call::Call;
 pub trait Machine: Drop {
     ghost use Rattle.std.specs.Prelude.{ℕ};
     ghost use Rattle.sched_limit_word.specs.declared.call.Call.{Call};
+    ghost use Rattle.sched_limit_word.specs.Tokens.{Tokens};
 
     // The word at first.
     ghost first: { Self → ℕ };
 
     // The word that a call makes of the one that it finds.
     ghost next: { Self → Call → ℕ → ℕ };
+
+    // What calls gain, and what they give back. The rule takes no call that gives back what its pass has not gained.
+    ghost tokens: { Self → Tokens };
 
     /// The word at first.
     fn first(&self) -> u64

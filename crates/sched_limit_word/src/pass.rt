@@ -3,6 +3,7 @@ ghost use Rattle.std.specs.Prelude.{◌≡◌, ◌<◌, ◌≤◌, ◌↔◌, tr
 ghost use Rattle.sched_limit_word.specs.View.{fresh_view, without_part, part_of, joined_view};
 ghost use Rattle.sched_limit_word.specs.Held.{IsOf};
 ghost use Rattle.sched_limit_word.specs.Calls.{Called, LostRaces};
+ghost use Rattle.sched_limit_word.specs.Tokens.{MayCall};
 
 use crate::call::Call;
 use crate::fault::{RacesLost, TooManyPasses};
@@ -48,14 +49,16 @@ impl Pass {
     }
 
     /// Makes a call, and answers the word that it found, of which the machine makes the one that it leaves. Where that
-    /// is the same, nothing is written. `RacesLost` where other calls came first so many times.
+    /// is the same, nothing is written. `RacesLost` where other calls came first so many times. What the call gives
+    /// back, this pass has gained, and has not given back before.
     pub fn call<M: Machine>(
         &mut self,
         limit: &Limit<M>,
         call: Call,
         tries: u64,
     ) -> Result<u64, RacesLost>
-        requires { IsOf limit.now self.old }
+        requires of { IsOf limit.now self.old }
+        requires may { MayCall (M.tokens limit.now.machine) (M.next limit.now.machine) call self.old.has.moves }
         ensures of { IsOf limit.now self.new }
         ensures ok { IfOk result (λ w. Called (M.next limit.now.machine) call w self.old.has self.new.has) }
         ensures err { IfErr result (λ _. LostRaces tries self.old.has self.new.has) }
@@ -112,6 +115,7 @@ fn step<M: Machine>(
 ) -> Result<u64, RacesLost>
     requires of { seat.old.table_id ≡ limit.now.table }
     requires live { 0 < seat.old.me.0.weight }
+    requires may { MayCall (M.tokens limit.now.machine) (M.next limit.now.machine) call seat.old.me.0.moves }
     ensures seat { (seat.new.table_id ≡ seat.old.table_id) × (seat.new.me.1 ≡ seat.old.me.1) }
     ensures ok { IfOk result (λ w. Called (M.next limit.now.machine) call w seat.old.me.0 seat.new.me.0) }
     ensures err { IfErr result (λ _. LostRaces tries seat.old.me.0 seat.new.me.0) }

@@ -7,7 +7,7 @@
 //! | `Part` | none changes | gives some of its parts to a new pass |
 //! | `Merge` | none changes | takes in another pass, which is spent |
 //! | `Learn` | none changes | learns how many parts it has, and where it has all that its moves are the run |
-ghost use Rattle.sched_limit_word.specs.Rule.{IsKept};
+ghost use Rattle.sched_limit_word.specs.Tokens.{IsOwned};
 ghost use Rattle.sched_limit_word.specs.View.{first_view, blank_view, without_part, part_of, joined_view};
 ghost use Rattle.sched_limit_word.specs.Steps.{looks, tries, learns};
 
@@ -26,7 +26,7 @@ pub(crate) struct Rule<M: Machine> {
 }
 
 impl<M: Machine> TableRule<Call, View, M> for Rule<M> {
-    ghost holds = { λ m. IsKept (M.next m) (M.first m) };
+    ghost holds = { λ m. IsOwned (M.tokens m) (M.next m) (M.first m) };
 
     ghost first = { λ m. first_view (M.first m) };
 }
