@@ -4,4 +4,5 @@ pub mod Buckets
 pub mod Flights
 pub mod Breakers
 pub mod Throttles
+pub mod QuietWords
 mod Rows

@@ -9,3 +9,4 @@ pub mod Throttle
 pub mod Step
 pub mod Turns
 pub mod Kinds
+pub mod Quiet

@@ -4,6 +4,7 @@ ghost use Rattle.sched_limit.specs.Laws.{LevelStaysWithin, TokensAreCounted, Gra
 ghost use Rattle.sched_limit.specs.Laws.{GrantsAreWithinTheBound, RequestsAreCounted};
 ghost use Rattle.sched_limit.specs.Laws.{ProbesAreFew, OpenIsKept, LateResultsChangeNothing, OpensAfterFailures};
 ghost use Rattle.sched_limit.specs.Laws.{ClosedIsFinal, ClosedIsShut, EachIsCounted};
+ghost use Rattle.sched_limit.specs.Quiet.{QuietLooksAreCalls};
 
 /// A bucket's level is at most its capacity; what it was and what came in is what went out and what is left; and each
 /// draw left at least the floor.
@@ -34,4 +35,9 @@ pub fn windows_are_counted()
     ensures closed { ClosedIsFinal }
     ensures shut { ClosedIsShut }
     ensures counted { EachIsCounted }
+{}
+
+/// A look at a quiet word is each call of a request that is admitted, succeeds and ends.
+pub fn quiet_looks_are_calls()
+    ensures { QuietLooksAreCalls }
 {}

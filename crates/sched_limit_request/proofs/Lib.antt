@@ -1,2 +1,3 @@
 -- What the proofs cite.
 pub mod Undisturbed
+mod QuietLooks

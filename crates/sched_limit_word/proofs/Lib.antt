@@ -4,3 +4,4 @@ pub mod Runs
 pub mod Moves
 pub mod Parts
 pub mod Views
+pub mod Looks

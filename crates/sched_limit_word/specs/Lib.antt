@@ -4,4 +4,5 @@ pub mod Rule
 pub mod Steps
 pub mod Held
 pub mod Calls
+pub mod Looks
 pub mod Laws
