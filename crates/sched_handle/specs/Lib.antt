@@ -10,3 +10,4 @@ pub mod Passes
 pub mod Retries
 pub mod Leases
 pub mod Limits
+pub mod Looks

@@ -9,6 +9,7 @@ mod handle;
 mod held;
 mod leases;
 mod limits;
+mod looks;
 mod passes;
 mod policies;
 mod replies;

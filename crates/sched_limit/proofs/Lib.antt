@@ -5,4 +5,5 @@ pub mod Flights
 pub mod FlightsHeld
 pub mod Breakers
 pub mod Throttles
+pub mod QuietWords
 mod Rows

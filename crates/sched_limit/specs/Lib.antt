@@ -14,3 +14,4 @@ pub mod Honest
 pub mod BucketTokens
 pub mod FlightTokens
 pub mod FlightHonest
+pub mod Quiet

@@ -6,6 +6,7 @@ ghost use Rattle.sched_limit.specs.FlightTokens.{InFlightIsCounted};
 ghost use Rattle.sched_limit.specs.Laws.{GrantsAreWithinTheBound};
 ghost use Rattle.sched_limit.specs.Laws.{ProbesAreFew, OpenIsKept, LateResultsChangeNothing, OpensAfterFailures};
 ghost use Rattle.sched_limit.specs.Laws.{ClosedIsFinal, ClosedIsShut, EachIsCounted};
+ghost use Rattle.sched_limit.specs.Quiet.{QuietLooksAreCalls};
 
 /// A bucket's level is at most its capacity; what it was and what came in is what went out and what is left; each draw
 /// left at least the floor; and of the draws of a cost at most as many were returned as were granted.
@@ -37,4 +38,9 @@ pub fn windows_are_counted()
     ensures closed { ClosedIsFinal }
     ensures shut { ClosedIsShut }
     ensures counted { EachIsCounted }
+{}
+
+/// A look at a quiet word is each call of a request that is admitted, succeeds and ends.
+pub fn quiet_looks_are_calls()
+    ensures { QuietLooksAreCalls }
 {}

@@ -48,8 +48,9 @@ impl Request {
         }
     }
 
+    /// What was admitted in this generation holds.
     #[inline(always)]
-    pub(crate) fn admitted(generation: u64) -> Request
+    pub fn admitted(generation: u64) -> Request
         ensures { result ≡ admitted generation }
     {
         Request {

@@ -20,7 +20,7 @@ const AT: u64 = 512;
 
 const TRIP: u64 = 70368744177664;
 
-const GENERATION: u64 = 4503599627370496;
+pub(crate) const GENERATION: u64 = 4503599627370496;
 
 /// How many there are of each.
 const PROBES: u64 = 16;

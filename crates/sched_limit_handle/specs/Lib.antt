@@ -2,3 +2,4 @@
 pub mod Status
 pub mod AnyLimit
 pub mod Held
+pub mod Looks

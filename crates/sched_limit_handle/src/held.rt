@@ -26,11 +26,11 @@ pub enum Held {
 }
 
 /// Limits at once, each asked after those before it.
-type Two = Both<AnyLimit, AnyLimit>;
+pub(crate) type Two = Both<AnyLimit, AnyLimit>;
 
-type Three = Both<Two, AnyLimit>;
+pub(crate) type Three = Both<Two, AnyLimit>;
 
-type Four = Both<Three, AnyLimit>;
+pub(crate) type Four = Both<Three, AnyLimit>;
 
 impl Asks for Held {
     ghost use Rattle.sched_limit_handle.specs.Held.{held_asked};

@@ -5,8 +5,10 @@
 
 mod any_limit;
 mod held;
+mod looks;
 mod status;
 
 pub use any_limit::AnyLimit;
 pub use held::Held;
+pub use looks::Words;
 pub use status::{Status, number_of, refused};

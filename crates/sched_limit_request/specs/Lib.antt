@@ -6,4 +6,5 @@ pub mod Limits
 pub mod Sides
 pub mod Windows
 pub mod Pairs
+pub mod Quiet
 pub mod Laws

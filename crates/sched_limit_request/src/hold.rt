@@ -2,7 +2,7 @@
 ghost use Rattle.std.specs.Prelude.{◌≡◌, Ok, IfOk, IfErr};
 ghost use Rattle.sched_limit_word.specs.Held.{IsOf};
 ghost use Rattle.sched_limit.specs.Holds.{IsHeld, MayMake};
-ghost use Rattle.sched_limit.specs.Step.{nothing, rules};
+ghost use Rattle.sched_limit.specs.Step.{nothing, admitted, rules};
 ghost use Rattle.sched_limit.specs.declared.request.Told.TheVariants as told_as;
 ghost use Rattle.sched_limit_request.specs.Tells.{Makes, Misses, IsTold};
 
@@ -30,6 +30,13 @@ impl Hold {
         ensures { result ≡ self.now.request }
     {
         self.request
+    }
+
+    /// Holds from now on what a request does that was admitted in this generation.
+    pub(crate) fn begin(&mut self, generation: u64)
+        ensures { self.new.request ≡ admitted generation }
+    {
+        self.request = Request::admitted(generation);
     }
 
     /// Asks the limit, or tells it.

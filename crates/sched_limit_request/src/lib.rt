@@ -10,6 +10,7 @@ mod hold;
 pub mod laws;
 mod on_limit;
 mod on_throttle;
+mod quiet;
 mod side;
 
 pub use asks::Asks;

@@ -16,9 +16,9 @@ use std::sync::Arc;
 /// A pass of a limit, with its limit, and what one request at a time holds of it. Contracts see it as all of these.
 /// What its request holds is given back where that ends, also where the value is dropped.
 pub struct OnLimit<M: Refuses> {
-    pass: Pass,
-    limit: Arc<Limit<M>>,
-    hold: Hold,
+    pub(crate) pass: Pass,
+    pub(crate) limit: Arc<Limit<M>>,
+    pub(crate) hold: Hold,
 }
 
 impl<M: Refuses> Model for OnLimit<M> {

@@ -5,3 +5,4 @@ pub mod Owned
 pub mod Moves
 pub mod Parts
 pub mod Views
+pub mod Looks

@@ -5,4 +5,5 @@ pub mod Tokens
 pub mod Steps
 pub mod Held
 pub mod Calls
+pub mod Looks
 pub mod Laws

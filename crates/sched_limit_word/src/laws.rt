@@ -3,6 +3,7 @@
 ghost use Rattle.sched_limit_word.specs.Laws.{MovesAreOneRun, SightIsTrue, WhatIsKeptHolds, EachMoveIsSo};
 ghost use Rattle.sched_limit_word.specs.Laws.{SumsTelescope, PartsAreKept, SpentHasNothing, WholeHasAll};
 ghost use Rattle.sched_limit_word.specs.Tokens.{UsedWasGained};
+ghost use Rattle.sched_limit_word.specs.Looks.{LooksAreCalls};
 
 /// All moves of all passes are one run of the machine: each found the word that the one before left, and left what its
 /// call makes of it. What a pass has seen was there.
@@ -33,4 +34,9 @@ pub fn parts_are_kept()
     ensures kept { PartsAreKept }
     ensures spent { SpentHasNothing }
     ensures whole { WholeHasAll }
+{}
+
+/// A look at a word is each call that would leave this word as it is.
+pub fn looks_are_calls()
+    ensures { LooksAreCalls }
 {}

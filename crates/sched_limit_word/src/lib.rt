@@ -11,6 +11,7 @@ mod call;
 mod fault;
 pub mod laws;
 mod limit;
+mod look;
 mod machine;
 mod pass;
 mod rule;
