@@ -1,4 +1,4 @@
 -- What the proofs cite.
 pub mod Given
 pub mod Undisturbed
-mod QuietLooks
+pub mod QuietLooks

@@ -1,12 +1,15 @@
 -- A look at a quiet word as the calls of a request.
-use Rattle.std.proofs.Common.{◌≡◌, ℕ, Bool, true, false, not, ◌&&◌, refl, sym, ap, ◌∙◌, subst, inl}
+use Rattle.std.proofs.Common.{◌≡◌, ℕ, ◌≤◌, List, arith, Bool, true, false, not, ◌&&◌, refl, sym, ap, ◌∙◌, subst, inl}
 use Rattle.std.specs.Prelude.{Ok}
 use mathlib.Core.Bool.{false≢true}
+use Rattle.sched_limit_word.specs.Tokens.{Tokens}
 use Rattle.sched_limit_word.specs.View.{with_look}
 use Rattle.sched_limit_word.specs.declared.call.Call.{Call}
 use Rattle.sched_limit_word.specs.declared.call.Call.TheVariants as call
+use Rattle.sched_limit_word.specs.declared.view.Move.{Move}
 use Rattle.sched_limit_word.specs.declared.view.View.{View}
 use Rattle.sched_limit_word.proofs.Looks.{looks_are_calls}
+use Rattle.sched_limit.specs.Holds.{Holds, IsHonest, IsHeld}
 use Rattle.sched_limit.specs.Kinds.{bucket_rules, breaker_rules}
 use Rattle.sched_limit.specs.Quiet.{IsQuiet, is_full, is_calm}
 use Rattle.sched_limit.specs.Step.{Answer, Rules, answered, held, admitted, nothing}
@@ -62,7 +65,32 @@ module _ (m : Rules) (word : ℕ) (q : IsQuiet m.next m.refusal word) where
     });
   }
 
-free_of : (a c : Bool) → (a && not c) ≡ true → c ≡ false
+  -- the request that is admitted at a quiet word holds no more than the one before
+  left_free : (o : Tokens) (holds : Holds) → IsHonest o m holds → (r : Request) (kind : ℕ)
+      → holds (admitted (m.stamp word)) kind ≤ holds (record r { counted = false }) kind
+  left_free o holds honest r kind =
+      let c : Call = call.Admit 0 0 0 in
+      let stays : m.next c word ≡ word = q.admits 0 0 0 in
+      let grants : Ok tt ≡ answered (m.refusal c word) = ap answered (sym (q.granted 0 0 0)) in
+      let same : admitted (m.stamp word)
+      ≡ held (Admit 0) (answered (m.refusal c word)) (m.stamp (m.next c word)) (record r { counted = false }) =
+      ap (λ (w : ℕ). admitted (m.stamp w)) (sym stays)
+      ∙ ap (λ (a : Answer). held (Admit 0) a (m.stamp (m.next c word)) (record r { counted = false })) grants in
+      subst (λ (x : Request). holds x kind ≤ holds (record r { counted = false }) kind) (sym same)
+      (honest.stays (Admit 0) 0 (record r { counted = false }) word kind stays)
+
+  left : (o : Tokens) (holds : Holds) → IsHonest o m holds → (r : Request) (kind : ℕ) → r.counted ≡ false
+      → holds (admitted (m.stamp word)) kind ≤ holds r kind
+  left o holds honest r kind free =
+      subst (λ (b : Bool). holds (admitted (m.stamp word)) kind ≤ holds (record r { counted = b }) kind) (sym free)
+      (left_free o holds honest r kind)
+
+  -- what it may give back, its pass has gained
+  pub held_at : (o : Tokens) (holds : Holds) → IsHonest o m holds → (r : Request) (moves : List Move) → r.counted ≡ false
+      → IsHeld o holds r moves → IsHeld o holds (admitted (m.stamp word)) moves
+  held_at o holds honest r moves free has = λ kind. omega (arith, left o holds honest r kind free, has kind)
+
+pub free_of : (a c : Bool) → (a && not c) ≡ true → c ≡ false
 free_of a true e = absurd (false≢true (and_right a false e))
 free_of a false e = refl
 

@@ -30,7 +30,8 @@ impl<M: Quiet> OnLimit<M> {
         ensures begins { result ≡ may_begin M.is_quiet self.old word }
         ensures begun { self.new ≡ begun M.is_quiet M.generation self.old word }
     {
-        if !self.may_begin(word) {
+        let is_quiet = self.limit.machine().is_quiet(word);
+        if !is_quiet || self.hold.request().counted {
             return false;
         }
         self.hold.begin(self.limit.machine().generation(word));
