@@ -1,6 +1,6 @@
 //! Sets of numbers, kept as spans.
-ghost use Rattle.std.specs.Prelude.{◌≡◌, ℕ, ◌+◌, ◌-◌, ◌<◌, ◌≤◌, [], ◌∷◌, IfSome, IfNone, IfOk, IfErr, OnErr, HoldsAt};
-ghost use Rattle.std.specs.Prelude.{All, length, MatchBool, min, true, false, vec_len, vec_capacity};
+ghost use Rattle.std.specs.Prelude.{◌≡◌, ◌≢◌, ◌⊎◌, ℕ, ◌+◌, ◌-◌, ◌<◌, ◌≤◌, [], ◌∷◌, IfSome, IfNone, IfOk, IfErr, OnErr};
+ghost use Rattle.std.specs.Prelude.{All, HoldsAt, length, MatchBool, min, true, false, vec_len, vec_capacity};
 ghost use Rattle.sched_ticket.specs.Lists.{is};
 ghost use Rattle.sched_ticket_lease.specs.Spans.{between, span_weight, weight, HasNone, HasSome, IsApart, IsIn};
 ghost use Rattle.sched_ticket_lease.specs.Spans.{IsNotIn, IsTakenOf, Meets, Moves};
@@ -188,6 +188,8 @@ fn put_if_any(spans: &mut Vec<Span>, first: u64, end: u64)
 fn put(spans: &mut Vec<Span>, span: Span)
     requires { vec_len spans.old < vec_capacity spans.old }
     ensures weight { (q : ℕ → ℕ) → weight q spans.new.items ≡ weight q spans.old.items + span_weight q span }
+    ensures joined { vec_len spans.new ≤ vec_len spans.old
+        ⊎ (All (λ s. s.end ≢ span.first) spans.old.items × All (λ s. s.first ≢ span.end) spans.old.items) }
     ensures len { vec_len spans.new ≤ vec_len spans.old + 1 }
     ensures capacity { vec_capacity spans.new ≡ vec_capacity spans.old }
 {
@@ -200,6 +202,8 @@ fn put(spans: &mut Vec<Span>, span: Span)
 fn take_ending(spans: &mut Vec<Span>, end: u64) -> u64
     ensures weight { (q : ℕ → ℕ) → weight q spans.old.items ≡ weight q spans.new.items + between q result end }
     ensures before { result ≤ end }
+    ensures taken { (vec_len spans.new + 1 ≡ vec_len spans.old)
+        ⊎ (All (λ s. s.end ≢ end) spans.old.items × (spans.new.items ≡ spans.old.items)) }
     ensures len { vec_len spans.new ≤ vec_len spans.old }
     ensures capacity { vec_capacity spans.new ≡ vec_capacity spans.old }
 {
@@ -213,6 +217,8 @@ fn take_ending(spans: &mut Vec<Span>, end: u64) -> u64
 fn take_beginning(spans: &mut Vec<Span>, first: u64) -> u64
     ensures weight { (q : ℕ → ℕ) → weight q spans.old.items ≡ weight q spans.new.items + between q first result }
     ensures after { first ≤ result }
+    ensures taken { (vec_len spans.new + 1 ≡ vec_len spans.old)
+        ⊎ (All (λ s. s.first ≢ first) spans.old.items × (spans.new.items ≡ spans.old.items)) }
     ensures len { vec_len spans.new ≤ vec_len spans.old }
     ensures capacity { vec_capacity spans.new ≡ vec_capacity spans.old }
 {
@@ -245,14 +251,16 @@ fn place_meeting(spans: &[Span], first: u64, end: u64) -> Option<usize>
 
 // Where a span ends at this number.
 fn place_ending(spans: &[Span], end: u64) -> Option<usize>
-    ensures { IfSome result (λ at. (at < length spans.now) × HoldsAt (λ s. s.end ≡ end) spans.now at) }
+    ensures some { IfSome result (λ at. (at < length spans.now) × HoldsAt (λ s. s.end ≡ end) spans.now at) }
+    ensures none { IfNone result (All (λ s. s.end ≢ end) spans.now) }
 {
     spans.iter().position(|span| span.end == end)
 }
 
 // Where a span begins at this number.
 fn place_beginning(spans: &[Span], first: u64) -> Option<usize>
-    ensures { IfSome result (λ at. (at < length spans.now) × HoldsAt (λ s. s.first ≡ first) spans.now at) }
+    ensures some { IfSome result (λ at. (at < length spans.now) × HoldsAt (λ s. s.first ≡ first) spans.now at) }
+    ensures none { IfNone result (All (λ s. s.first ≢ first) spans.now) }
 {
     spans.iter().position(|span| span.first == first)
 }

@@ -8,12 +8,12 @@ use Rattle.sched_ticket_lease.proofs.spans.take_ending.Goals as goal
 pub returns-in-Some-clause-weight : goal.returns-in-Some-clause-weight
 returns-in-Some-clause-weight c q =
     let e : c.take.result.end ≡ c.args.end = found (λ (s : Span). s.end ≡ c.args.end) _ _ _ c.take.result
-    c.deref.ensures.value c.take.ensures.is c.in-Some.ensures.1 in
+    c.deref.ensures.value c.take.ensures.is c.in-Some.ensures.some.1 in
     omega (arith, c.take.ensures.weight q, ap (below q) e)
 
 pub returns-in-Some-clause-before : goal.returns-in-Some-clause-before
 returns-in-Some-clause-before c =
     let e : c.take.result.end ≡ c.args.end = found (λ (s : Span). s.end ≡ c.args.end) _ _ _ c.take.result
-    c.deref.ensures.value c.take.ensures.is c.in-Some.ensures.1 in
+    c.deref.ensures.value c.take.ensures.is c.in-Some.ensures.some.1 in
     let some : c.take.result.first < c.take.result.end = c.take.result.some in
     omega arith
