@@ -39,7 +39,7 @@
 
 mod clock;
 mod engine;
-#[cfg(feature = "tokio")]
+#[cfg(all(feature = "tokio", target_os = "linux"))]
 mod instants;
 #[cfg(feature = "leased")]
 mod leased;
