@@ -162,8 +162,8 @@ def _load() -> Any:
 
         machine = f"{platform.system()} on {platform.machine()}"
         raise ImportError(
-            f"the engine of hikebox can't be loaded: {error}; it is made for Linux on x86_64 and on aarch64, and this "
-            f"is {machine}; HIKEBOX_LIBRARY names another one"
+            f"the engine of hikebox can't be loaded: {error}; each system and processor has a wheel of its own, and "
+            f"this is {machine}; HIKEBOX_LIBRARY names another engine"
         ) from None
     for name, parameters in SIGNATURES.items():
         try:
