@@ -264,6 +264,22 @@ mod metrics {
     use super::*;
     use hikebox::register_metrics;
     use prometheus::{IntCounterVec, Opts, Registry, TextEncoder};
+    use std::path::Path;
+    use std::{fs, thread};
+
+    /// A registry of the metrics. The first one of the process has nothing of the call before it.
+    fn registered() -> Registry {
+        static FIRST: Once = Once::new();
+        let registry = Registry::new();
+        FIRST.call_once(|| {
+            drop(Retrying::new(&twice(), &Unlimited).named("before").sleep(|_| ()).call(fails(9)));
+            register_metrics(&registry).unwrap();
+            assert_eq!(counts(&registry, "before"), [] as [String; 0]);
+        });
+        let registry = Registry::new();
+        register_metrics(&registry).unwrap();
+        registry
+    }
 
     /// The lines of this registry that are of this call, without the buckets.
     fn counts(registry: &Registry, call: &str) -> Vec<String> {
@@ -274,15 +290,7 @@ mod metrics {
 
     #[test]
     fn all_calls_of_the_process_are_counted_from_the_first_registry_on() {
-        let (policy, budget) = (twice(), Budget::new(1).unwrap());
-        let retrying = |name| Retrying::new(&policy, &budget).named(name).sleep(|_| ());
-        drop(retrying("before").call(fails(9)));
-        let registry = Registry::new();
-        register_metrics(&registry).unwrap();
-        assert_eq!(counts(&registry, "before"), [] as [String; 0]);
-
-        budget.close().unwrap();
-        let budget = Budget::new(1).unwrap();
+        let (registry, policy, budget) = (registered(), twice(), Budget::new(1).unwrap());
         let retrying = |name| Retrying::new(&policy, &budget).named(name).sleep(|_| ());
         for times in [0, 1, 9] {
             drop(retrying("after").call(fails(times)));
@@ -319,5 +327,56 @@ mod metrics {
         assert!(register_metrics(&taken).is_err());
         let names: Vec<_> = taken.gather().iter().map(|family| family.get_name().to_owned()).collect();
         assert_eq!(names, ["hikebox_refusals_total"]);
+    }
+
+    #[test]
+    fn threads_count_each_call_once() {
+        let registry = registered();
+        let (policy, limit) = (twice(), Quota::new(1000, 0.0, Duration::from_secs(3600)).unwrap());
+        let call = || {
+            let retrying = Retrying::new(&policy, &limit).named("at once").sleep(|_| ());
+            (0..500).for_each(|_| drop(retrying.call(fails(1))));
+        };
+        thread::scope(|scope| (0..8).for_each(|_| drop(scope.spawn(call))));
+        // each of the thousand tickets makes a second run, which succeeds
+        let counted = counts(&registry, "at once");
+        let wanted = [
+            "hikebox_attempts_total{} 5000",
+            r#"hikebox_calls_total{,ending="limit_refused"} 3000"#,
+            r#"hikebox_calls_total{,ending="won"} 1000"#,
+            r#"hikebox_refusals_total{,limit="Quota",reason="used_up"} 3000"#,
+            "hikebox_retries_total{} 1000",
+        ];
+        assert_eq!(counted[..5], wanted);
+        assert_eq!(counted.last().unwrap(), "hikebox_wait_seconds_count{} 1000");
+    }
+
+    /// One dashboard serves both: the metrics of the Python package, if they are beside this crate.
+    #[test]
+    fn names_labels_and_bounds_are_those_of_python() {
+        let above = Path::new(env!("CARGO_MANIFEST_DIR")).ancestors();
+        let python = match above.map(|folder| folder.join("python/src/hikebox/metrics.py")).find(|file| file.is_file())
+        {
+            Some(file) => fs::read_to_string(file).unwrap(),
+            None => return eprintln!("skipped: no metrics of Python beside the crate"),
+        };
+        for (name, labels) in [
+            ("calls", r#"("call", "ending")"#),
+            ("attempts", r#"("call",)"#),
+            ("retries", r#"("call",)"#),
+            ("refusals", r#"("call", "limit", "reason")"#),
+        ] {
+            let line = python.lines().find(|line| line.trim().starts_with(&format!("\"{name}\": (")));
+            assert!(line.unwrap().ends_with(&format!(", {labels}),")), "{line:?}");
+        }
+        assert!(python.contains(r#""hikebox_wait_seconds", _WAITS, ("call",)"#));
+        let registry = registered();
+        drop(Retrying::new(&twice(), &Unlimited).named("bounds").sleep(|_| ()).call(fails(1)));
+        let text = TextEncoder::new().encode_to_string(&registry.gather()).unwrap();
+        let of_call = text.lines().filter(|line| line.starts_with(r#"hikebox_wait_seconds_bucket{call="bounds""#));
+        let bounds: Vec<_> = of_call.filter_map(|line| line.split("le=\"").nth(1)?.split('"').next()).collect();
+        let floats = |bound: &&str| bound.parse::<f64>().ok().filter(|bound| bound.is_finite());
+        let bounds: Vec<_> = bounds.iter().filter_map(floats).map(|bound| format!("{bound:?}")).collect();
+        assert!(python.contains(&format!("_BOUNDS = ({})", bounds.join(", "))), "{bounds:?}");
     }
 }
