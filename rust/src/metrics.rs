@@ -20,7 +20,8 @@ struct Metrics {
 static METRICS: MadeOnce<&'static Metrics> = MadeOnce::new();
 
 /// Counts all retries of the process, and registers the counts in this registry. Counting begins with the first
-/// registry. Before it, a call that ends reads one atomic number.
+/// registry. Before it, a call that ends reads one atomic number. Counting takes locks of the crate `prometheus`: a child
+/// that was forked while another thread counted may wait for one for ever.
 ///
 /// | Metric | What it counts | Labels |
 /// |---|---|---|
