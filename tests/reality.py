@@ -1,6 +1,6 @@
 #!/usr/bin/env python3
 """Plays a small storm against real sockets by bench/reality, without a limit and under a quota, and compares it with
-the same storm: a peer in a process of its own, clients in another, ten seconds.
+the same storm: a peer in a process of its own, clients in another, ten seconds. docs/STORMS.md has what was measured.
 
 It can't fail because the machine is busy. Peer and clients say how far they fell behind; a play in which one did so by
 more than a fifth of the patience is void, and made again up to three times. If all were void it says so, and looks only
@@ -14,6 +14,7 @@ from __future__ import annotations
 import os
 import sys
 from collections import Counter
+from dataclasses import replace
 from pathlib import Path
 from typing import List
 
@@ -22,9 +23,11 @@ sys.path[:0] = [str(TOP / "bench" / "reality"), str(TOP / "python" / "src")]
 os.environ.setdefault("HIKEBOX_LIBRARY", str(TOP / "dist" / "libhikebox.so"))
 
 import compare  # noqa: E402
-from compare import Beside, Figures, Measured, beside, measured, recovered  # noqa: E402
+from compare import Beside, Figures, Measured, beside, measured, read, recovered  # noqa: E402
+from curves import picture  # noqa: E402
 from plays import Row, played, told  # noqa: E402
-from stories import Story  # noqa: E402
+from stories import NGINX, STORIES, Story  # noqa: E402
+from table import matrix  # noqa: E402
 
 #: Without a limit three in ten of its requests succeed, and under the quota three quarters.
 SMALL = Story(
@@ -78,6 +81,29 @@ def looks_at_rules() -> List[str]:
     return wrong
 
 
+def looks_at_pages() -> List[str]:
+    """What docs/STORMS.md says otherwise than what was measured, or the storms."""
+    _, plays = read(TOP / "bench" / "reality" / "measured.json")
+    rows = [beside(play) for play in plays]
+    wrong = []
+    if matrix(rows) not in (TOP / "docs" / "STORMS.md").read_text():
+        wrong.append("docs/STORMS.md: expected the table that bench/reality --shares prints of measured.json")
+    if picture(plays) != (TOP / "docs" / "pictures" / "reality.svg").read_text():
+        wrong.append("docs/pictures/reality.svg: expected what bench/reality --svg draws of measured.json")
+    for row in rows:
+        figures, name = row.play.figures, f"{row.play.story}, {row.play.limit}"
+        story = {**STORIES, **NGINX}[row.play.story]
+        if not row.is_alike and not beside(row.play, replace(story, patience=0.501)).is_alike:
+            wrong.append(f"{name}: expected what a storm with a patience of 501 ms has")
+        backs = [back for back in row.recoveries if back is not None]
+        is_near = (
+            any(abs(back - (figures.recovered or 0)) <= 1 for back in backs) or figures.recovered in row.recoveries
+        )
+        if row.is_alike and not (is_near and row.spread("calls").apart(figures.calls) <= 0.011 * figures.calls):
+            wrong.append(f"{name}: expected calls within 1.1 % of the storm, and a recovery within a second")
+    return wrong
+
+
 def looks_at(play: Measured, is_void: bool) -> List[str]:
     """What is wrong with a play."""
     figures, wrong = play.figures, []
@@ -92,7 +118,7 @@ def looks_at(play: Measured, is_void: bool) -> List[str]:
 
 
 def main() -> int:
-    wrong = looks_at_rules()
+    wrong = looks_at_rules() + looks_at_pages()
     compare.POINTS, compare.CALLS = POINTS, CALLS
     plays = played([Row(SMALL, "none"), Row(SMALL, "quota")], 2, lambda play: print(told(play), flush=True), TRIES)
     for play in plays:

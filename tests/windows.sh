@@ -2,7 +2,10 @@
 # Tests the files for Windows of dist/, or of HIKEBOX_LIB_DIR, under wine. The DLL has the calls of hikebox.h, and needs
 # msvcrt.dll alone. Each group of tests of the library in C runs, linked with the static library and with the DLL; so do
 # 300 random policies, which print what the library for this machine prints, sixteen threads on one budget, and
-# examples/c/storm.c. The wheel has the same DLL. README's program in Rust runs over the crate.
+# examples/c/storm.c. The wheel has the same DLL. README's program in Rust runs over the crate, and so do the crate's own
+# tests with all its features but `prometheus`, for which Debian lacks windows-sys: those of files that begin with `cfg(all(unix`, which fork or count in folders, are left
+# out, and those that say of themselves why they are ignored there. Debian's cargo runs no example of a document for
+# another target. What cargo builds is kept in out/rust-windows, where that can be written.
 set -euo pipefail
 top=$(cd "$(dirname "${BASH_SOURCE[0]}")/.." && pwd)
 dist=${HIKEBOX_LIB_DIR:-$top/dist}
@@ -89,11 +92,34 @@ tests_rust() {
   printf '[package]\nname = "program"\nversion = "0.1.0"\nedition = "2021"\n[dependencies]\nhikebox = { path = "%s" }\n' \
     "$top/rust" >"$work/program/Cargo.toml"
   awk '/^```rust/ { inside = 1; next } /^```/ { inside = 0 } inside' "$top/README.md" >"$work/program/src/main.rs"
-  (cd "$work/program" && HIKEBOX_LIB_DIR=$files RUSTC=/usr/bin/rustc CARGO_INCREMENTAL=0 CARGO_TARGET_DIR=$work/target \
-    CARGO_TARGET_X86_64_PC_WINDOWS_GNU_LINKER=$cross-gcc-posix /usr/bin/cargo build --quiet --offline --target x86_64-pc-windows-gnu) &&
+  (cd "$work/program" && CARGO_TARGET_DIR=$work/target crosses build) &&
     cp "$work/target/x86_64-pc-windows-gnu/debug/program.exe" "$work" && (cd "$work/program" && runs program) || wrong "the program in README.md over the crate"
 }
 
+# crosses WORD..: a command of Debian's cargo for Windows, which runs programs under wine. (A backtrace crashes there.)
+crosses() {
+  HIKEBOX_LIB_DIR=$files RUSTC=/usr/bin/rustc RUST_BACKTRACE=0 CARGO_INCREMENTAL=0 CARGO_PROFILE_DEV_DEBUG=0 CARGO_TERM_COLOR=never \
+    CARGO_TARGET_X86_64_PC_WINDOWS_GNU_LINKER=$cross-gcc-posix CARGO_TARGET_X86_64_PC_WINDOWS_GNU_RUNNER=wine \
+    /usr/bin/cargo "$1" --quiet --offline --target x86_64-pc-windows-gnu "${@:2}"
+}
+
+# The tests of the crate, seen from a folder of their own, which has a lock file for Debian's crates.
+tests_crate() {
+  local room=$top/out/rust-windows name tests=()
+  { mkdir -p "$room" && [ -w "$room" ]; } 2>/dev/null || room=$work/rust-windows
+  mkdir -p "$room"
+  for name in Cargo.toml README.md build.rs src tests; do ln -sfn "$top/rust/$name" "$room/$name"; done
+  for name in "$top"/rust/tests/*.rs; do
+    grep -q '^#!\[cfg(all(unix' "$name" || tests+=(--test "$(basename "$name" .rs)")
+  done
+  (cd "$room" && CARGO_TARGET_DIR=$room/target crosses test --config 'source.crates-io.replace-with="debian"' \
+    --config 'source.debian.directory="/usr/share/cargo/registry"' --features "leased serde tokio tower tracing" --lib "${tests[@]}") >"$work/crate" 2>&1 ||
+    wrong "the tests of the crate: $(cat "$work/crate")"
+}
+
+# (wine's server would end between two programs, and the second may come just then)
+mkdir "$WINEPREFIX"
+wineserver -p
 wineboot --init >/dev/null 2>&1
 tests_dll
 builds
@@ -101,6 +127,8 @@ tests_groups
 tests_policies
 tests_installed
 tests_rust
+tests_crate
 runs storm | cmp - <("$work/storm") || wrong examples/c/storm.c
 [ "$failed" = 0 ] || exit 1
-echo "tests/windows.sh: each group and 300 policies under wine, linked and from the DLL"
+passed=$(awk '/^test result: ok/ { sum += $4 } END { print sum }' "$work/crate")
+echo "tests/windows.sh: each group and 300 policies under wine, linked and from the DLL, and $passed tests of the crate"

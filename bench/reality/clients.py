@@ -8,7 +8,7 @@ import struct
 from dataclasses import dataclass, field
 from itertools import cycle
 from multiprocessing.connection import Connection
-from typing import Counter, List, Set
+from typing import Counter, List, Set, Type
 
 from hikebox import AsyncRetrying, NotAdmitted, Policy
 
@@ -46,37 +46,57 @@ class Population:
     """Clients with one policy and one limit."""
 
     def __init__(self, story: Story, clients: Clients, clock: PlayClock, ports: List[int]) -> None:
-        self._story, self._clock, self._share = story, clock, clients.share
-        self._ports = cycle(ports)
-        limit = LIMITS[clients.limit](clock)
-        self._retrying = AsyncRetrying(Policy.parse(story.policy), on=_FAILURES, limit=limit, clock=clock)
+        self.story, self.clients, self.clock = story, clients, clock
+        #: Where each call goes, in turn.
+        self.ports = cycle(ports)
         self.tally = Tally()
 
     async def play(self) -> None:
         """Makes all requests, and waits until they are over, or the play is."""
         under_way: Set[asyncio.Task[None]] = set()
-        for due in self._story.moments(self._share):
-            await until(self._clock, due)
-            task = asyncio.create_task(self._request(due))
+        for due in self.story.moments(self.clients.share):
+            await until(self.clock, due)
+            task = asyncio.create_task(self._request(int(due + 1e-6)))
             under_way.add(task)
             task.add_done_callback(under_way.discard)
-        while under_way and self._clock() < self._story.until:
+        while under_way and self.clock() < self.story.until:
             await asyncio.sleep(0.1)
 
-    async def _request(self, due: float) -> None:
-        second = int(due + 1e-6)
+    async def _request(self, second: int) -> None:
         self.tally.requests[second] += 1
         try:
-            await self._retrying(self._call)
-            self.tally.won[second] += 1
+            if await self.succeeds():
+                self.tally.won[second] += 1
         except NotAdmitted:
             self.tally.not_admitted[second] += 1
+
+    async def succeeds(self) -> bool:
+        """Makes a request with all its calls. Its limit may not admit it."""
+        raise NotImplementedError
+
+    def count_call(self) -> None:
+        """Counts a call that begins."""
+        self.tally.calls[int(self.clock())] += 1
+
+
+class LinePopulation(Population):
+    """Clients of a peer that answers each connection by a line."""
+
+    def __init__(self, story: Story, clients: Clients, clock: PlayClock, ports: List[int]) -> None:
+        super().__init__(story, clients, clock, ports)
+        limit = LIMITS[clients.limit](clock)
+        self._retrying = AsyncRetrying(Policy.parse(story.policy), on=_FAILURES, limit=limit, clock=clock)
+
+    async def succeeds(self) -> bool:
+        try:
+            await self._retrying(self._call)
         except _FAILURES:
-            pass
+            return False
+        return True
 
     async def _call(self) -> None:
-        self.tally.calls[int(self._clock())] += 1
-        await asyncio.wait_for(_ask(next(self._ports)), self._story.patience)
+        self.count_call()
+        await asyncio.wait_for(_ask(next(self.ports)), self.story.patience)
 
 
 async def _ask(port: int) -> None:
@@ -91,13 +111,22 @@ async def _ask(port: int) -> None:
         raise ConnectionError("shed" if answer else "refused")
 
 
+def _kind_of(story: Story) -> Type[Population]:
+    if not story.is_nginx:
+        return LinePopulation
+    from web import WebPopulation  # which needs aiohttp
+
+    return WebPopulation
+
+
 async def _play(pipe: Connection, story: Story, clients: Clients, ports: List[int]) -> Tally:
+    kind = _kind_of(story)
     pipe.send("ready")
     clock = PlayClock(await told(pipe))
     await until(clock, 0.0)
     pace = Pace(clock)
     ticking = asyncio.create_task(pace.keep())
-    population = Population(story, clients, clock, ports)
+    population = kind(story, clients, clock, ports)
     await population.play()
     ticking.cancel()
     population.tally.behind = pace.behind

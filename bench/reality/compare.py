@@ -13,7 +13,7 @@ from typing import List, NamedTuple, Optional, Sequence, Tuple
 from hikebox import Policy, Population, Storm, storm
 
 from plays import Played
-from stories import LIMITS, STORIES, Story
+from stories import LIMITS, NGINX, STORIES, Story
 
 SEEDS = 10
 #: How far what was measured may lie from the spread of the storm: points of what succeeded, and a share of the calls.
@@ -139,7 +139,7 @@ class Beside:
 
 def beside(play: Measured, story: Optional[Story] = None) -> Beside:
     """A play beside its storms; of a story that has its name, where none is given."""
-    story = story or STORIES[play.story]
+    story = story or {**STORIES, **NGINX}[play.story]
     return Beside(play, [figures_of(storm_of(story, play.limit, seed)) for seed in range(SEEDS)])
 
 

@@ -13,17 +13,20 @@ from stories import STORIES, Story
 WIDTH, MARGIN, TALL = 760, 12, 120
 #: The room left of a panel for its scale, and above it for its name.
 LEFT, ABOVE, BELOW = 38, 44, 24
+#: What it shows.
+SHOWN = (("outage", "none"), ("outage", "quota"), ("surge", "none"), ("outage, 30 % without", "quota"))
 #: How many seconds are drawn.
 SECONDS = 90
 
 
-def picture(plays: Sequence[Measured]) -> str:
-    """The plays as panels, two in a row."""
+def picture(measured: Sequence[Measured]) -> str:
+    """Four of the plays as panels, two in a row."""
+    plays = [each for key in SHOWN for each in measured if (each.story, each.limit) == key]
     wide = (WIDTH - MARGIN) / 2 - MARGIN - LEFT
     rows = -(-len(plays) // 2)
     told = " ".join(f"{_name(each)}: {_said(each, storm_of(STORIES[each.story], each.limit))}." for each in plays)
     title = "Calls a second, measured and in a storm"
-    drawn = Picture(WIDTH, 40 + rows * (ABOVE + TALL + BELOW) + 8, title, told)
+    drawn = Picture(WIDTH, 40 + rows * (ABOVE + TALL + BELOW) + 20, title, told)
     drawn.text(MARGIN, 20, title, "head")
     _draw_legend(drawn)
     for index, play in enumerate(plays):
@@ -35,7 +38,7 @@ def picture(plays: Sequence[Measured]) -> str:
 
 
 def _draw_legend(drawn: Picture) -> None:
-    for x, kind, word in ((420, "line0", "the storm"), (520, "line1", "measured")):
+    for x, kind, word in ((420, "line0", "in a storm"), (530, "line1", "measured")):
         drawn.path(f"M{x} 16h26", kind)
         drawn.text(x + 32, 20, word)
 

@@ -31,8 +31,8 @@ class Pace:
         self._ticks = self._late = 0
 
     async def keep(self) -> None:
-        """Ticks until it is cancelled."""
-        due = max(0.0, self._clock())
+        """Ticks from the beginning of the play until it is cancelled."""
+        due = 0.0
         while True:
             due += TICK
             await until(self._clock, due)

@@ -9,6 +9,7 @@ from multiprocessing.connection import Connection
 from typing import Callable, Dict, Iterable, List, NamedTuple, Optional, Sequence
 
 from clients import Clients, Tally, run_clients
+from nginx import run_nginx
 from pace import Behind
 from peer import PeerTold, run_peer
 from stories import Story
@@ -73,7 +74,7 @@ class _Play:
 
     def __init__(self, row: Row) -> None:
         self.row = row
-        self.peer = _Process(run_peer, row.story)
+        self.peer = _Process(run_nginx if row.story.is_nginx else run_peer, row.story)
         self.clients: List[_Process] = []
 
     def begin_clients(self) -> None:

@@ -3,7 +3,7 @@
 from __future__ import annotations
 
 import time
-from dataclasses import dataclass
+from dataclasses import dataclass, replace
 from typing import Callable, Dict, Iterator, Optional, Tuple, Union
 
 from hikebox import Breaker, Bucket, CallLimit, InFlight, Quota, Throttle, spaced
@@ -34,6 +34,9 @@ class Story:
     policy: str = "recurs(8) & exponential(0.1, 2).cap(10).jittered(0, 1)"
     #: The share of the requests that come from clients without the limit.
     unlimited: float = 0.0
+    #: Whether the peer is nginx, and for how many seconds it asks clients to wait where it sheds a request.
+    is_nginx: bool = False
+    retry_after: Optional[int] = None
 
     @property
     def over(self) -> float:
@@ -71,7 +74,19 @@ STORIES: Dict[str, Story] = {
         Story("brown-out", slow=(10, 20, 0.5)),
         Story("dead replica", capacity=50, queue=250, replicas=2, outage=(10, 20), down=1),
         Story("surge", surge=(10, 15, 240)),
-        Story("outage, 30 % without it", outage=(10, 20), unlimited=0.3),
+        Story("outage, 30 % without", outage=(10, 20), unlimited=0.3),
+    )
+}
+
+_NGINX = Story("nginx, outage", rate=20, capacity=25, queue=125, outage=(10, 20), is_nginx=True)
+
+#: The same of nginx, which is killed and started again.
+NGINX: Dict[str, Story] = {
+    story.name: story
+    for story in (
+        _NGINX,
+        replace(_NGINX, name="nginx, surge", outage=None, surge=(10, 15, 60)),
+        replace(_NGINX, name="nginx, outage, Retry-After: 5", retry_after=5),
     )
 }
 

@@ -17,6 +17,22 @@ def table(rows: Sequence[Beside]) -> str:
     return HEAD + "".join(f"| {' | '.join(_cells(row))} |\n" for row in rows)
 
 
+def matrix(rows: Sequence[Beside]) -> str:
+    """What succeeded in per cent, and in brackets the least and the most of the storms: a column for each story."""
+    stories = [story for story in dict.fromkeys(row.play.story for row in rows) if "Retry-After" not in story]
+    cells = {(row.play.limit, row.play.story): _share(row) for row in rows}
+    head = f"| {' | '.join(['Limit', *stories])} |\n{'|---' * (1 + len(stories))}|\n"
+    limits = dict.fromkeys(row.play.limit for row in rows)
+    lines = ([limit, *(cells.get((limit, story), "") for story in stories)] for limit in limits)
+    return head + "".join(f"| {' | '.join(line)} |\n" for line in lines)
+
+
+def _share(row: Beside) -> str:
+    least, most = (f"{each:.1f}" for each in row.spread("succeeded"))
+    said = f"{row.play.figures.succeeded:.1f} ({least if least == most else f'{least}–{most}'})"
+    return said if row.is_alike else f"**{said}**"
+
+
 def _cells(row: Beside) -> List[str]:
     play = row.play
     calls, most = row.spread("calls"), row.spread("most")

@@ -18,6 +18,11 @@ _hikebox_options() {
         --measure:succeeded,calls,recovery,slowest --find:quota,retries,patience,beside --compare:file --csv --json \
         --svg:file --bars --width:text --detail --title:text --name:text
       ;;
+    advise)
+      echo --rate:text --rates:text --together:text --seconds:text --capacity:text --patience:text --queue:text \
+        --replicas:text --words:text --outage:text --slow:text --surge:text \
+        --kind:none,quota,bucket,inflight,breaker,throttle --cookbook --all --json --svg:file --width:text --title:text
+      ;;
     lab) echo --port:text --no-browser ;;
   esac
   echo --help -h
@@ -49,7 +54,7 @@ _hikebox() {
   local word=${COMP_WORDS[COMP_CWORD]} before=${COMP_WORDS[COMP_CWORD - 1]} command=${COMP_WORDS[1]} options option begins
   COMPREPLY=()
   if [ "$COMP_CWORD" = 1 ]; then
-    mapfile -t COMPREPLY < <(compgen -W 'run plan check storm lab --help --version' -- "$word")
+    mapfile -t COMPREPLY < <(compgen -W 'run plan check storm advise lab --help --version' -- "$word")
     return
   fi
   options=$(_hikebox_options "$command" | tr '\n' ' ')

@@ -8,6 +8,7 @@ commands=(
   'plan:play a policy and print what it does'
   'check:say what a policy is, or where it is wrong'
   'storm:play what a policy does to a peer that fails for a while'
+  'advise:say which limit to take'
   'lab:serve a page on which policies and storms are tried'
 )
 picture=(
@@ -84,6 +85,27 @@ case $state in
           '--detail[show in the picture why calls failed]' \
           '--title[the title of the picture]:text:' \
           '*--name[what a picture or a table calls a storm]:text:' \
+          '*:policy:_files'
+        ;;
+      advise)
+        _arguments -S '(- *)'{-h,--help}'[print help]' $picture \
+          '--rate[requests a second]:number:' \
+          '--rates[spans with a rate of their own]:FROM..TO@N,..:' \
+          '--together[requests that come at one moment]:number:' \
+          '--seconds[for how many seconds requests come]:number:' \
+          '--capacity[calls that each replica of the peer can serve in a second]:number:' \
+          '--patience[when a client gives a call up]:milliseconds:' \
+          '--queue[calls of work that may stand at each replica of the peer]:number:' \
+          '--replicas[how many replicas the peer is]:number:' \
+          '--words[the seed of the random words]:seed:' \
+          '--outage[when the peer or a replica is down]:FROM..TO:' \
+          '--slow[when the peer works at a part of its capacity]:FROM..TO@PERCENT:' \
+          '--surge[when more requests come]:FROM..TO@N:' \
+          '*--kind[try limits of this kind alone]:kind:(none quota bucket inflight breaker throttle)' \
+          '--cookbook[try the policies of the cookbook]' \
+          '(--json --svg)--all[print all limits that were tried]' \
+          '(--all --svg)--json[print all that was tried as JSON]' \
+          '--title[the title of the picture]:text:' \
           '*:policy:_files'
         ;;
       lab)

@@ -75,7 +75,7 @@ def test_the_completions_of_bash() -> None:
         text = BASH.format(file=SHARE / "hikebox.bash", folder=SHARE, lines=calls)
         return run("bash", "--norc", "-c", text).split("\n")[:-1]
 
-    assert offered("hikebox p", "hikebox ''") == ["plan", "run plan check storm lab --help --version"]
+    assert offered("hikebox p", "hikebox ''") == ["plan", "run plan check storm advise lab --help --version"]
     for command, known in OPTIONS.items():
         [found] = offered(f"hikebox {command} -")
         assert set(found.split()) == set(known), f"python/share/hikebox.bash: {command}"

@@ -9,6 +9,7 @@ import subprocess
 import sys
 import time
 import urllib.request
+import zipfile
 from pathlib import Path
 from typing import Any, List
 
@@ -52,8 +53,8 @@ def test_each_module_is_imported(system: str) -> None:
     assert said(system, text) == [0, "True\n", ""]
 
 
-@pytest.mark.parametrize("platform, file", [("darwin", "libhikebox.dylib"), ("win32", "hikebox.dll")])
-def test_the_engines_file_is_looked_for_by_its_name_beside_the_package(platform: str, file: str) -> None:
+@pytest.mark.parametrize("platform, tag", [("darwin", "macosx_*"), ("win32", "win_*"), ("linux", "manylinux_*")])
+def test_the_engine_is_looked_for_where_the_wheel_has_it(platform: str, tag: str) -> None:
     text = f"""
 import os, sys, ctypes
 engine = os.environ.pop("HIKEBOX_LIBRARY")
@@ -65,10 +66,14 @@ class Library(loads):
         super().__init__(engine if name is not None else name, *words, **more)
 ctypes.PyDLL = Library
 import hikebox
-print(os.path.relpath(seen[0], os.path.dirname(hikebox.__file__)), None in seen)
+print(os.path.relpath(seen[0], os.path.dirname(os.path.dirname(hikebox.__file__))), None in seen)
 """
     done = subprocess.run([sys.executable, "-c", text], env=python_environment(), capture_output=True, text=True)
-    assert (done.returncode, done.stdout) == (0, f"{file} {platform != 'win32'}\n"), done.stderr
+    assert done.returncode == 0, done.stderr
+    file, is_own = done.stdout.split()
+    assert is_own == str(platform != "win32")
+    wheels = list(HERE.parents[1].glob(f"dist/hikebox-*-{tag}.whl"))
+    assert wheels and all(file in zipfile.ZipFile(wheel).namelist() for wheel in wheels)
 
 
 #: Files of tests that pass there, and how many of each at least.

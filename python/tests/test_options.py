@@ -7,15 +7,15 @@ from typing import Any, Dict, List, NamedTuple
 
 import pytest
 
-from hikebox import AsyncRetrying, Budget, Policy, ResultRefused, Retrying, recurs, spaced, state_of
+from hikebox import AsyncRetrying, Breaker, Budget, Policy, ResultRefused, Retrying, recurs, spaced, state_of
 from hikebox.retry.options import OPTIONS
 from hikebox.testing import VirtualClock
 
 #: A retry each second, whose policy reads codes; and one with jitter.
 POLICY = (recurs(3) & spaced(1)).while_input(below=600)
 JITTERED = spaced(1).jittered(0, 1)
-#: A call that fails with this code.
-FAILS = 503
+#: A call that fails with this code, and one that succeeds after so many seconds.
+FAILS, TAKES = 503, 2.5
 
 
 class Seen(NamedTuple):
@@ -51,6 +51,9 @@ class Watched:
     def call(self) -> Any:
         outcome = self.outcomes[min(self.calls, len(self.outcomes) - 1)]
         self.calls += 1
+        if isinstance(outcome, float):
+            self.clock.advance(outcome)
+            return WON
         if isinstance(outcome, int):
             raise OSError(outcome, "scripted")
         return outcome
@@ -69,6 +72,10 @@ MADE: Dict[str, Any] = {
     "outcomes": lambda watched: lambda state: watched.notes.append(
         (state.outcome.attempt_number, state.outcome.failed)
     ),
+    "a breaker": lambda watched: Breaker(1, spaced(60), clock=watched.clock),
+    "its breaker": lambda watched: lambda state: watched.notes.append(
+        state.retry_object.limit.request().admit() is None
+    ),
     "its start": lambda watched: lambda state: watched.notes.append(state.start_time),
 }
 WON, HOOK = "won", "a hook"
@@ -78,6 +85,13 @@ AT_ONCE = Seen(WON, 1, [], [])
 CASES: Dict[str, Case] = {
     "limit": Case(
         {"limit": "a budget of 1"}, [FAILS], Seen("SCHEDULE_DONE", 4, [1] * 3, []), Seen("LIMIT_REFUSED", 2, [1], [])
+    ),
+    "slow": Case(
+        {"slow": 2},
+        [TAKES],
+        Seen(WON, 1, [], [True]),
+        Seen(WON, 1, [], [False]),
+        {"limit": "a breaker", "on_success": "its breaker"},
     ),
     "on": Case({"on": KeyError}, [FAILS, FAILS, WON], TWICE, Seen("OSError", 1, [], [])),
     "on_result": Case({"on_result": lambda result: True}, [WON], AT_ONCE, Seen("ResultRefused", 4, [1] * 3, [])),

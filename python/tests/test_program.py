@@ -200,10 +200,11 @@ def test_only_the_program_has_its_signals() -> None:
 
 
 def test_the_nearest_word_is_named() -> None:
+    known = "expected a command (run, plan, check, storm, advise, lab)"
     wrong: List[Tuple[List[str], str, str]] = [
-        (["rnu", "--", "true"], "", "expected a command (run, plan, check, storm, lab), got 'rnu'; did you mean run?"),
-        (["xyzzy"], "", "expected a command (run, plan, check, storm, lab), got 'xyzzy'"),
-        ([], "", "expected a command (run, plan, check, storm, lab), got none"),
+        (["rnu", "--", "true"], "", f"{known}, got 'rnu'; did you mean run?"),
+        (["xyzzy"], "", f"{known}, got 'xyzzy'"),
+        ([], "", f"{known}, got none"),
         (["run", "--polcy", "recurs(1)", "--", "true"], " run", "there is no option --polcy; did you mean --policy?"),
         (["run", "--polcy=recurs(1)", "--", "true"], " run", "there is no option --polcy; did you mean --policy?"),
         (["plan", "--xyzzy"], " plan", "there is no option --xyzzy"),

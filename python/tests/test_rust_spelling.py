@@ -19,6 +19,8 @@ if __name__ == "__main__":
 import reference
 
 from hikebox import Policy
+from hikebox.advice.candidates import KINDS, candidates
+from hikebox.advice.code import in_rust as in_rust_under
 from hikebox.lab.cookbook import COOKBOOK
 from hikebox.policy.spelling import spelt_in_rust
 from hikebox.storms.code import in_rust
@@ -74,6 +76,9 @@ STORMS = [
     ),
 ]
 
+#: The first and the last limit of each kind.
+LIMITS = list(dict.fromkeys(candidates(500, [kind])[end] for kind in KINDS for end in (0, -1)))
+
 
 def policies() -> List[Policy]:
     rng = random.Random(7)
@@ -95,10 +100,17 @@ def made() -> str:
         f"\nmod storm_{number} {{\n{_set_in(in_rust(Policy.parse(COOKBOOK[3][1]), storm)).replace('fn main', 'pub fn main')}}}\n"
         for number, storm in enumerate(STORMS)
     )
+    advised = "".join(
+        f"\nmod advised_{number} {{\n    pub fn main() -> Result<(), Box<dyn std::error::Error>> {{\n"
+        f"{_set_in(_set_in(in_rust_under(Policy.parse(COOKBOOK[3][1]), limit)))}"
+        "        assert_eq!(hikebox::retry(&policy, &limit, || Ok::<_, std::io::Error>(7))?, 7);\n        Ok(())\n    }\n}\n"
+        for number, limit in enumerate(LIMITS)
+    )
+    runs_under = "".join(f"    advised_{number}::main().unwrap();\n" for number in range(len(LIMITS)))
     runs = "".join(f"    storm_{number}::main().unwrap();\n" for number in range(len(STORMS)))
     return f"""\
 //! Made by python/tests/test_rust_spelling.py: policies as the page of `hikebox lab` writes them in Rust, each beside its JSON,
-//! and its programs of storms.
+//! its programs of storms, and the lines that `hikebox advise` prints.
 
 #![cfg_attr(rustfmt, rustfmt_skip)]
 
@@ -118,7 +130,11 @@ fn each_expression_builds_its_policy() {{
 #[test]
 fn each_program_plays_its_storm() {{
 {runs}}}
-{programs}"""
+
+#[test]
+fn the_lines_of_each_limit_run() {{
+{runs_under}}}
+{programs}{advised}"""
 
 
 def _set_in(text: str) -> str:

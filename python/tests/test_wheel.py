@@ -168,6 +168,6 @@ def test_an_engine_for_another_processor_is_refused_in_a_sentence(tmp_path: Path
     done = subprocess.run([sys.executable, "-c", "import hikebox"], env=environment, capture_output=True, text=True)
     assert done.stderr.splitlines()[-1].startswith(f"ImportError: the engine of hikebox can't be loaded: {other}: ")
     assert done.stderr.endswith(
-        f"; it is made for Linux on x86_64 and on aarch64, and this is Linux on {os.uname().machine}; "
-        "HIKEBOX_LIBRARY names another one\n"
+        f"; each system and processor has a wheel of its own, and this is Linux on {os.uname().machine}; "
+        "HIKEBOX_LIBRARY names another engine\n"
     )

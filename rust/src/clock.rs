@@ -28,8 +28,9 @@ impl<F: Fn() -> Instant> Clock for F {
     }
 }
 
-/// A moment as one number, so that it is compared and subtracted in an instruction each.
-#[cfg(not(feature = "tokio"))]
+/// A moment as one number, so that it is compared and subtracted in an instruction each. On Windows and macOS also with
+/// tokio: an [`Instant`] before the machine's start may be none there.
+#[cfg(not(all(feature = "tokio", target_os = "linux")))]
 mod time {
     use crate::system;
     use std::time::{Duration, Instant};
@@ -47,8 +48,15 @@ mod time {
     impl Moment {
         /// The present moment, by [`SystemClock`](super::SystemClock).
         #[inline]
+        #[cfg(not(feature = "tokio"))]
         pub(crate) fn now() -> Self {
             Self { nanos: BEGINNING + system::monotonic() }
+        }
+
+        /// The present moment, by [`SystemClock`](super::SystemClock).
+        #[cfg(feature = "tokio")]
+        pub(crate) fn now() -> Self {
+            Self::of(::tokio::time::Instant::now().into_std())
         }
 
         /// The moment of this instant.
@@ -102,7 +110,7 @@ mod time {
 }
 
 /// A moment as tokio's clock tells it: that may stand still, so it is no number of the system's clock.
-#[cfg(feature = "tokio")]
+#[cfg(all(feature = "tokio", target_os = "linux"))]
 mod time {
     use super::whole_millis;
     use crate::instants::nanos_between;

@@ -28,6 +28,8 @@
 //! - With the feature `leased`, all processes of a machine can share a `Leased` or a `LeasedQuota`, which count in a
 //!   folder. A store of your own implements [`Tickets`].
 //! - With the feature `serde`, a configuration can contain a policy and a quota.
+//! - With the feature `tracing`, each call is a span, with events for its retries and its end; with the feature
+//!   `prometheus`, `register_metrics` counts them. [`Retrying`] then has `named`.
 //! - [`Machine`] is a retry that you step yourself, by a clock of your own.
 //! - [`Storm`] shows what a policy does to a peer that fails for a while, when thousands of calls fail together, also
 //!   beside another [`Population`] of clients; a [`Sweep`] plays storms along a parameter.
@@ -39,11 +41,13 @@
 
 mod clock;
 mod engine;
-#[cfg(feature = "tokio")]
+#[cfg(all(feature = "tokio", target_os = "linux"))]
 mod instants;
 #[cfg(feature = "leased")]
 mod leased;
 mod limits;
+#[cfg(feature = "prometheus")]
+mod metrics;
 mod policy;
 mod random;
 mod retry;
@@ -55,6 +59,8 @@ mod system;
 #[cfg(feature = "leased")]
 pub use leased::{Leased, LeasedQuota, StoreError};
 pub use limits::*;
+#[cfg(feature = "prometheus")]
+pub use metrics::register_metrics;
 pub use policy::{Fold, Line, Policy, PolicyError, PolicyFault, Schedule, Test, Waits};
 pub use retry::*;
 pub use storms::*;
@@ -64,7 +70,7 @@ mod pages {
     #[doc = include_str!("../README.md")]
     struct Readme;
 
-    #[cfg(all(hikebox_pages, feature = "tokio", feature = "leased", hikebox_async_closures))]
+    #[cfg(all(hikebox_pages, feature = "leased", feature = "prometheus", feature = "tokio", hikebox_async_closures))]
     #[doc = include_str!("../../docs/RUST.md")]
     struct Guide;
 

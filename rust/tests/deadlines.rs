@@ -133,8 +133,8 @@ fn an_error_that_asks_for_a_part_of_a_millisecond_more_is_not_waited_for() {
 
 #[test]
 fn a_retry_on_a_quota_ends_by_it_in_the_quotas_windows() {
-    let now = Cell::new(Instant::now());
-    let began = now.get() - Duration::from_millis(3_600_250);
+    let began = Instant::now();
+    let now = Cell::new(began + Duration::from_millis(3_600_250));
     let quota = Quota::new_at(began, 1, 0.0, Duration::from_millis(300)).unwrap();
     let (policy, mut runs) = (policy(r#"{"spaced":300}"#), 0);
     let ended = Retrying::new(&policy, &quota)

@@ -1,6 +1,6 @@
 //! What the crate calls on macOS, and that it refuses folders on Windows, checked by the compiler on Linux: with what
 //! `libc` declares for macOS.
-#![cfg(feature = "leased")]
+#![cfg(all(unix, feature = "leased"))]
 
 mod common;
 

@@ -1,5 +1,5 @@
 //! Forked children: random words, budgets and quotas of their own, and no lock that another thread held at the fork.
-#![cfg(feature = "leased")]
+#![cfg(all(unix, feature = "leased"))]
 
 use hikebox::{both, retry, Breaker, Bucket, Budget, CallLimit, Pass, Policy, Quota, QuotaPass, RetryError, Retrying};
 use std::cell::RefCell;

@@ -98,7 +98,7 @@ fn a_budget_of_any_kind_is_chosen_when_the_program_runs() {
     assert_eq!(retries(None::<Budget>.into()), 5);
     assert_eq!(retries(Budget::new(3).unwrap().into()), 3);
     assert_eq!(retries(Some(quota(2)).into()), 2);
-    #[cfg(feature = "leased")]
+    #[cfg(all(unix, feature = "leased"))]
     {
         let folder = std::env::temp_dir().join(format!("hikebox-any-{}", std::process::id()));
         let _ = std::fs::remove_dir_all(&folder);

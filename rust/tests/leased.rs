@@ -1,5 +1,5 @@
 //! Budgets and quotas that processes share by a folder.
-#![cfg(feature = "leased")]
+#![cfg(all(unix, feature = "leased"))]
 
 #[macro_use]
 mod common;

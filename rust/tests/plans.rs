@@ -100,6 +100,7 @@ impl Numbers {
 }
 
 #[test]
+#[cfg_attr(windows, ignore = "zsched is a program of Linux")]
 fn three_hundred_random_policies_step_as_zsched_says() {
     let mut numbers = Numbers(2026);
     for _ in 0..300 {

@@ -362,7 +362,7 @@ fn whatever_retries_takes_whatever_grants() {
     assert_eq!(granted(&quota(9, 0.0)), 2);
     assert_eq!(granted(&Heard::of(9)), 2);
     assert_eq!(granted(&Unlimited), 2);
-    #[cfg(feature = "leased")]
+    #[cfg(all(unix, feature = "leased"))]
     {
         use hikebox::{Leased, LeasedQuota};
         let folder = std::env::temp_dir().join(format!("hikebox-whatever-{}", std::process::id()));

@@ -1,6 +1,6 @@
 //! Folders of slots, under attack: damaged, full, removed, forked, killed, pruned, and in a time namespace. The bytes
 //! of a slot are written here a second time, from the words of docs/MACHINES.md.
-#![cfg(feature = "leased")]
+#![cfg(all(unix, feature = "leased"))]
 
 #[macro_use]
 mod common;

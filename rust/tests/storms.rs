@@ -61,6 +61,7 @@ fn zsched_beside(form: &str, options: &str, policy: &Policy, others: &[(&str, &P
 }
 
 #[test]
+#[cfg_attr(windows, ignore = "zsched is a program of Linux")]
 fn a_storm_is_what_the_program_prints() {
     let three = policy(Schedule::recurs(3));
     let spaced = policy(Schedule::recurs(2) & Schedule::spaced(millis(10)));
@@ -113,6 +114,7 @@ fn a_storm_is_what_the_program_prints() {
 }
 
 #[test]
+#[cfg_attr(windows, ignore = "zsched is a program of Linux")]
 fn a_storm_of_several_populations_is_what_the_program_prints() {
     let (three, full) = (policy(Schedule::recurs(3)), full());
     let storm = || Storm::new(&full).rate(90).seconds(12).capacity(100);
@@ -164,6 +166,7 @@ fn the_storm_that_never_ends_and_the_one_that_a_quota_ends() {
 }
 
 #[test]
+#[cfg_attr(windows, ignore = "zsched is a program of Linux")]
 fn a_storm_under_each_limit() {
     let breaker = Breaker { probe_deadline: SECOND, ..Breaker::consecutive(5, policy(Schedule::spaced(30 * SECOND))) };
     let cases: [(Terms, &str); 5] = [

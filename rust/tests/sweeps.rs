@@ -313,6 +313,7 @@ fn bits(number: Option<f64>) -> String {
 }
 
 #[test]
+#[cfg_attr(windows, ignore = "the Python beside it is one of Linux")]
 fn the_numbers_are_those_of_python() {
     let mut command = match python(NUMBERS_OF_PYTHON) {
         Some(command) => command,

@@ -1,5 +1,5 @@
 //! Folders of slots that this crate and the Python package of the repository share.
-#![cfg(feature = "leased")]
+#![cfg(all(unix, feature = "leased"))]
 
 mod common;
 

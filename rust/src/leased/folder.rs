@@ -392,7 +392,7 @@ impl fmt::Display for StoreError {
 
 impl Error for StoreError {}
 
-#[cfg(test)]
+#[cfg(all(test, unix))]
 mod tests {
     use super::{make, Folder, Key, Slot, StoreError, REMOVED};
     use std::path::{Path, PathBuf};

@@ -29,7 +29,7 @@ impl Window {
     }
 
     /// The one of this number, of no start of the machine.
-    #[cfg(test)]
+    #[cfg(all(test, unix))]
     pub(crate) fn of_number(number: u64, period: u64) -> Self {
         Self { boot: [0; 36], number, period }
     }
@@ -85,10 +85,12 @@ fn offset_of(offsets: &str) -> i64 {
 
 #[cfg(test)]
 mod tests {
-    use super::{offset_of, Window};
+    use super::offset_of;
 
+    #[cfg(unix)]
     #[test]
     fn the_start_of_the_machine_is_read_once() {
+        use super::Window;
         let mut known = None;
         let read = Window::present(1, &mut known).unwrap().boot;
         assert_eq!(known, Some(read));

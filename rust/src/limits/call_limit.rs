@@ -622,32 +622,42 @@ impl Drop for Request {
 
 /// A request that was admitted, as a store of tickets. It is told how each run ended.
 #[derive(Debug)]
-pub struct Admitted(Mutex<Request>);
+pub struct Admitted {
+    request: Mutex<Request>,
+    /// Why the limit refused a retry, once it did.
+    refusal: Mutex<Option<RefusalReason>>,
+}
 
 impl Admitted {
     pub(crate) fn of(request: Request) -> Arc<Self> {
-        Arc::new(Self(Mutex::new(request)))
+        Arc::new(Self { request: Mutex::new(request), refusal: Mutex::new(None) })
     }
 
     pub(crate) fn succeeded(&self) {
-        lock(&self.0).succeeded();
+        lock(&self.request).succeeded();
     }
 
     pub(crate) fn failed(&self) {
-        lock(&self.0).failed();
+        lock(&self.request).failed();
+    }
+
+    #[cfg(any(feature = "prometheus", feature = "tracing"))]
+    pub(crate) fn refusal(&self) -> Option<RefusalReason> {
+        *lock(&self.refusal)
     }
 }
 
 impl Tickets for Admitted {
     fn draw(&self) -> Result<Ticket, NoTicket> {
-        match lock(&self.0).draw() {
-            Ok(()) => Ok(Ticket::new(0)),
-            Err(_) => Err(NoTicket::used_up()),
-        }
+        let drawn = lock(&self.request).draw();
+        drawn.map(|()| Ticket::new(0)).map_err(|refused| {
+            *lock(&self.refusal) = Some(refused.reason());
+            NoTicket::used_up()
+        })
     }
 
     fn hand_back(&self, _ticket: Ticket) {
-        lock(&self.0).cancelled();
+        lock(&self.request).cancelled();
     }
 }
 
@@ -678,6 +688,22 @@ pub enum RefusalReason {
     OutOfTurn,
     /// Memory ran out.
     NoMemory,
+}
+
+impl RefusalReason {
+    /// The name by which it is told.
+    pub(crate) fn told(self) -> &'static str {
+        match self {
+            Self::LevelLow => "level_low",
+            Self::RequestsFull => "requests_full",
+            Self::RetriesFull => "retries_full",
+            Self::BreakerOpen => "breaker_open",
+            Self::Probing => "probing",
+            Self::Throttled => "throttled",
+            Self::OutOfTurn => "out_of_turn",
+            Self::NoMemory => "no_memory",
+        }
+    }
 }
 
 impl Refused {

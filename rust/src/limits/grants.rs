@@ -216,6 +216,9 @@ mod sealed {
 
         /// Asks, where the limit is one that is asked.
         fn admitted(limit: &dyn Limit) -> Result<Self::Held, Self>;
+
+        /// Why it refused, by the name that is told.
+        fn why(&self) -> &'static str;
     }
 
     /// What a call holds from its first run on.
@@ -242,6 +245,10 @@ mod sealed {
         fn admitted(_: &dyn Limit) -> Result<(), Self> {
             Ok(())
         }
+
+        fn why(&self) -> &'static str {
+            match *self {}
+        }
     }
 
     impl Held for () {
@@ -261,6 +268,10 @@ mod sealed {
 
         fn admitted(limit: &dyn Limit) -> Result<Option<Request>, Self> {
             limit.admit()
+        }
+
+        fn why(&self) -> &'static str {
+            self.reason().told()
         }
     }
 

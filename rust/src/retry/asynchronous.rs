@@ -56,26 +56,27 @@ impl<F> fmt::Debug for Async<F> {
 /// such a future `Send`.
 macro_rules! until_it_succeeds {
     ($retrying:ident, $attempt:ident => $call:expr) => {{
-        let mut progress = $retrying.begin()?;
+        let mut course = $retrying.course();
+        let mut progress = $retrying.begin(&mut course)?;
         let mut $attempt = $retrying.first();
         loop {
-            let error = match $call.await {
+            let error = match course.run_of($call).await {
                 Ok(value) => {
-                    $retrying.succeeds(&mut progress);
+                    $retrying.succeeds(&mut progress, &mut course);
                     return Ok(value);
                 }
                 Err(error) => error,
             };
-            let wait = match $retrying.fails(&mut progress, &error) {
+            let wait = match $retrying.fails(&mut progress, &course, &error) {
                 Ok(wait) => wait,
-                Err(ended) => return Err(progress.error(ended, error)),
+                Err(ended) => return Err($retrying.gives_up(&progress, &mut course, ended, error)),
             };
             if !wait.is_zero() {
                 $retrying.host.sleep.sleep(wait).await;
             }
             $attempt = match $retrying.next(&mut progress, $attempt) {
                 Ok(attempt) => attempt,
-                Err(ended) => return Err(progress.error(ended, error)),
+                Err(ended) => return Err($retrying.gives_up(&progress, &mut course, ended, error)),
             };
         }
     }};

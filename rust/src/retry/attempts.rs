@@ -2,6 +2,7 @@
 
 use crate::clock::{Clock, Moment};
 use crate::limits::grants::{Held, MayRefuse};
+use crate::retry::course::Course;
 use crate::retry::error::RetryError;
 use crate::retry::hooks::Hooked;
 use crate::retry::host::{Host, Random};
@@ -32,17 +33,26 @@ impl Attempt {
 }
 
 impl<E, H: Hooked<E>, K: Clock, S, R: Random, L: MayRefuse> Retrying<'_, E, (), H, Host<K, S, R>, L> {
+    /// A call that begins, for those who hear of it.
+    #[inline]
+    pub(crate) fn course(&self) -> Course {
+        Course::begun(&self.rules.options)
+    }
+
     /// A request, and its retry, whose first run begins.
     #[inline]
-    pub(crate) fn begin(&self) -> Result<Progress, RetryError<E, L>> {
-        let (now, held) = self.begins()?;
+    pub(crate) fn begin(&self, course: &mut Course) -> Result<Progress, RetryError<E, L>> {
+        let (now, held) = self.begins(course)?;
         Ok(Progress::new(now, held))
     }
 
     /// The moment at which a request begins, which is counted, and what it holds of a limit that is asked.
     #[inline]
-    pub(crate) fn begins(&self) -> Result<(Moment, L::Held), RetryError<E, L>> {
-        let held = L::admitted(self.rules.limit()).map_err(RetryError::NotAdmitted)?;
+    pub(crate) fn begins(&self, course: &mut Course) -> Result<(Moment, L::Held), RetryError<E, L>> {
+        let held = L::admitted(self.rules.limit()).map_err(|refused| {
+            course.not_admitted(refused.why(), self.rules.limit());
+            RetryError::NotAdmitted(refused)
+        })?;
         let now = self.host.clock.moment();
         self.rules.limit().count_request(now);
         Ok((now, held))
@@ -50,7 +60,8 @@ impl<E, H: Hooked<E>, K: Clock, S, R: Random, L: MayRefuse> Retrying<'_, E, (), 
 
     /// A request whose first run succeeded.
     #[inline]
-    pub(crate) fn succeeds_at_once(&self, held: &mut L::Held) {
+    pub(crate) fn succeeds_at_once(&self, held: &mut L::Held, course: &mut Course) {
+        course.won();
         held.succeeded_at_once(self.rules.limit(), &|| self.host.clock.moment());
     }
 
@@ -62,7 +73,8 @@ impl<E, H: Hooked<E>, K: Clock, S, R: Random, L: MayRefuse> Retrying<'_, E, (), 
 
     /// A run succeeded, which ends the retry.
     #[inline]
-    pub(crate) fn succeeds(&self, progress: &mut Progress) {
+    pub(crate) fn succeeds(&self, progress: &mut Progress, course: &mut Course) {
+        course.won();
         if progress.has_request() || self.rules.limit().hears_of_successes() {
             self.succeeded(progress);
         }
@@ -70,7 +82,7 @@ impl<E, H: Hooked<E>, K: Clock, S, R: Random, L: MayRefuse> Retrying<'_, E, (), 
 
     /// How long it is until the next run after one that failed with this error, or how the retry ended.
     #[inline]
-    pub(crate) fn fails(&self, progress: &mut Progress, error: &E) -> Result<Duration, Ending> {
+    pub(crate) fn fails(&self, progress: &mut Progress, course: &Course, error: &E) -> Result<Duration, Ending> {
         let now = self.host.clock.moment();
         progress.failed();
         if !self.hooks.when(error) {
@@ -79,11 +91,24 @@ impl<E, H: Hooked<E>, K: Clock, S, R: Random, L: MayRefuse> Retrying<'_, E, (), 
         let (retry_after, code) = (self.hooks.retry_after(error), self.hooks.code(error));
         let words = self.rules.policy.words(|| self.host.random.draw());
         let wait = progress.lost(&self.rules, now, &mut Lost::new(code, words, retry_after))?;
+        course.waits(wait);
         self.hooks.notify(error, wait);
         if wait.is_zero() || !self.rules.options.notifies {
             return Ok(wait);
         }
         Ok(now.after(wait).since(self.host.clock.moment()))
+    }
+
+    /// The error of a retry that ended so.
+    pub(crate) fn gives_up(
+        &self,
+        progress: &Progress,
+        course: &mut Course,
+        ended: Ending,
+        error: E,
+    ) -> RetryError<E, L> {
+        course.gave_up(ended, progress, self.rules.limit());
+        progress.error(ended, error)
     }
 
     #[cold]

@@ -4,6 +4,7 @@ use crate::clock::Clock;
 use crate::limits::grants::{Grants, MayRefuse, Unlimited};
 use crate::policy::Policy;
 use crate::retry::attempts::Attempt;
+use crate::retry::course::Course;
 use crate::retry::error::RetryError;
 use crate::retry::hooks::Hooked;
 use crate::retry::host::{Host, Random, Sleep};
@@ -114,13 +115,14 @@ impl<E, H: Hooked<E>, K: Clock, S: Sleep, R: Random, L: MayRefuse> Retrying<'_, 
     /// [`RetryError`] with the last error of the call.
     #[inline]
     pub fn call_with<T>(&self, mut call: impl FnMut(Attempt) -> Result<T, E>) -> Result<T, RetryError<E, L>> {
-        let ((began, mut held), first) = (self.begins()?, self.first());
-        match call(first) {
+        let mut course = self.course();
+        let ((began, mut held), first) = (self.begins(&mut course)?, self.first());
+        match course.run(|| call(first)) {
             Ok(value) => {
-                self.succeeds_at_once(&mut held);
+                self.succeeds_at_once(&mut held, &mut course);
                 Ok(value)
             }
-            Err(error) => self.calls_again(Progress::new(began, held), first, error, call),
+            Err(error) => self.calls_again(Progress::new(began, held), course, error, call),
         }
     }
 
@@ -129,25 +131,26 @@ impl<E, H: Hooked<E>, K: Clock, S: Sleep, R: Random, L: MayRefuse> Retrying<'_, 
     fn calls_again<T>(
         &self,
         mut progress: Progress,
-        mut attempt: Attempt,
+        mut course: Course,
         mut error: E,
         mut call: impl FnMut(Attempt) -> Result<T, E>,
     ) -> Result<T, RetryError<E, L>> {
+        let mut attempt = self.first();
         loop {
-            let wait = match self.fails(&mut progress, &error) {
+            let wait = match self.fails(&mut progress, &course, &error) {
                 Ok(wait) => wait,
-                Err(ended) => return Err(progress.error(ended, error)),
+                Err(ended) => return Err(self.gives_up(&progress, &mut course, ended, error)),
             };
             if !wait.is_zero() {
                 self.host.sleep.sleep(wait);
             }
             attempt = match self.next(&mut progress, attempt) {
                 Ok(attempt) => attempt,
-                Err(ended) => return Err(progress.error(ended, error)),
+                Err(ended) => return Err(self.gives_up(&progress, &mut course, ended, error)),
             };
-            error = match call(attempt) {
+            error = match course.run(|| call(attempt)) {
                 Ok(value) => {
-                    self.succeeds(&mut progress);
+                    self.succeeds(&mut progress, &mut course);
                     return Ok(value);
                 }
                 Err(error) => error,

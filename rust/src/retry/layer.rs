@@ -5,6 +5,7 @@ use crate::limits::call_limit::Refused;
 use crate::limits::grants::{Grants, MayRefuse, Source};
 use crate::policy::Policy;
 use crate::random;
+use crate::retry::machine::Ending;
 use crate::retry::progress::{Lost, Progress};
 use crate::retry::rules::Rules;
 use crate::retry::service::RetryService;
@@ -195,6 +196,13 @@ impl<Request, Response, E, L> RetryLayer<Request, Response, E, L> {
         self
     }
 
+    /// The name by which the call is told, with the features `tracing` and `prometheus`. Without one it is `a call`.
+    #[cfg(any(feature = "prometheus", feature = "tracing"))]
+    pub fn named(mut self, call: &'static str) -> Self {
+        self.set().rules.options.call = call;
+        self
+    }
+
     /// No retry begins later than this (in whole milliseconds) after the request was made, also if a timer is late. To
     /// end a run that is under way, add a layer of `tower::timeout`.
     pub fn deadline(mut self, deadline: Duration) -> Self {
@@ -209,12 +217,17 @@ impl<Request, Response, E, L> RetryLayer<Request, Response, E, L> {
 }
 
 impl<Request, Response, E> Settings<Request, Response, E> {
-    /// The wait before a request that failed so now is made again, or `None` where it is not.
+    /// The wait before a request that failed so now is made again, or how the retry ended.
     #[inline]
-    pub(super) fn wait(&self, progress: &mut Progress, code: u64, result: Result<&Response, &E>) -> Option<Duration> {
+    pub(super) fn wait(
+        &self,
+        progress: &mut Progress,
+        code: u64,
+        result: Result<&Response, &E>,
+    ) -> Result<Duration, Ending> {
         let retry_after = self.retry_after.as_ref().and_then(|retry_after| retry_after(result));
         let words = self.rules.policy.words(random::next);
-        progress.lost(&self.rules, Moment::now(), &mut Lost::new(code, words, retry_after)).ok()
+        progress.lost(&self.rules, Moment::now(), &mut Lost::new(code, words, retry_after))
     }
 
     /// The number by which the schedule knows what is a failure.

@@ -399,6 +399,23 @@ impl Drawn {
     }
 }
 
+#[cfg(any(feature = "prometheus", feature = "tracing"))]
+impl Ending {
+    /// The name by which the end of a call is told. (Its retry is cancelled where an error is not retried.)
+    pub(crate) fn told(self) -> &'static str {
+        match self {
+            Self::Won => "won",
+            Self::ScheduleDone => "schedule_done",
+            Self::Deadline => "deadline",
+            Self::LimitRefused => "limit_refused",
+            Self::Cancelled => "not_retried",
+            Self::Broken(Cause::NoMemory) => "no_memory",
+            Self::Broken(Cause::Backwards) => "clock_went_back",
+            Self::Broken(Cause::StoreFailed) => "store_failed",
+        }
+    }
+}
+
 fn ended_of(how: u32) -> Ending {
     match how {
         engine::ENDED_WON => Ending::Won,

@@ -3,6 +3,11 @@
 mod asynchronous;
 mod attempts;
 mod blocking;
+#[cfg(any(feature = "prometheus", feature = "tracing"))]
+mod course;
+#[cfg(not(any(feature = "prometheus", feature = "tracing")))]
+#[path = "no_course.rs"]
+mod course;
 mod error;
 mod hooks;
 mod host;

@@ -12,6 +12,9 @@ pub(crate) struct Options {
     pub(crate) max_retry_after: Duration,
     /// Whether a function is called before each retry, which may take its time.
     pub(crate) notifies: bool,
+    /// The name by which the call is told.
+    #[cfg(any(feature = "prometheus", feature = "tracing"))]
+    pub(crate) call: &'static str,
 }
 
 impl Options {
@@ -39,6 +42,12 @@ impl Default for Options {
     /// No deadline, and waits of six hours at most.
     #[inline]
     fn default() -> Self {
-        Self { deadline: None, max_retry_after: Duration::from_secs(6 * 3600), notifies: false }
+        Self {
+            deadline: None,
+            max_retry_after: Duration::from_secs(6 * 3600),
+            notifies: false,
+            #[cfg(any(feature = "prometheus", feature = "tracing"))]
+            call: "a call",
+        }
     }
 }

@@ -3,6 +3,8 @@
 use crate::clock::{whole_millis, Moment};
 use crate::engine::{Run, LOST, MAX_NUMBER, NO_DEADLINE};
 use crate::limits::call_limit::Admitted;
+#[cfg(any(feature = "prometheus", feature = "tracing"))]
+use crate::limits::call_limit::RefusalReason;
 use crate::limits::grants::{Held, Limit};
 use crate::retry::error::RetryError;
 use crate::retry::machine::{Ending, Machine};
@@ -140,6 +142,13 @@ impl Progress {
         }
         let now = clock();
         running.resume(began, now).map(|()| Some(now))
+    }
+
+    /// Why a limit refused a retry, by the name that is told, if the retry ended so.
+    #[cfg(any(feature = "prometheus", feature = "tracing"))]
+    pub(crate) fn refusal(&self, ended: Ending) -> Option<&'static str> {
+        let of_request = || self.request.as_ref().and_then(|request| request.refusal());
+        (ended == Ending::LimitRefused).then(|| of_request().map_or("used_up", RefusalReason::told))
     }
 
     /// The error of a retry that ended so.

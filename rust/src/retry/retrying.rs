@@ -110,6 +110,13 @@ impl<'a, E, F, H, M, L> Retrying<'a, E, F, H, M, L> {
         self
     }
 
+    /// The name by which the call is told, with the features `tracing` and `prometheus`. Without one it is `a call`.
+    #[cfg(any(feature = "prometheus", feature = "tracing"))]
+    pub fn named(mut self, call: &'static str) -> Self {
+        self.rules.options.call = call;
+        self
+    }
+
     /// No run but the first begins later than this (in whole milliseconds) after the start of the first. If the policy
     /// or an error would have the next run begin later, the retry ends as [`RetryError::Deadline`] and draws no ticket.
     /// It also ends so if a wait took longer than it should; a quota then has the ticket back. A run that is under way

@@ -2,7 +2,9 @@
 
 use crate::clock::Moment;
 use crate::limits::grants::{Held, Limit, MayRefuse};
+use crate::retry::course::Course;
 use crate::retry::layer::{LayerError, RetryLayer, Settings};
+use crate::retry::machine::Ending;
 use crate::retry::progress::Progress;
 use ::tokio::time::{sleep, Sleep};
 use pin_project_lite::pin_project;
@@ -89,22 +91,27 @@ struct Retries<S: Service<Request>, Request, L: MayRefuse> {
     progress: Option<Box<Progress>>,
     /// The request of the next run, if it could be copied.
     next: Option<Request>,
+    course: Course,
 }
 
 impl<S: Service<Request> + Clone, Request, L: LayerError<S::Error>> At<S, Request, L> {
     /// The service, which is ready, makes the first run, and a clone of it the others.
     #[inline]
     fn begun(service: &mut S, settings: &Arc<Settings<Request, S::Response, S::Error>>, request: Request) -> Self {
+        let mut course = Course::begun(&settings.rules.options);
         let held = match L::admitted(&settings.source) {
             Ok(held) => held,
-            Err(refused) => return Self::NotAdmitted { refused },
+            Err(refused) => {
+                course.not_admitted(refused.why(), &settings.source);
+                return Self::NotAdmitted { refused };
+            }
         };
         let began = Moment::now();
         settings.source.count_request(began);
         let next = (settings.copy)(&request);
-        let run = service.call(request);
+        let run = course.run(|| service.call(request));
         let (service, settings) = (service.clone(), settings.clone());
-        Self::Run { run, retries: Retries { service, settings, began, held, progress: None, next } }
+        Self::Run { run, retries: Retries { service, settings, began, held, progress: None, next, course } }
     }
 }
 
@@ -117,11 +124,29 @@ impl<S: Service<Request>, Request, L: MayRefuse> Retries<S, Request, L> {
             self.succeeded();
             return None;
         }
-        self.failed(code, result)
+        match self.failed(code, result) {
+            Ok(wait) => {
+                self.course.waits(wait);
+                Some(wait)
+            }
+            Err(ended) => {
+                self.gave_up(ended);
+                None
+            }
+        }
+    }
+
+    /// The call ended so, and not by a success.
+    #[cold]
+    fn gave_up(&mut self, ended: Ending) {
+        if let Some(progress) = &self.progress {
+            self.course.gave_up(ended, progress, &self.settings.source);
+        }
     }
 
     #[inline]
     fn succeeded(&mut self) {
+        self.course.won();
         let source = &self.settings.source;
         match &mut self.progress {
             Some(progress) => progress.succeeded(source, &Moment::now),
@@ -130,20 +155,26 @@ impl<S: Service<Request>, Request, L: MayRefuse> Retries<S, Request, L> {
     }
 
     #[inline(never)]
-    fn failed(&mut self, code: Option<u64>, result: Result<&S::Response, &S::Error>) -> Option<Duration> {
+    fn failed(&mut self, code: Option<u64>, result: Result<&S::Response, &S::Error>) -> Result<Duration, Ending> {
         let Self { settings, began, held, progress, next, .. } = self;
         let progress = progress.get_or_insert_with(|| Box::new(Progress::new(*began, mem::take(held))));
         progress.failed();
-        next.as_ref()?;
-        settings.wait(progress, code?, result)
+        match (next, code) {
+            (Some(_), Some(code)) => settings.wait(progress, code, result),
+            _ => Err(Ending::Cancelled),
+        }
     }
 
     /// Begins the next run, unless the deadline has come.
     fn begin(&mut self) -> Option<S::Future> {
-        self.progress.as_mut()?.resume(Moment::now).ok()?;
+        if let Err(ended) = self.progress.as_mut()?.resume(Moment::now) {
+            self.gave_up(ended);
+            return None;
+        }
         let request = self.next.take()?;
         self.next = (self.settings.copy)(&request);
-        Some(self.service.call(request))
+        let Self { course, service, .. } = self;
+        Some(course.run(|| service.call(request)))
     }
 }
 
@@ -156,7 +187,7 @@ impl<S: Service<Request>, Request, L: LayerError<S::Error>> Future for RetryCall
         loop {
             match at.as_mut().project() {
                 Where::Run { run, retries } => {
-                    let result = match run.poll(cx) {
+                    let result = match retries.course.within(|| run.poll(cx)) {
                         Poll::Ready(result) => result,
                         Poll::Pending => return Poll::Pending,
                     };
@@ -175,7 +206,10 @@ impl<S: Service<Request>, Request, L: LayerError<S::Error>> Future for RetryCall
                     *sleep = None;
                     let ended = match retries.service.poll_ready(cx) {
                         Poll::Ready(Ok(())) => at.as_mut().begin(),
-                        Poll::Ready(Err(error)) => Some(Err(error)),
+                        Poll::Ready(Err(error)) => {
+                            retries.gave_up(Ending::Cancelled);
+                            Some(Err(error))
+                        }
                         Poll::Pending => return Poll::Pending,
                     };
                     if let Some(result) = ended {

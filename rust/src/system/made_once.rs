@@ -16,6 +16,13 @@ impl<T> MadeOnce<T> {
 }
 
 impl<T: Copy + Send + Sync> MadeOnce<T> {
+    /// The value, if it was made.
+    #[cfg(feature = "prometheus")]
+    pub(crate) fn made(&self) -> Option<T> {
+        // SAFETY: the pointer is null, or to a value that is never freed, nor changed.
+        unsafe { self.value.load(Ordering::Acquire).as_ref() }.copied()
+    }
+
     /// The value: the same each time, also where several threads make one at once.
     #[inline]
     pub(crate) fn get(&self, make: impl FnOnce() -> T) -> T {

@@ -13,7 +13,7 @@ mod try_lock;
 pub(crate) use files::{boot, boottime, is_at, read_whole, try_lock, unlock, write_whole, OwnFile};
 pub(crate) use made_once::MadeOnce;
 use std::sync::atomic::{AtomicBool, AtomicPtr, AtomicU64, Ordering};
-#[cfg(not(feature = "tokio"))]
+#[cfg(not(all(feature = "tokio", target_os = "linux")))]
 use std::time::Instant;
 pub(crate) use try_lock::TryLock;
 
@@ -51,7 +51,7 @@ pub(crate) fn monotonic() -> u64 {
 }
 
 /// On other systems the nanoseconds since this was first asked for: there the standard library alone reads that clock.
-#[cfg(all(not(feature = "tokio"), not(target_os = "linux")))]
+#[cfg(not(target_os = "linux"))]
 pub(crate) fn monotonic() -> u64 {
     static FIRST: MadeOnce<Instant> = MadeOnce::new();
     let first = FIRST.get(Instant::now);
@@ -59,7 +59,7 @@ pub(crate) fn monotonic() -> u64 {
 }
 
 /// An instant, and what [`monotonic`] told at it: the same pair each time.
-#[cfg(not(feature = "tokio"))]
+#[cfg(not(all(feature = "tokio", target_os = "linux")))]
 pub(crate) fn known_instant() -> (Instant, u64) {
     static KNOWN: MadeOnce<(Instant, u64)> = MadeOnce::new();
     KNOWN.get(|| read_at_once(Instant::now, monotonic))
@@ -68,7 +68,7 @@ pub(crate) fn known_instant() -> (Instant, u64) {
 /// What two readings of one clock tell within a millisecond: where the thread was stopped between them they are made
 /// again. (Each takes some 30 nanoseconds.) A clock that is slower than that is read a hundred times, and the readings
 /// that are closest to each other count.
-#[cfg(any(test, not(feature = "tokio")))]
+#[cfg(any(test, not(all(feature = "tokio", target_os = "linux"))))]
 fn read_at_once<T>(read: impl Fn() -> T, nanos: impl Fn() -> u64) -> (T, u64) {
     const CLOSE: u64 = 1_000_000;
     let between = || {

@@ -144,15 +144,11 @@ SIGNATURES: Dict[str, Tuple[Any, ...]] = {
 }
 
 
-#: The engine's file by `sys.platform`, where it is not that of Linux.
-_FILES = {"darwin": "libhikebox.dylib", "win32": "hikebox.dll"}
-
-
 def library_path() -> str:
-    """Where the engine is: the file that HIKEBOX_LIBRARY names, or the one beside these modules."""
-    file = _FILES.get(sys.platform, "libhikebox.so")
+    """Where the engine is: the file that HIKEBOX_LIBRARY names, or the one beside these modules, which has one name on
+    each system."""
     named = os.environ.get("HIKEBOX_LIBRARY")
-    return named if named else os.path.join(os.path.dirname(os.path.dirname(__file__)), file)
+    return named if named else os.path.join(os.path.dirname(os.path.dirname(__file__)), "libhikebox.so")
 
 
 def _load() -> Any:
@@ -166,8 +162,8 @@ def _load() -> Any:
 
         machine = f"{platform.system()} on {platform.machine()}"
         raise ImportError(
-            f"the engine of hikebox can't be loaded: {error}; it is made for Linux on x86_64 and on aarch64, and this "
-            f"is {machine}; HIKEBOX_LIBRARY names another one"
+            f"the engine of hikebox can't be loaded: {error}; each system and processor has a wheel of its own, and "
+            f"this is {machine}; HIKEBOX_LIBRARY names another engine"
         ) from None
     for name, parameters in SIGNATURES.items():
         try:

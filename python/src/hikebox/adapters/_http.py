@@ -292,8 +292,10 @@ def _gives(progress: Progress, response: Any, ending: Ending) -> Settled:
     """The request is over, with a response that is neither retried nor a success of the call."""
     progress.answer = Outcome(response)
     progress.state.ending = ending
+    if progress.settings.slow_millis is not None:
+        progress.attempt_ends()
     if progress.settings.asks_limit:
-        progress.drawing.succeeded() if ending is Ending.WON else progress.drawing.failed()
+        progress.succeeds() if ending is Ending.WON else progress.drawing.failed()
     return OVER
 
 

@@ -1,4 +1,4 @@
-"""The program `hikebox`: `run`, `plan`, `check`, `storm` and `lab`."""
+"""The program `hikebox`: `run`, `plan`, `check`, `storm`, `advise` and `lab`."""
 
 from __future__ import annotations
 
@@ -84,6 +84,25 @@ examples:
   hikebox storm --quota 10/10%/1s --beside 30=plans/three-tries.json plans/back-off.json
   hikebox storm --quota 10/10%/1s --without --sweep rate=200..1600/8 --svg load.svg plans/back-off.json
   hikebox storm --scenario brown-out --find quota 'recurs(3)'
+"""
+
+
+_ADVISE = """\
+Plays four stories of a peer under many limits, and says which limit to take: the one with which the peer comes back in
+every story, and whose worst story is the best. Of equals it is the one with the fewest calls. The stories are an
+outage, a brown-out, a replica that is down, and a surge; by default in the second sixth of the time. If the peer is one
+replica, it is played as two of half the capacity where one is down.
+
+Times are in milliseconds, except for --seconds. An expression has seconds. A storm makes no call and takes no time.
+
+If the peer comes back in every story under no limit, it says which limit is the nearest, and with which capacity,
+patience or queue that would do.
+
+examples:
+  hikebox advise 'recurs(8) & exponential(0.1, 2).cap(10).jittered(0, 1)'
+  hikebox advise --rate 300 --capacity 400 --patience 2000 --seconds 120 plans/back-off.json
+  hikebox advise --kind quota --kind bucket --svg advice.svg plans/back-off.json
+  hikebox advise --cookbook
 """
 
 
@@ -236,6 +255,22 @@ def _fill_storm(storm: Any) -> None:
     storm.set_defaults(does=_storm, parser=storm)
 
 
+def _fill_advise(advise: Any) -> None:
+    from .advise_command import add_advise_options
+
+    advise.epilog = _ADVISE
+    add_advise_options(advise)
+    all_told = "print all limits that were tried, not only the best of each kind"
+    printed = advise.add_mutually_exclusive_group()
+    printed.add_argument("--all", action="store_true", help=all_told)
+    printed.add_argument("--json", action="store_true", help="print all that was tried, and the advice, as JSON")
+    printed.add_argument("--svg", metavar="FILE", help="write a picture to this file; - is standard output")
+    advise.add_argument("--width", help="how wide the picture is, from 280 to 4000 (760)", **_WIDE)
+    advise.add_argument("--title", metavar="TEXT", help="the title of the picture, in place of the policy")
+    advise.add_argument("file", nargs="*", metavar="POLICY", help=f"{_POLICY}; with several, each is tried")
+    advise.set_defaults(does=_advise, parser=advise)
+
+
 def _fill_lab(lab: Any) -> None:
     lab.add_argument(
         "link",
@@ -258,6 +293,7 @@ _COMMANDS: Dict[str, Tuple[str, str, Callable[[Any], None]]] = {
     "plan": ("play a policy and print what it does, in milliseconds", "[POLICY..]", _fill_plan),
     "check": ("say what a policy is, or where it is wrong", "", _fill_check),
     "storm": ("show what a policy does to a peer that fails for a while", "[POLICY..]", _fill_storm),
+    "advise": ("say which limit to take, by storms under many limits", "[POLICY..]", _fill_advise),
     "lab": (
         "serve a page on which you try policies and storms, on this machine, until Ctrl-C",
         "[LINK]",
@@ -356,6 +392,13 @@ def _storm(given: Any) -> int:
     result = result_of(given, _policy)
     status = _prints(result.text) if given.svg is None else _writes(given.svg, result.text)
     return _fails(_CUT, NOT_FINISHED) if result.is_cut and status == 0 else status
+
+
+def _advise(given: Any) -> int:
+    from .advise_command import advice_of
+
+    text = advice_of(given, _policy)
+    return _prints(text) if given.svg is None else _writes(given.svg, text)
 
 
 def _lab(given: Any) -> int:

@@ -4,7 +4,7 @@ from __future__ import annotations
 
 import argparse
 import re
-from typing import Any, List, NamedTuple, Optional, Tuple
+from typing import Any, List, NamedTuple, Optional, Sequence, Tuple
 
 from .._engine.calls import MAX_TICKETS
 from .._svg import fitted
@@ -18,7 +18,17 @@ from ..storms.populations import MAX_PATIENCE, MAX_SHARE, look_at_shares
 from . import values
 from .arguments import Once
 
-__all__ = ["Beside", "add_storm_options", "limits_of", "parameters_of", "tickets_of"]
+__all__ = [
+    "Beside",
+    "add_numbers",
+    "add_storm_options",
+    "limits_of",
+    "parameters_of",
+    "rates_of",
+    "slow_of",
+    "span_of",
+    "tickets_of",
+]
 
 #: So long is the longest text of a budget or a quota.
 _MAX_TEXT = 100
@@ -48,21 +58,26 @@ class Beside(NamedTuple):
     is_limited: bool
 
 
+def add_numbers(storm: argparse.ArgumentParser, names: Sequence[str]) -> None:
+    """Adds the options that are numbers, of these names, and the spans of the rate."""
+    for name in names:
+        metavar = "SEED" if name == "words" else "M" if name in ("patience", "window", "until") else "N"
+        storm.add_argument(
+            f"--{name}", type=values.number(RANGES[name][1], RANGES[name][0]), metavar=metavar, help=_HELP[name]
+        )
+    rates = "spans with a rate of their own, up to 8, such as 10000..15000@2400,20000..21000@0"
+    storm.add_argument("--rates", type=rates_of, metavar="FROM..TO@N,..", help=rates)
+
+
 def add_storm_options(storm: argparse.ArgumentParser) -> None:
     """Adds the options that say how a storm is played."""
     story = "start from the parameters of outage (the default), herd or brown-out, or from a JSON file"
     storm.add_argument("--scenario", metavar="NAME|FILE", default="outage", help=story)
-    for name, help in _HELP.items():
-        metavar = "SEED" if name == "words" else "M" if name in ("patience", "window", "until") else "N"
-        storm.add_argument(
-            f"--{name}", type=values.number(RANGES[name][1], RANGES[name][0]), metavar=metavar, help=help
-        )
-    rates = "spans with a rate of their own, up to 8, such as 10000..15000@2400,20000..21000@0"
-    storm.add_argument("--rates", type=_rates, metavar="FROM..TO@N,..", help=rates)
+    add_numbers(storm, list(_HELP))
     outage = "when the peer refuses all calls, in milliseconds (10000..20000)"
-    storm.add_argument("--outage", type=_span, metavar="FROM..TO", help=outage)
+    storm.add_argument("--outage", type=span_of, metavar="FROM..TO", help=outage)
     slow = "when the peer works at PERCENT of its capacity, in milliseconds (never)"
-    storm.add_argument("--slow", type=_slow, metavar="FROM..TO@PERCENT", help=slow)
+    storm.add_argument("--slow", type=slow_of, metavar="FROM..TO@PERCENT", help=slow)
     beside = (
         "clients who send PERCENT of the requests and retry by another POLICY, such as 30=recurs(3) or "
         "30@2000+limited=recurs(3); they wait PATIENCE milliseconds for a call, or as long as the others; with "
@@ -135,14 +150,14 @@ def _ends(text: str) -> Optional[Tuple[int, int]]:
     return (int(found[1]), int(found[2])) if found else None
 
 
-def _span(text: str) -> Span:
+def span_of(text: str) -> Span:
     ends = _ends(text)
     if ends is None:
         raise argparse.ArgumentTypeError(f"expected FROM..TO in milliseconds, as 10000..20000, got {text!r}")
     return Span(*ends)
 
 
-def _slow(text: str) -> Slow:
+def slow_of(text: str) -> Slow:
     span, _, percent = text.partition("@")
     ends = _ends(span)
     if ends is None or not (percent.isascii() and percent.isdigit()):
@@ -150,7 +165,7 @@ def _slow(text: str) -> Slow:
     return Slow(*ends, int(percent))
 
 
-def _rates(text: str) -> Tuple[RateSpan, ...]:
+def rates_of(text: str) -> Tuple[RateSpan, ...]:
     found = [re.fullmatch(r"([0-9]{1,19})\.\.([0-9]{1,19})@([0-9]{1,19})", word) for word in text.split(",")]
     if not all(found):
         raise argparse.ArgumentTypeError(f"expected FROM..TO@N,.., as 10000..15000@2400, got {fitted(text, 300)!r}")

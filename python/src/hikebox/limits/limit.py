@@ -182,7 +182,8 @@ class CallLimit(OfOneProcess, Limit):
 class Request(OfOneProcess):
     """One call under a `CallLimit`, from its first attempt to its end. Use it as a context manager, or call `ended()`.
 
-    The order is: `admit()`, then after each attempt `succeeded()`, or `failed()` and, if you retry, `draw()`.
+    The order is: `admit()`, then after each attempt `succeeded()`, or `failed()` and, if you retry, `draw()`. For a
+    success that took too long call `failed()` too, in the place of `succeeded()`.
     """
 
     __slots__ = ("_limit", "_handle", "_is_admitted", "_refusal")

@@ -146,6 +146,8 @@ class _BaseAttempts:
             self.want = OVER
             progress.close()
             return True
+        if settings.slow_millis is not None:
+            progress.attempt_ends()
         if state.outcome is None and (settings.on_result is not None or settings.repeats or settings.hooks_on_success):
             state.outcome = Outcome(attempt_number=state.attempt_number)
             self.is_open = True

@@ -26,7 +26,7 @@ from ..budget import Budget
 from ..budgets.drawing import ByCall
 from ..budgets.limit import Limit
 from ..budgets.passes import UNLIMITED, Grants
-from ..errors import LimitClosed, TryAgain
+from ..errors import LimitClosed, TermsError, TryAgain
 from ..limits import CallLimit
 from ..policy import Policy
 from ..quota import Quota
@@ -125,6 +125,15 @@ def _most_wait_follows(settings: Settings) -> None:
 
 def _deadline_follows(settings: Settings) -> None:
     settings.deadline_millis = None if settings.deadline is None else seconds(settings.deadline, "deadline")
+
+
+def _slow_follows(settings: Settings) -> None:
+    settings.slow_millis = None if settings.slow is None else seconds(settings.slow, "slow")
+    if settings.slow_millis == 0:
+        raise TermsError(f"slow: expected a time above 0, got {settings.slow!r}")
+    if settings.slow is not None and not isinstance(settings.limit, CallLimit):
+        wanted = "expected a limit that hears how calls end, such as a Breaker or a Bucket, beside it"
+        raise TypeError(f"slow: {wanted}, got limit={settings.limit!r}")
 
 
 def _waits_follow(settings: Settings) -> None:
@@ -247,6 +256,13 @@ class Options:
         other `Tickets`; None for no limit. A quota counts each call as a request. A breaker may refuse a first attempt
         too, which raises a `NotAdmitted`.""",
         _drawing_follows,
+        shapes=True,
+    )
+    slow: Optional[Duration] = option(
+        None,
+        """How long an attempt may take: seconds, or a `timedelta`. To the `limit`, which is then a breaker, a bucket or
+        another `CallLimit`, a success that took longer is a failure. The call returns its result all the same.""",
+        _slow_follows,
         shapes=True,
     )
     on: On = option(

@@ -27,6 +27,7 @@ class Progress:
 
     __slots__ = (
         *("settings", "state", "answer", "ends_now", "is_accepted", "drawing", "holds_ticket", "ahead"),
+        *("_began", "_took"),
         *("_float_error", "_rounds", "_origin", "_first", "_last", "_until", "_asked"),
         *("_machine", "_parked", "_ends_at", "_logs", "_closed"),
     )
@@ -57,6 +58,9 @@ class Progress:
         state.refusal = refusal
         #: Whether it has a ticket for an attempt that has not begun.
         self.holds_ticket = False
+        #: When the present attempt began, and how many milliseconds it took, where that is measured.
+        self._began = state.start_time
+        self._took: Optional[float] = None
         #: By how many milliseconds the clock may be off, and how many are added to a moment before its part of a
         #: millisecond is cut off.
         self._float_error = self._rounds = FLOAT_ERROR
@@ -83,6 +87,25 @@ class Progress:
         """Seconds since the start of the first attempt."""
         state = self.state
         return self.settings.clock() - state.start_time + self.ahead
+
+    # An attempt whose time is measured
+
+    def attempt_begins(self) -> None:
+        """An attempt begins now."""
+        self._began, self._took = self.settings.clock(), None
+
+    def attempt_ends(self) -> None:
+        """The attempt is over, now or already."""
+        if self._took is None:
+            self._took = (self.settings.clock() - self._began) * 1000
+
+    def succeeds(self) -> None:
+        """Tells the limit that an attempt succeeded, or failed where it took too long for a success."""
+        slow, took = self.settings.slow_millis, self._took
+        if slow is not None and took is not None and took > slow + FLOAT_ERROR + abs(self._began) * GRAIN:
+            self.drawing.failed()
+        else:
+            self.drawing.succeeded()
 
     # A failure
 

@@ -71,6 +71,8 @@ class Settings(HasOptions):
     deposit_won: Optional[Callable[[], Any]]
     #: Whether a call that succeeds after retries hands its last ticket back.
     returns_tickets: bool
+    #: The milliseconds past which a success is a failure to the limit.
+    slow_millis: Optional[int]
     #: Whether nothing is to be done before a first attempt but to count it or to ask the limit, nor where it succeeds
     #: but to tell that.
     is_quiet: bool
@@ -114,7 +116,8 @@ class Settings(HasOptions):
     def _derive_shape(self) -> None:
         """Works out what a retry can leave out."""
         self.asks = self.retry_after is not None or self.wait is not None
-        self.is_quiet = not (self.repeats or self.hooks_before or self.hooks_on_success or self.on_result is not None)
+        looks = self.on_result is not None or self.slow_millis is not None
+        self.is_quiet = not (self.repeats or self.hooks_before or self.hooks_on_success or looks)
         self.draws_elsewhere = self.drawing is not None and not self.asks_limit
         self.takes_time = bool(self.hooks_after or self.asks or self.draws_elsewhere or self.stop is not None)
         may_end = self.stop is not None or self.deadline_millis is not None

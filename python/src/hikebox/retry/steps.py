@@ -54,8 +54,12 @@ def steps(progress: Progress, is_counted: bool = False, is_judged: bool = False)
         if settings.hooks_before and not (yield from _before(progress)):
             break
         state.outcome = None
+        if settings.slow_millis is not None:
+            progress.attempt_begins()
         outcome = state.outcome = yield RUN
         outcome.attempt_number, is_at_hand = state.attempt_number, True
+        if settings.slow_millis is not None:
+            progress.attempt_ends()
         # (a GeneratorExit closes a coroutine or a generator, which then has to end, unless `on` names it)
         if is_judged or (isinstance(outcome.error, settings.types) and type(outcome.error) is not GeneratorExit):
             if settings.asks_limit:
@@ -126,7 +130,7 @@ def _is_retried(progress: Progress, outcome: Outcome) -> Part:
             if is_retried:
                 break
     if settings.asks_limit and error is None and progress.is_accepted:
-        progress.drawing.succeeded()
+        progress.succeeds()
     elif settings.asks_limit and (error is None or is_retried or isinstance(error, Exception)):
         progress.drawing.failed()
     if not is_retried:

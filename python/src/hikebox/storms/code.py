@@ -5,7 +5,7 @@ from __future__ import annotations
 import json
 import re
 import shlex
-from typing import TYPE_CHECKING, Any, Dict, List, Sequence, Tuple
+from typing import TYPE_CHECKING, Any, Dict, List, Sequence, Set, Tuple
 
 from .._engine.calls import ON_BUCKET, ON_IN_FLIGHT, ON_THROTTLE
 from .._time import seconds_text
@@ -20,7 +20,7 @@ from .populations import Clients
 if TYPE_CHECKING:
     from .storm import Storm
 
-__all__ = ["in_command", "in_python", "in_rust", "in_scenario"]
+__all__ = ["imports_of", "in_command", "in_python", "in_rust", "in_scenario"]
 
 _COUNTS = ("rate", "together", "seconds", "capacity", "queue", "replicas", "down", "calls")
 _TIMES = ("patience", "window", "until")
@@ -111,16 +111,25 @@ def _limit(tickets: Any) -> Any:
 def in_python(policy: Policy, parameters: Parameters) -> str:
     """A program that plays the storm and prints it."""
     spelt = repr(policy)
-    known = {*builders.__all__, "milliseconds"}
     all_spelt = " ".join([spelt, *(repr(each.policy) for each in parameters.beside)])
-    names = {name for name in re.findall(r"(?<![\w.])([a-z_]+)\(", all_spelt) if name in known} | {"storm"}
+    names = {"storm"}
     arguments = ["policy", *(f"{name}={value}" for name, value in _python_arguments(policy, parameters))]
     if isinstance(parameters.tickets, Terms):
         names.add("Quota")
     if parameters.beside:
         names.add("Population")
-    imported = ", ".join(sorted(names, key=lambda name: (name[0].islower(), name)))
-    return f"from hikebox import {imported}\n\npolicy = {spelt}\nprint(storm({', '.join(arguments)}))\n"
+    return f"{imports_of(all_spelt, names)}\n\npolicy = {spelt}\nprint(storm({', '.join(arguments)}))\n"
+
+
+def imports_of(spelt: str, names: Set[str]) -> str:
+    """The line that imports these names, and those of the policies that are spelt.
+
+    >>> imports_of("recurs(3) & spaced(1).cap(2)", {"Quota"})
+    'from hikebox import Quota, recurs, spaced'
+    """
+    known = {*builders.__all__, "milliseconds"}
+    used = {name for name in re.findall(r"(?<![\w.])([a-z_]+)\(", spelt) if name in known}
+    return f"from hikebox import {', '.join(sorted(names | used, key=lambda name: (name[0].islower(), name)))}"
 
 
 def _python_arguments(policy: Policy, parameters: Parameters) -> List[Tuple[str, str]]:
