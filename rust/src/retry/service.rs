@@ -133,7 +133,7 @@ impl<S: Service<Request>, Request, L: MayRefuse> Retries<S, Request, L> {
     fn failed(&mut self, code: Option<u64>, result: Result<&S::Response, &S::Error>) -> Option<Duration> {
         let Self { settings, began, held, progress, next, .. } = self;
         let progress = progress.get_or_insert_with(|| Box::new(Progress::new(*began, mem::take(held))));
-        progress.failed();
+        progress.failed(&settings.source);
         next.as_ref()?;
         settings.wait(progress, code?, result)
     }
