@@ -1,12 +1,12 @@
 #!/usr/bin/env bash
 # The instructions that a call takes which succeeds at once, what its first failure takes more, and a retry that is
 # granted after others: by the Rust crate, with a policy of one node and of six, by backoff, by tower with a policy of
-# its own and by the layer of this crate for tower. Then what a refused call takes, and a success on a quota, on a
-# bucket and on a breaker. Started by hand at the top of the repository: bench/crates.sh. With --check it counts tower's
-# alone, and fails where they take too much more by this crate's layer than by its own: more than 1.2 times for a
-# success, and 2.5 times for a granted retry. It needs cargo, valgrind, what tests/rust.sh installs, and
-# librust-retry-dev of Debian. Instructions don't depend on what else the machine does. HIKEBOX_LIB_DIR names the
-# library's folder, dist/ where it does not.
+# its own and by the layer of this crate for tower. Then what a refused call takes, and a success on a quota, a bucket, a
+# breaker, two of each at once, and a bound on what is in flight. Started by hand at the top of the repository:
+# bench/crates.sh. With --check it counts tower's alone, and fails where they take too much more by this crate's layer
+# than by its own: more than 1.2 times for a success, and 2.5 times for a granted retry. It needs cargo, valgrind, what
+# tests/rust.sh installs, and librust-retry-dev of Debian. Instructions don't depend on what else the machine does.
+# HIKEBOX_LIB_DIR names the library's folder, dist/ where it does not.
 cd "$(dirname "$0")/.." && source bench/least.sh
 export HIKEBOX_LIB_DIR=${HIKEBOX_LIB_DIR:-$PWD/dist}
 
@@ -49,6 +49,6 @@ fi
 machine
 for case in hikebox hikebox-six backoff tower hikebox-in-tower; do tells "$case"; done
 printf 'hikebox-refused: a refused call %.0f instructions\n' "$(of hikebox-refused 1)"
-for case in quota bucket breaker; do
+for case in quota bucket breaker four in-flight; do
   printf 'hikebox-%s: a success %.0f instructions\n' "$case" "$(of "hikebox-$case" 0)"
 done

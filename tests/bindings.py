@@ -28,6 +28,7 @@ STRUCTS = {
     "run": "Run",
     "bucket": "BucketTerms",
     "breaker": "BreakerTerms",
+    "seen": "Seen",
     "usage": "Used",
     "phase": "Phase",
     "population": "Population",

@@ -30,8 +30,13 @@ int courses(void);
 // Those of leases.c.
 int leased(void);
 
-// Those of limits.c.
+// Those of limits.c. `draws` and `admits` make a call, which is refused or not, and look at what the refusal says.
 int limits(void);
+void draws(hikebox_limit *limit, uint64_t now, uint64_t cost, hikebox_status wanted, uint64_t says);
+void admits(hikebox_limit *limit, uint64_t now, hikebox_status wanted, uint64_t says);
+
+// Those of looks.c, which limits() makes.
+void looks(void);
 
 // Those of structs.c.
 int sizes(void);

@@ -16,6 +16,9 @@ RATTLE = {
     "&[u32; 4]": ["const uint32_t *"],
     "&mut u64": ["uint64_t *"],
     "&mut usize": ["size_t *"],
+    "&mut bool": ["bool *"],
+    "&Words": ["const hikebox_seen *"],
+    "&mut Words": ["hikebox_seen *"],
     "&mut Place": ["hikebox_place *"],
     "&SizedCourse": ["const hikebox_course *"],
     "&[EventGiven]": ["const hikebox_event *", "size_t"],
@@ -66,11 +69,12 @@ STRUCTS = {
     "ToldGiven": "hikebox_told",
     "KeptGiven": "hikebox_kept",
     "HeldGiven": "hikebox_request",
+    "Words": "hikebox_seen",
 }
 #: The crate whose calls are exported as they are.
 CALLS = ("sched_storm_call",)
 #: The crates whose structs have the layout of C.
-LAID_OUT = ("sched_handle", "sched_storm", "sched_storm_call", "sched_ticket_lease", "hikebox_c")
+LAID_OUT = ("sched_handle", "sched_limit_handle", "sched_storm", "sched_storm_call", "sched_ticket_lease", "hikebox_c")
 FIELDS = {
     "u64": "uint64_t",
     "u32": "uint32_t",

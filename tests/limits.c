@@ -7,13 +7,13 @@
 static const uint64_t open_times[3] = {100, 200, 400};
 
 // A request that draws, and is refused or not; and what the refusal says.
-static void draws(hikebox_limit *limit, uint64_t now, uint64_t cost, hikebox_status wanted, uint64_t says) {
+void draws(hikebox_limit *limit, uint64_t now, uint64_t cost, hikebox_status wanted, uint64_t says) {
     uint64_t number = 77;
     wants(hikebox_limit_draw(limit, now, cost, HALF, &number), wanted);
     holds(number == (wanted == HIKEBOX_OK ? 77 : says));
 }
 
-static void admits(hikebox_limit *limit, uint64_t now, hikebox_status wanted, uint64_t says) {
+void admits(hikebox_limit *limit, uint64_t now, hikebox_status wanted, uint64_t says) {
     uint64_t number = 77;
     wants(hikebox_limit_admit(limit, now, HALF, &number), wanted);
     holds(number == (wanted == HIKEBOX_OK ? 77 : says));
@@ -309,6 +309,7 @@ static void refusals(void) {
     hikebox_breaker breaker = HIKEBOX_BREAKER;
     hikebox_limit limit = HIKEBOX_INIT, empty = HIKEBOX_INIT;
     uint64_t number = 7, many[65] = {0};
+    bool quiet = true;
     bucket.floor = 500001;
     wants(hikebox_bucket_new(&bucket, &limit), HIKEBOX_OUT_OF_RANGE);
     bucket.size++;
@@ -336,6 +337,8 @@ static void refusals(void) {
     wants(hikebox_limit_cancelled(&empty), HIKEBOX_EMPTY);
     wants(hikebox_limit_ended(&empty), HIKEBOX_EMPTY);
     wants(hikebox_limit_free(&empty), HIKEBOX_EMPTY);
+    wants(hikebox_limit_look(&empty, &(hikebox_seen){0, 0, 0, 0}, &quiet), HIKEBOX_EMPTY);
+    wants(hikebox_limit_begin(&empty, &(hikebox_seen){0, 0, 0, 0}, &quiet), HIKEBOX_EMPTY);
     wants(hikebox_limit_split(&empty, &limit), HIKEBOX_EMPTY);
     wants(hikebox_throttle_new(0, 1000, 1, &limit), HIKEBOX_OK);
     wants(hikebox_throttle_new(0, 999, 1, &limit), HIKEBOX_FULL);
@@ -345,7 +348,7 @@ static void refusals(void) {
     admits(&limit, 0, HIKEBOX_OK, 0);
     admits(&limit, 0, HIKEBOX_OUT_OF_TURN, 0);
     wants(hikebox_limit_free(&limit), HIKEBOX_OK);
-    holds(number == 7);
+    holds(number == 7 && quiet);
 }
 
 enum {
@@ -445,6 +448,7 @@ int limits(void) {
     clock_ends();
     steps_refused();
     refusals();
+    looks();
     races();
     return wrong;
 }

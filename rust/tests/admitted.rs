@@ -213,6 +213,61 @@ fn each_run_of_a_repeat_is_a_call() {
     assert!(matches!(answer, Err(RepeatError::Failed(RetryError::NotAdmitted(_)))));
 }
 
+// While a call runs that found the limit quiet, another one fails: the success of the first one counts then as that of a
+// call which was asked.
+#[test]
+fn a_success_counts_where_another_call_failed_meanwhile() {
+    let (once, never) = (policy(r#"{"recurs":0}"#), r#"{"spaced":30000}"#);
+    let limit = breaker(2, never);
+    let fails_beside = || -> Answer<u32> { retry(&once, &limit, fails(1)) };
+    for _ in 0..3 {
+        let answer: Answer<()> = retry(&once, &limit, || {
+            assert_eq!(fails_beside(), Err(RetryError::ScheduleDone("busy")));
+            Ok(())
+        });
+        assert_eq!(answer, Ok(()));
+    }
+    let bucket =
+        CallLimit::new(Bucket { capacity: 3.0, debit: 2.0, credit: 1.0, cost: 1.0, floor: 1.0, refund: false });
+    let bucket = bucket.unwrap();
+    let answer: Answer<()> = retry(&once, &bucket, || {
+        let _: Answer<u32> = retry(&once, &bucket, fails(1));
+        assert_eq!(refused(&bucket), Some(LevelLow));
+        Ok(())
+    });
+    assert_eq!((answer, refused(&bucket)), (Ok(()), None));
+}
+
+// A call found the breaker closed, and succeeds when it is half open: it neither closes it nor takes its probe.
+#[test]
+fn a_late_success_takes_no_probe() {
+    let (limit, once) = (breaker(1, r#"{"spaced":1}"#), policy(r#"{"recurs":0}"#));
+    let answer: Answer<()> = retry(&once, &limit, || {
+        let _: Answer<u32> = retry(&once, &limit, fails(1));
+        thread::sleep(Duration::from_millis(20));
+        Ok(())
+    });
+    assert_eq!(answer, Ok(()));
+    let (mut probe, mut other) = (limit.request().unwrap(), limit.request().unwrap());
+    probe.admit().unwrap();
+    assert_eq!(other.admit().unwrap_err().reason(), Probing);
+}
+
+// Calls of four threads, in each of which another one runs.
+#[test]
+fn calls_in_calls_and_in_threads_count() {
+    let (limit, once) = (breaker(2, r#"{"spaced":30000}"#), policy(r#"{"recurs":0}"#));
+    let nested = || -> Answer<u32> { retry(&once, &limit, || retry(&once, &limit, fails(0)).map_err(|_| "inner")) };
+    thread::scope(|scope| {
+        for _ in 0..4 {
+            scope.spawn(|| (0..1000).for_each(|_| assert_eq!(nested(), Ok(0))));
+        }
+    });
+    let _: Answer<u32> = retry(&once, &limit, fails(1));
+    let _: Answer<u32> = retry(&once, &limit, fails(1));
+    assert_eq!(not_admitted(retry(&once, &limit, fails(0))), Some(BreakerOpen));
+}
+
 #[cfg(feature = "tokio")]
 mod futures {
     use super::*;

@@ -167,6 +167,30 @@ fn an_admitted_call_goes_on_in_the_child_and_in_the_parent() {
     }
 }
 
+/// A call that found the breaker closed forks in its run. The child's own breaker hears of the failure there, and the
+/// parent's of that of the parent alone.
+#[test]
+fn a_call_that_was_admitted_by_a_look_fails_in_the_child_and_in_the_parent() {
+    let once: Policy = r#"{"recurs":0}"#.parse().unwrap();
+    let limit = CallLimit::new(Breaker::consecutive(2, r#"{"spaced":30000}"#.parse().unwrap())).unwrap();
+    let fails = || retry(&once, &limit, || Err::<(), _>("busy")) == Err(RetryError::ScheduleDone("busy"));
+    let mut child = None;
+    let ended = retry(&once, &limit, || {
+        // SAFETY: the child goes on with the call, and ends below.
+        child = Some(unsafe { libc::fork() });
+        Err::<(), _>("busy")
+    });
+    let told = (ended == Err(RetryError::ScheduleDone("busy")), fails(), fails());
+    if child == Some(0) {
+        // SAFETY: the child ends here.
+        unsafe { libc::_exit(i32::from(told != (true, true, false))) }
+    }
+    let mut status = 1;
+    // SAFETY: it is a child of this process that was not waited for.
+    unsafe { libc::waitpid(child.unwrap(), &mut status, 0) };
+    assert_eq!((status, told), (0, (true, true, false)));
+}
+
 /// One that no limit admitted asks in the child as it does in the parent.
 #[test]
 fn a_request_begins_anew_in_a_child() {

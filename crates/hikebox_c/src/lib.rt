@@ -9,6 +9,7 @@ mod kept;
 mod leased;
 mod leases;
 mod limits;
+mod looks;
 mod passes;
 mod policies;
 mod retries;

@@ -80,6 +80,23 @@ impl Handle<LimitKind> {
         debug_assert_eq!(status, OK);
     }
 
+    /// What a look sees of its limits, where these are quiet and it has no request.
+    #[inline]
+    pub(crate) fn look(&mut self) -> Option<Seen> {
+        let (mut seen, mut quiet) = (Seen::default(), false);
+        let status = unsafe { hikebox_limit_look(self.raw(), &mut seen, &mut quiet) };
+        debug_assert_eq!(status, OK);
+        quiet.then_some(seen)
+    }
+
+    /// A request begins that was admitted when a quiet look saw this; whether it does.
+    pub(crate) fn begin(&mut self, seen: &Seen) -> bool {
+        let mut begun = false;
+        let status = unsafe { hikebox_limit_begin(self.raw(), seen, &mut begun) };
+        debug_assert_eq!(status, OK);
+        begun
+    }
+
     /// Tells that the request is over.
     pub(crate) fn ended(&mut self) {
         let status = unsafe { hikebox_limit_ended(self.raw()) };

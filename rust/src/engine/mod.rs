@@ -21,7 +21,7 @@ pub(crate) use policy::{fault, PolicyKind, Size};
 pub(crate) use retry::RetryKind;
 #[cfg(feature = "leased")]
 pub(crate) use sys::{Asking, Grant, Range, Stored, Ticket};
-pub(crate) use sys::{BreakerTerms, BucketTerms};
+pub(crate) use sys::{BreakerTerms, BucketTerms, Seen};
 pub(crate) use sys::{Course, Event, Line, Next, Phase, Place, Population, Run, Storm, Totals, Used, Window};
 pub(crate) use sys::{BREAKER_OPEN, LEVEL_LOW, PROBING, REQUESTS_FULL, RETRIES_FULL, THROTTLED};
 pub(crate) use sys::{ENDED_CANCELLED, ENDED_DEADLINE, ENDED_DONE, ENDED_LIMIT_REFUSED, ENDED_NO_MEMORY, ENDED_WON};

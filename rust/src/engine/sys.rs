@@ -141,6 +141,16 @@ pub(crate) struct BucketTerms {
     pub(crate) refund: bool,
 }
 
+/// The words that a look at limits saw.
+#[repr(C)]
+#[derive(Clone, Copy, Debug, Default)]
+pub(crate) struct Seen {
+    pub(crate) first: u64,
+    pub(crate) second: u64,
+    pub(crate) third: u64,
+    pub(crate) fourth: u64,
+}
+
 /// A breaker without its open times.
 #[repr(C)]
 #[derive(Clone, Copy, Debug, Default)]
@@ -400,6 +410,8 @@ extern "C" {
     pub(super) fn hikebox_limit_cancelled(limit: *mut Raw) -> u32;
     pub(super) fn hikebox_limit_ended(limit: *mut Raw) -> u32;
     pub(super) fn hikebox_limit_free(limit: *mut Raw) -> u32;
+    pub(super) fn hikebox_limit_look(limit: *mut Raw, seen: *mut Seen, quiet: *mut bool) -> u32;
+    pub(super) fn hikebox_limit_begin(limit: *mut Raw, seen: *const Seen, begun: *mut bool) -> u32;
 
     pub(super) fn hikebox_budget_fixed(limit: u64, pass: *mut Raw) -> u32;
     pub(super) fn hikebox_budget_rising(limit: u64, pass: *mut Raw) -> u32;

@@ -3,8 +3,10 @@
 use crate::clock::{whole_millis, Moment};
 use crate::engine::{self, BreakerTerms, BucketTerms, Course, Event, Handle, LimitKind, Refusal, Status};
 use crate::engine::{ON_BREAKER, ON_BUCKET, ON_IN_FLIGHT, ON_THROTTLE};
+use crate::limits::asked::Quiet;
 use crate::limits::error::LimitError;
 use crate::limits::grants::Tickets;
+use crate::limits::slots::Slots;
 use crate::limits::ticket::{NoTicket, Ticket};
 use crate::policy::Policy;
 use crate::random;
@@ -50,6 +52,8 @@ struct Shared {
     /// Moment 0.
     began: Moment,
     reads: Reads,
+    /// Whether it can be quiet.
+    rests: bool,
     handles: PerProcess<Handles>,
 }
 
@@ -74,10 +78,11 @@ static BEGAN: MadeOnce<Moment> = MadeOnce::new();
 
 const A_DAY: Duration = Duration::from_secs(86_400);
 
-/// The first handle of a limit, and those that no request uses now.
+/// The first handle of a limit, those that no request uses now, and those that look.
 struct Handles {
     root: Mutex<Handle<LimitKind>>,
     idle: Mutex<Vec<Handle<LimitKind>>>,
+    looks: Slots<Handle<LimitKind>>,
 }
 
 /// What a [`CallLimit`] is made with.
@@ -368,7 +373,8 @@ impl CallLimit {
     fn of(made: Made) -> Result<Self, LimitError> {
         let began = BEGAN.get(|| Moment::of(Instant::now()).before(A_DAY));
         let handles = PerProcess::new(Handles::of(made.handle(moment_of(began))?));
-        Ok(Self { shared: Arc::new(Shared { reads: made.reads(), made, began, handles }) })
+        let (reads, rests) = (made.reads(), made.rests());
+        Ok(Self { shared: Arc::new(Shared { made, began, reads, rests, handles }) })
     }
 
     #[inline]
@@ -389,6 +395,48 @@ impl CallLimit {
             None => lock(&self.handles().root).split().map_err(fault)?,
         };
         Ok(Request { limit: self.clone(), handle: Some(handle), generation: generation(), is_admitted: false })
+    }
+
+    /// What a look of this thread's handle sees, where the limit is quiet.
+    #[inline]
+    pub(crate) fn look(&self) -> Option<Quiet> {
+        if !self.shared.rests {
+            return None;
+        }
+        let seen = self.by_looks(Handle::look)??;
+        Some(Quiet::of(seen))
+    }
+
+    /// The first run of a call succeeded that a look admitted. Where the limit is quiet again, all calls of its request
+    /// are made at this look.
+    #[inline]
+    pub(crate) fn settle(&self, quiet: &Quiet) {
+        let is_settled = quiet.is_of_this_process() && self.by_looks(Handle::look).flatten().is_some();
+        if !is_settled {
+            self.begun(quiet).succeeded();
+        }
+    }
+
+    /// The request of a call that a look admitted; in a forked child one that is admitted there.
+    #[cold]
+    pub(crate) fn begun(&self, quiet: &Quiet) -> Request {
+        let mut request = self.request().expect("memory for a request");
+        match quiet.is_of_this_process() {
+            true => request.is_admitted = request.handle().begin(&quiet.seen),
+            false => drop(request.admit()),
+        }
+        request
+    }
+
+    /// What the call gives, which has the handle of this thread that looks; `None` where another thread uses that.
+    #[inline]
+    fn by_looks<R>(&self, call: impl FnOnce(&mut Handle<LimitKind>) -> R) -> Option<R> {
+        let handles = self.handles();
+        let of = |own: &mut Option<Handle<LimitKind>>| match own {
+            Some(handle) => Some(call(handle)),
+            None => handles.looker(own).map(call),
+        };
+        handles.looks.own(of).flatten()
     }
 
     /// A request that is admitted.
@@ -423,6 +471,15 @@ impl CallLimit {
     fn moment(&self) -> u64 {
         match self.shared.reads.clock {
             true => moment_of(self.shared.began),
+            false => 0,
+        }
+    }
+
+    /// The present moment, where it reads that of a success: a throttle alone does, as it alone reads random words.
+    #[inline]
+    fn moment_of_success(&self) -> u64 {
+        match self.shared.reads.words {
+            true => self.moment(),
             false => 0,
         }
     }
@@ -490,6 +547,14 @@ impl Made {
         }
     }
 
+    /// Whether it can be quiet, as buckets and breakers can.
+    fn rests(&self) -> bool {
+        match self {
+            Self::Of(terms) => matches!(terms, Terms::Bucket(_) | Terms::Breaker(_)),
+            Self::All(limits) => limits.iter().all(|limit| limit.shared.rests),
+        }
+    }
+
     /// The limit in the engine, made at this moment.
     fn handle(&self, now: u64) -> Result<Handle<LimitKind>, LimitError> {
         match self {
@@ -512,7 +577,14 @@ impl Made {
 
 impl Handles {
     fn of(root: Handle<LimitKind>) -> Self {
-        Self { root: Mutex::new(root), idle: Mutex::new(Vec::new()) }
+        Self { root: Mutex::new(root), idle: Mutex::new(Vec::new()), looks: Slots::default() }
+    }
+
+    /// A handle that looks, put here, unless there is no memory for one.
+    #[cold]
+    fn looker<'a>(&self, own: &'a mut Option<Handle<LimitKind>>) -> Option<&'a mut Handle<LimitKind>> {
+        *own = lock(&self.root).split().ok();
+        own.as_mut()
     }
 }
 
@@ -598,7 +670,7 @@ impl Request {
 
     /// Tells that a run succeeded.
     pub fn succeeded(&mut self) {
-        let now = self.limit.moment();
+        let now = self.limit.moment_of_success();
         self.handle().succeeded(now);
     }
 

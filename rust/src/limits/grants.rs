@@ -3,8 +3,9 @@
 use crate::clock::Moment;
 #[cfg(feature = "leased")]
 use crate::leased::{Leased, LeasedQuota};
+use crate::limits::asked::{Asked, Quiet};
 use crate::limits::budget::Budget;
-use crate::limits::call_limit::{Admitted, CallLimit, Refused, Request};
+use crate::limits::call_limit::{Admitted, CallLimit, Refused};
 use crate::limits::quota::Quota;
 use crate::limits::ticket::{NoTicket, Ticket};
 use std::convert::Infallible;
@@ -179,7 +180,7 @@ pub trait Tickets: Send + Sync {
 }
 
 mod sealed {
-    use super::{Admitted, Arc, Infallible, Moment, Refused, Request, Source, Ticket};
+    use super::{Admitted, Arc, Asked, CallLimit, Infallible, Moment, Quiet, Refused, Source, Ticket};
     use std::error::Error;
 
     /// What a retry draws on, and by which clock.
@@ -187,9 +188,9 @@ mod sealed {
         /// What a retry that has begun holds of it.
         fn source(&self) -> Source;
 
-        /// A request that it admits, of one that is asked before the first run.
-        fn admit(&self) -> Result<Option<Request>, Refused> {
-            Ok(None)
+        /// The limit that is asked before the first run, if it is one.
+        fn call_limit(&self) -> Option<&CallLimit> {
+            None
         }
 
         /// A request is made at this moment: a quota, or a store, counts it.
@@ -224,18 +225,18 @@ mod sealed {
     /// What a call holds from its first run on.
     pub trait Held: Default {
         /// Tells that its first run succeeded, and answers whether there is a limit that hears it.
-        fn succeeded(&mut self) -> bool;
+        fn succeeded(&mut self, limit: &(impl Limit + ?Sized)) -> bool;
 
         /// Tells this limit, or the one that was asked, that the first run succeeded.
         #[inline]
         fn succeeded_at_once(&mut self, limit: &(impl Limit + ?Sized), clock: &dyn Fn() -> Moment) {
-            if !self.succeeded() && limit.hears_of_successes() {
+            if !self.succeeded(limit) && limit.hears_of_successes() {
                 limit.count_success(None, clock);
             }
         }
 
-        /// The request, for a retry to draw by.
-        fn request(self) -> Option<Arc<Admitted>>;
+        /// What a look admitted, or the request, for a retry to draw by.
+        fn parted(self) -> (Option<Quiet>, Option<Arc<Admitted>>);
     }
 
     impl Admission for Infallible {
@@ -253,40 +254,26 @@ mod sealed {
 
     impl Held for () {
         #[inline]
-        fn succeeded(&mut self) -> bool {
+        fn succeeded(&mut self, _limit: &(impl Limit + ?Sized)) -> bool {
             false
         }
 
         #[inline]
-        fn request(self) -> Option<Arc<Admitted>> {
-            None
+        fn parted(self) -> (Option<Quiet>, Option<Arc<Admitted>>) {
+            (None, None)
         }
     }
 
     impl Admission for Refused {
-        type Held = Option<Request>;
+        type Held = Asked;
 
-        fn admitted(limit: &dyn Limit) -> Result<Option<Request>, Self> {
-            limit.admit()
+        #[inline]
+        fn admitted(limit: &dyn Limit) -> Result<Asked, Self> {
+            limit.call_limit().map_or(Ok(Asked::Nothing), Asked::of)
         }
 
         fn why(&self) -> &'static str {
             self.reason().told()
-        }
-    }
-
-    impl Held for Option<Request> {
-        #[inline]
-        fn succeeded(&mut self) -> bool {
-            match self {
-                Some(request) => request.succeeded(),
-                None => return false,
-            }
-            true
-        }
-
-        fn request(self) -> Option<Arc<Admitted>> {
-            self.map(Admitted::of)
         }
     }
 }
@@ -309,10 +296,10 @@ impl Limit for Source {
         self.clone()
     }
 
-    fn admit(&self) -> Result<Option<Request>, Refused> {
+    fn call_limit(&self) -> Option<&CallLimit> {
         match self {
-            Self::CallLimit(limit) => limit.admit(),
-            Self::Budget(_) | Self::Quota(_) | Self::Store(_) | Self::Unlimited => Ok(None),
+            Self::CallLimit(limit) => Some(limit),
+            Self::Budget(_) | Self::Quota(_) | Self::Store(_) | Self::Unlimited => None,
         }
     }
 
@@ -385,8 +372,9 @@ impl Limit for CallLimit {
         Source::CallLimit(self.clone())
     }
 
-    fn admit(&self) -> Result<Option<Request>, Refused> {
-        self.admitted().map(Some)
+    #[inline]
+    fn call_limit(&self) -> Option<&CallLimit> {
+        Some(self)
     }
 }
 

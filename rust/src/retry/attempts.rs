@@ -84,7 +84,7 @@ impl<E, H: Hooked<E>, K: Clock, S, R: Random, L: MayRefuse> Retrying<'_, E, (), 
     #[inline]
     pub(crate) fn fails(&self, progress: &mut Progress, course: &Course, error: &E) -> Result<Duration, Ending> {
         let now = self.host.clock.moment();
-        progress.failed();
+        progress.failed(self.rules.limit());
         if !self.hooks.when(error) {
             return Err(Ending::Cancelled);
         }

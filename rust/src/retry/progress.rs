@@ -2,6 +2,7 @@
 
 use crate::clock::{whole_millis, Moment};
 use crate::engine::{Run, LOST, MAX_NUMBER, NO_DEADLINE};
+use crate::limits::asked::Quiet;
 use crate::limits::call_limit::Admitted;
 #[cfg(any(feature = "prometheus", feature = "tracing"))]
 use crate::limits::call_limit::RefusalReason;
@@ -28,6 +29,8 @@ pub(crate) struct Lost {
 pub(crate) struct Progress {
     began: Moment,
     running: Option<Running>,
+    /// What admitted it, of a limit that was looked at before the first run, until that fails.
+    quiet: Option<Quiet>,
     /// The request, of a limit that was asked before the first run: the retry draws by it.
     request: Option<Arc<Admitted>>,
 }
@@ -49,7 +52,8 @@ impl Progress {
     /// One whose first run begins now, holding this.
     #[inline]
     pub(crate) fn new(now: Moment, held: impl Held) -> Self {
-        Self { began: now, running: None, request: held.request() }
+        let (quiet, request) = held.parted();
+        Self { began: now, running: None, quiet, request }
     }
 
     /// How long ago the first run began.
@@ -106,7 +110,10 @@ impl Progress {
 
     /// Tells a limit that was asked that the run under way failed, whether it is retried or not.
     #[inline]
-    pub(crate) fn failed(&self) {
+    pub(crate) fn failed(&mut self, limit: &dyn Limit) {
+        if let Some(quiet) = self.quiet.take() {
+            self.request = limit.call_limit().map(|limit| Admitted::of(limit.begun(&quiet)));
+        }
         if let Some(request) = &self.request {
             request.failed();
         }
@@ -115,16 +122,17 @@ impl Progress {
     /// The run under way succeeded, and ends the retry: this limit counts it, or the one that was asked.
     pub(crate) fn succeeded(&mut self, limit: &dyn Limit, clock: &dyn Fn() -> Moment) {
         let last = self.running.as_mut().and_then(|running| running.machine.succeeded());
-        match &self.request {
-            Some(request) => request.succeeded(),
-            None => limit.count_success(last, clock),
+        match (&self.request, self.quiet.take().zip(limit.call_limit())) {
+            (Some(request), _) => request.succeeded(),
+            (None, Some((quiet, limit))) => limit.settle(&quiet),
+            (None, None) => limit.count_success(last, clock),
         }
     }
 
     /// Whether a limit was asked before the first run.
     #[inline]
     pub(crate) fn has_request(&self) -> bool {
-        self.request.is_some()
+        self.quiet.is_some() || self.request.is_some()
     }
 
     /// Begins the run that was waited for. Past the deadline the retry is over. `None` is answered where nobody had to

@@ -158,7 +158,7 @@ impl<S: Service<Request>, Request, L: MayRefuse> Retries<S, Request, L> {
     fn failed(&mut self, code: Option<u64>, result: Result<&S::Response, &S::Error>) -> Result<Duration, Ending> {
         let Self { settings, began, held, progress, next, .. } = self;
         let progress = progress.get_or_insert_with(|| Box::new(Progress::new(*began, mem::take(held))));
-        progress.failed();
+        progress.failed(&settings.source);
         match (next, code) {
             (Some(_), Some(code)) => settings.wait(progress, code, result),
             _ => Err(Ending::Cancelled),

@@ -1,7 +1,7 @@
 //! `counted CASE FAILURES COUNT` makes so many calls, each of which fails so often and then succeeds, by the crate that the
 //! case names, for bench/crates.sh, which counts the instructions. No run waits.
 
-use hikebox::{Breaker, Bucket, Budget, CallLimit, Policy, Quota, RetryLayer, Retrying, Schedule, Terms};
+use hikebox::{both, Breaker, Bucket, Budget, CallLimit, InFlight, Policy, Quota, RetryLayer, Retrying, Schedule, Terms};
 use std::convert::Infallible;
 use std::future::{ready, Future, Ready};
 use std::sync::{Arc, Mutex};
@@ -26,8 +26,13 @@ fn main() {
                 black_box(hikebox::retry(&policy, &quota, &mut call).expect("a success"));
             }
         }
-        "hikebox-bucket" => limited_calls(Bucket::aws(), failures, count),
-        "hikebox-breaker" => limited_calls(Breaker::consecutive(5, six_nodes()), failures, count),
+        "hikebox-bucket" => limited_calls(&bucket(), failures, count),
+        "hikebox-breaker" => limited_calls(&breaker(), failures, count),
+        "hikebox-four" => {
+            let two = || both(&bucket(), &breaker()).expect("two limits");
+            limited_calls(&both(&two(), &two()).expect("four limits"), failures, count);
+        }
+        "hikebox-in-flight" => limited_calls(&limit(InFlight::envoy(20.0, 3).expect("a share")), failures, count),
         "backoff" => backoff_calls(failures, count),
         "tower" => {
             let budget = Arc::new(budget::Budget::new(WINDOW, 1_000_000, 1.0));
@@ -84,11 +89,23 @@ fn hikebox_calls(policy: &Policy, failures: u32, count: u32) {
     }
 }
 
+fn limit(terms: impl Into<Terms>) -> CallLimit {
+    CallLimit::new(terms).expect("a limit")
+}
+
+fn bucket() -> CallLimit {
+    limit(Bucket::aws())
+}
+
+fn breaker() -> CallLimit {
+    limit(Breaker::consecutive(5, six_nodes()))
+}
+
 /// Calls under a limit, which are not waited for.
-fn limited_calls(terms: impl Into<Terms>, failures: u32, count: u32) {
-    let (limit, policy, mut call) = (CallLimit::new(terms).expect("a limit"), policy(), call(failures));
+fn limited_calls(limit: &CallLimit, failures: u32, count: u32) {
+    let (policy, mut call) = (policy(), call(failures));
     for _ in 0..count {
-        black_box(hikebox::retry(&policy, &limit, &mut call).expect("a success"));
+        black_box(hikebox::retry(&policy, limit, &mut call).expect("a success"));
     }
 }
 

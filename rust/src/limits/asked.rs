@@ -1,0 +1,69 @@
+//! What a call holds of a limit that it asked before its first run.
+
+use crate::engine::Seen;
+use crate::limits::call_limit::{Admitted, CallLimit, Refused, Request};
+use crate::limits::grants::{Held, Limit};
+use crate::system::{generation, is_generation};
+use std::sync::Arc;
+
+/// What a call holds of a limit that it asked before its first run.
+#[derive(Debug, Default)]
+pub enum Asked {
+    /// Nothing, of a limit that is not asked.
+    #[default]
+    Nothing,
+    /// The limit was quiet.
+    Quiet(Quiet),
+    /// A request.
+    Admitted(Request),
+}
+
+/// What a look saw that found the limit quiet, which admits a call, and the process that looked.
+#[derive(Clone, Copy, Debug)]
+pub struct Quiet {
+    pub(crate) seen: Seen,
+    generation: u64,
+}
+
+impl Quiet {
+    #[inline]
+    pub(crate) fn of(seen: Seen) -> Self {
+        Self { seen, generation: generation() }
+    }
+
+    #[inline]
+    pub(crate) fn is_of_this_process(&self) -> bool {
+        is_generation(self.generation)
+    }
+}
+
+impl Asked {
+    /// Looks at the limit, and asks it where it is not quiet.
+    #[inline]
+    pub(crate) fn of(limit: &CallLimit) -> Result<Self, Refused> {
+        match limit.look() {
+            Some(quiet) => Ok(Self::Quiet(quiet)),
+            None => limit.admitted().map(Self::Admitted),
+        }
+    }
+}
+
+impl Held for Asked {
+    #[inline]
+    fn succeeded(&mut self, limit: &(impl Limit + ?Sized)) -> bool {
+        match (self, limit.call_limit()) {
+            (Self::Quiet(quiet), Some(limit)) => limit.settle(quiet),
+            (Self::Admitted(request), _) => request.succeeded(),
+            (Self::Quiet(_) | Self::Nothing, _) => return false,
+        }
+        true
+    }
+
+    fn parted(self) -> (Option<Quiet>, Option<Arc<Admitted>>) {
+        match self {
+            Self::Nothing => (None, None),
+            Self::Quiet(quiet) => (Some(quiet), None),
+            Self::Admitted(request) => (None, Some(Admitted::of(request))),
+        }
+    }
+}
