@@ -35,7 +35,7 @@ from .errors import (
     TicketError,
     TryAgain,
 )
-from .limits import Breaker, Bucket, CallLimit, InFlight, Request, Throttle, both
+from .limits import Breaker, Bucket, CallLimit, InFlight, PerHost, PerKey, Request, Throttle, both
 from .log import after_log, before_log, before_sleep_log
 from .policy import Policy, Step
 from .policy.builders import (
@@ -108,6 +108,8 @@ __all__ = [
     "Milliseconds",
     "NotAdmitted",
     "Outcome",
+    "PerHost",
+    "PerKey",
     "Policy",
     "PolicyError",
     "Population",

@@ -10,6 +10,7 @@ from .kinds import is_async, unwrapped
 from .progress import Progress
 from .state import Outcome
 from .steps import OVER, RAISE, RUN, Settled, Steps, steps
+from .watch import watch
 
 if TYPE_CHECKING:
     from ..retrying import BaseRetrying
@@ -89,6 +90,8 @@ def run(owner: BaseRetrying, fn: Callable[..., Any], args: Any, kwargs: Any) -> 
                 request = settings.drawing()
                 refusal = request.admit()
         if refusal is not None or not settings.is_quiet:
+            if settings.per_key is not None:
+                return run(settings.per_key.retrying_of(owner, args, kwargs), fn, args, kwargs)
             progress = Progress(owner, fn, args, kwargs, start, deadline, request, refusal)
             driven = steps(progress)
             return _attempts(progress, driven, settle(driven, driven.send(None)))
@@ -107,6 +110,8 @@ def run(owner: BaseRetrying, fn: Callable[..., Any], args: Any, kwargs: Any) -> 
             if type(result) is CoroutineType:
                 refuse_awaitable(repr(fn), result, settings.repeats)
             owner.counts.add_success()
+            if watch.watchers:
+                watch.succeeded(fn)
             if request is not None:
                 request.won()
                 request = None
@@ -175,6 +180,8 @@ async def run_async(owner: BaseRetrying, fn: Callable[..., Any], args: Any, kwar
                 request = settings.drawing()
                 refusal = request.admit()
         if refusal is not None or not settings.is_quiet:
+            if settings.per_key is not None:
+                return await run_async(settings.per_key.retrying_of(owner, args, kwargs), fn, args, kwargs)
             progress = Progress(owner, fn, args, kwargs, start, deadline, request, refusal)
             driven = steps(progress)
             want = await settle_async(driven, driven.send(None))
@@ -199,6 +206,8 @@ async def run_async(owner: BaseRetrying, fn: Callable[..., Any], args: Any, kwar
                     raise TypeError(f"{fn!r} returned nothing to await: {_plain(settings.repeats)} is for functions")
                 if progress is None:
                     owner.counts.add_success()
+                    if watch.watchers:
+                        watch.succeeded(fn)
                     if request is not None:
                         request.won()
                         request = None

@@ -27,7 +27,7 @@ from ..budgets.drawing import ByCall
 from ..budgets.limit import Limit
 from ..budgets.passes import UNLIMITED, Grants
 from ..errors import LimitClosed, TermsError, TryAgain
-from ..limits import CallLimit
+from ..limits import CallLimit, PerKey
 from ..policy import Policy
 from ..quota import Quota
 from .kinds import hooks_of, look_at_function, parts_of_on, stop_of
@@ -131,7 +131,7 @@ def _slow_follows(settings: Settings) -> None:
     settings.slow_millis = None if settings.slow is None else seconds(settings.slow, "slow")
     if settings.slow_millis == 0:
         raise TermsError(f"slow: expected a time above 0, got {settings.slow!r}")
-    if settings.slow is not None and not isinstance(settings.limit, CallLimit):
+    if settings.slow is not None and not isinstance(settings.limit, (CallLimit, PerKey)):
         wanted = "expected a limit that hears how calls end, such as a Breaker or a Bucket, beside it"
         raise TypeError(f"slow: {wanted}, got limit={settings.limit!r}")
 
@@ -144,6 +144,7 @@ def _waits_follow(settings: Settings) -> None:
 
 def _drawing_follows(settings: Settings) -> None:
     limit = settings.limit
+    settings.per_key = limit if isinstance(limit, PerKey) else None
     settings.grants, settings.drawing = _grants_of(limit, settings.clock, settings.awaits)
     settings.deposit, settings.deposit_won = _deposits(limit)
     settings.asks_limit = isinstance(limit, CallLimit)
@@ -153,6 +154,10 @@ def _drawing_follows(settings: Settings) -> None:
 def _grants_of(limit: Any, clock: Any, awaits: bool) -> Tuple[Grants, Any]:
     """What grants the engine's retry its tickets, and what makes the drawing of a retry that draws elsewhere."""
     if limit is None:
+        return UNLIMITED, None
+    if isinstance(limit, PerKey):
+        if limit.key is None:
+            raise TypeError("limit: expected a PerKey with key=.., or per_key[..], the limit of one key")
         return UNLIMITED, None
     draw = getattr(limit, "draw", None)
     if isinstance(limit, type):
@@ -254,7 +259,7 @@ class Options:
         None,
         """What bounds the retries of all calls together: a `Budget`, a `Quota`, a `Breaker` or another `Limit`, or
         other `Tickets`; None for no limit. A quota counts each call as a request. A breaker may refuse a first attempt
-        too, which raises a `NotAdmitted`.""",
+        too, which raises a `NotAdmitted`. A `PerKey` bounds the calls of each key by a limit of their own.""",
         _drawing_follows,
         shapes=True,
     )
