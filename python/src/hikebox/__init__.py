@@ -19,6 +19,7 @@ from .budgets.limit import Limit
 from .budgets.tickets import Refusal, RefusalReason, Ticket
 from .built import BuildInfo, build_info
 from .errors import (
+    AttemptTimeout,
     LimitClosed,
     LimitError,
     LimitInUse,
@@ -90,6 +91,7 @@ __all__ = [
     "AsyncRepeating",
     "AsyncRetrying",
     "Attempt",
+    "AttemptTimeout",
     "Breaker",
     "Bucket",
     "Budget",

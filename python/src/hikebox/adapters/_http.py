@@ -153,6 +153,8 @@ class PolicyClient:
         name = type(self).__name__
         if "on_result" in how:
             raise TypeError(f"{name}() takes no on_result: on_status says which answers are retried")
+        if how.get("attempt_timeout") is not None:
+            raise TypeError(f"{name}() takes no attempt_timeout: the client's own timeout is for each attempt")
         look_at_names(name, how, {*_PARAMETERS, *inspect.signature(type(self)).parameters})
         if read_up_to is not None and (type(read_up_to) is not int or read_up_to < 0):
             raise TypeError(f"read_up_to: expected a number of bytes or None, got {read_up_to!r}")

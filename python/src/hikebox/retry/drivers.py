@@ -10,6 +10,7 @@ from .kinds import is_async, unwrapped
 from .progress import Progress
 from .state import Outcome
 from .steps import OVER, RAISE, RUN, Settled, Steps, steps
+from .waits import in_time
 from .watch import watch
 
 if TYPE_CHECKING:
@@ -188,6 +189,8 @@ async def run_async(owner: BaseRetrying, fn: Callable[..., Any], args: Any, kwar
         while want is RUN:
             try:
                 awaitable = fn(*args, **kwargs)
+                if settings.attempt_millis is not None and hasattr(type(awaitable), "__await__"):
+                    awaitable = in_time(awaitable, settings.attempt_millis)
                 result = await awaitable if hasattr(type(awaitable), "__await__") else _NOT_AWAITABLE
             except BaseException as error:
                 if progress is None:

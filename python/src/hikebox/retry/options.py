@@ -26,7 +26,7 @@ from ..budget import Budget
 from ..budgets.drawing import ByCall
 from ..budgets.limit import Limit
 from ..budgets.passes import UNLIMITED, Grants
-from ..errors import LimitClosed, TermsError, TryAgain
+from ..errors import AttemptTimeout, LimitClosed, TermsError, TryAgain
 from ..limits import CallLimit, PerKey
 from ..policy import Policy
 from ..quota import Quota
@@ -102,7 +102,23 @@ Stop = Union[Event, Callable[[RetryState], bool]]
 
 def _on_follows(settings: Settings) -> None:
     types, settings.tests = parts_of_on(settings.on, settings.awaits)
-    settings.types = (*types, TryAgain)
+    is_timed = settings.attempt_timeout is not None and not settings.repeats
+    settings.types = (*types, TryAgain, AttemptTimeout) if is_timed else (*types, TryAgain)
+
+
+def _attempt_timeout_follows(settings: Settings) -> None:
+    settings.attempt_millis = _above_0("attempt_timeout", settings.attempt_timeout)
+    if settings.attempt_timeout is not None and not settings.awaits:
+        told = "expected a coroutine function: an attempt of a thread can't be ended; bound what it waits for"
+        raise TypeError(f"attempt_timeout: {told}, as by a timeout of its client")
+
+
+def _above_0(name: str, duration: Optional[Duration]) -> Optional[int]:
+    """The milliseconds of a time, which may not be 0."""
+    millis = None if duration is None else seconds(duration, name)
+    if millis == 0:
+        raise TermsError(f"{name}: expected a time above 0, got {duration!r}")
+    return millis
 
 
 def _hooks_follow(settings: Settings) -> None:
@@ -128,9 +144,7 @@ def _deadline_follows(settings: Settings) -> None:
 
 
 def _slow_follows(settings: Settings) -> None:
-    settings.slow_millis = None if settings.slow is None else seconds(settings.slow, "slow")
-    if settings.slow_millis == 0:
-        raise TermsError(f"slow: expected a time above 0, got {settings.slow!r}")
+    settings.slow_millis = _above_0("slow", settings.slow)
     if settings.slow is not None and not isinstance(settings.limit, (CallLimit, PerKey)):
         wanted = "expected a limit that hears how calls end, such as a Breaker or a Bucket, beside it"
         raise TypeError(f"slow: {wanted}, got limit={settings.limit!r}")
@@ -314,6 +328,14 @@ class Options:
         ends and its ticket comes back. `seconds_left()` tells the call how long it has.""",
         _deadline_follows,
         shapes=True,
+    )
+    attempt_timeout: Optional[Duration] = option(
+        None,
+        """How long an attempt of a coroutine function may take, by the clock of asyncio or trio: seconds, or a
+        `timedelta`. Then it is cancelled, and has failed with an `AttemptTimeout`, which is retried whatever `on` says.
+        The attempt of a thread or of a loop can't be ended, so there it is a `TypeError`.""",
+        _attempt_timeout_follows,
+        _on_follows,
     )
     stop: Optional[Stop] = option(
         None,

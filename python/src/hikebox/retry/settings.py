@@ -88,6 +88,8 @@ class Settings(HasOptions):
     lets_go: bool
     #: How many seconds these may ask for at most.
     most_wait: float
+    #: The milliseconds after which an attempt is cancelled.
+    attempt_millis: Optional[int]
     #: The milliseconds of the deadline.
     deadline_millis: Optional[int]
 
