@@ -345,13 +345,18 @@ def test_a_coroutine_that_the_collector_closes_is_counted_with_the_next_one(coun
                 await Waits()
 
     metric = counted.registry._names_to_collectors["hikebox_calls_total"]
-    for begun in (AsyncRetrying(recurs(3), before=lambda state: None)(waits), in_a_loop()):
+    retrying = AsyncRetrying(recurs(3), before=lambda state: None)
+    makers: List[Any] = [lambda: retrying(waits), in_a_loop]
+    for make in makers:
+        begun = make()
         begun.send(None)
         with metric._lock:
             del begun
             gc.collect()
-    Retrying(stop())(succeeds)
-    assert len(counted.all("calls_total")) == 3
+        assert counted.all("calls_total") == {}
+        Retrying(stop())(succeeds)
+        assert len(counted.all("calls_total")) == 2
+        metric.clear()
 
 
 def test_what_a_watcher_raises_ends_no_call(caplog: Any) -> None:
