@@ -34,7 +34,7 @@ TAGS = {
 MACHINES = {"x86_64": "dist", "aarch64": "dist/aarch64"}
 #: The time of each file in an archive, 1 January 2020: for a wheel, and for a source archive.
 DATE, MOMENT = (2020, 1, 1, 0, 0, 0), 1577836800
-ENTRY_POINTS = "[console_scripts]\nhikebox = hikebox_program:main\n"
+ENTRY_POINTS = "[console_scripts]\nhikebox = hikebox_program:main\n\n[pytest11]\nhikebox = hikebox_pytest\n"
 BESIDE_SOURCES = ("LICENSE", "PKG-INFO", "README.md", "build_backend.py", "pyproject.toml")
 #: The manual page of the program and its completions, and where they are installed, below the environment's folder.
 SHARED = {

@@ -12,6 +12,8 @@ at what holds however late a process comes: that the quota was not exceeded.
 from __future__ import annotations
 
 import os
+import select
+import subprocess
 import sys
 from collections import Counter
 from dataclasses import replace
@@ -104,6 +106,22 @@ def looks_at_pages() -> List[str]:
     return wrong
 
 
+def looks_at_leaving() -> List[str]:
+    """Whether processes are left of a bench/reality that is killed in its plays: they hold its output."""
+    program = [sys.executable, str(TOP / "bench" / "reality"), "--story", "outage", "--limit", "quota"]
+    environment = {**os.environ, "PYTHONPATH": str(TOP / "python" / "src")}
+    killed = subprocess.Popen(program, env=environment, stdout=subprocess.PIPE, stderr=subprocess.PIPE)
+    assert killed.stdout is not None and killed.stderr is not None
+    began = killed.stderr.readline()
+    killed.kill()
+    killed.wait()
+    # (a play goes on for a minute)
+    is_left = not select.select([killed.stdout], [], [], 45)[0]
+    killed.stdout.close()
+    killed.stderr.close()
+    return [f"processes are left of a program that was killed after {began!r}"] if is_left or not began else []
+
+
 def looks_at(play: Measured, is_void: bool) -> List[str]:
     """What is wrong with a play."""
     figures, wrong = play.figures, []
@@ -118,7 +136,7 @@ def looks_at(play: Measured, is_void: bool) -> List[str]:
 
 
 def main() -> int:
-    wrong = looks_at_rules() + looks_at_pages()
+    wrong = looks_at_rules() + looks_at_pages() + looks_at_leaving()
     compare.POINTS, compare.CALLS = POINTS, CALLS
     plays = played([Row(SMALL, "none"), Row(SMALL, "quota")], 2, lambda play: print(told(play), flush=True), TRIES)
     for play in plays:

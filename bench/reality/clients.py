@@ -5,6 +5,7 @@ from __future__ import annotations
 import asyncio
 import socket
 import struct
+import sys
 from dataclasses import dataclass, field
 from itertools import cycle
 from multiprocessing.connection import Connection
@@ -114,8 +115,10 @@ async def _ask(port: int) -> None:
 def _kind_of(story: Story) -> Type[Population]:
     if not story.is_nginx:
         return LinePopulation
-    from web import WebPopulation  # which needs aiohttp
-
+    try:
+        from web import WebPopulation
+    except ImportError as error:
+        raise SystemExit(f"bench/reality: expected aiohttp (on Debian python3-aiohttp): {error}") from None
     return WebPopulation
 
 
@@ -123,6 +126,8 @@ async def _play(pipe: Connection, story: Story, clients: Clients, ports: List[in
     kind = _kind_of(story)
     pipe.send("ready")
     clock = PlayClock(await told(pipe))
+    # (nothing more is sent: it can be read once the one who would is gone)
+    asyncio.get_running_loop().add_reader(pipe.fileno(), sys.exit)
     await until(clock, 0.0)
     pace = Pace(clock)
     ticking = asyncio.create_task(pace.keep())

@@ -24,6 +24,11 @@ events {{ worker_connections 8192; }}
 http {{
   access_log off;
   keepalive_timeout 0;
+  client_body_temp_path {folder}/body;
+  proxy_temp_path {folder}/proxy;
+  fastcgi_temp_path {folder}/fastcgi;
+  uwsgi_temp_path {folder}/uwsgi;
+  scgi_temp_path {folder}/scgi;
   limit_req_zone $server_addr zone=peer:1m rate={capacity}r/s;
   server {{
     listen 127.0.0.1:{port} backlog=4096;

@@ -3,9 +3,12 @@
 from __future__ import annotations
 
 import multiprocessing
+import signal
+import sys
 import time
 from dataclasses import dataclass
 from multiprocessing.connection import Connection
+from types import FrameType
 from typing import Callable, Dict, Iterable, List, NamedTuple, Optional, Sequence
 
 from clients import Clients, Tally, run_clients
@@ -58,7 +61,7 @@ class _Process:
 
     def __init__(self, target: Callable[..., None], *given: object) -> None:
         self.pipe, other = _SPAWN.Pipe()
-        self._process = _SPAWN.Process(target=target, args=(other, *given), daemon=True)
+        self._process = _SPAWN.Process(target=_run, args=(target, other, *given), daemon=True)
         self._process.start()
         other.close()
 
@@ -67,6 +70,20 @@ class _Process:
         self._process.join(10)
         self._process.kill()
         self.pipe.close()
+
+
+def _run(target: Callable[..., None], *given: object) -> None:
+    """Runs a process up to its end, or to that of the one that started it."""
+    for number in (signal.SIGINT, signal.SIGTERM):
+        signal.signal(number, _leave)
+    try:
+        target(*given)
+    except (EOFError, BrokenPipeError):
+        pass
+
+
+def _leave(number: int, _: Optional[FrameType]) -> None:
+    raise SystemExit(128 + number)
 
 
 class _Play:
@@ -110,6 +127,7 @@ def round_of(rows: Iterable[Row]) -> List[Played]:
     for play in plays:
         for pipe in play.pipes:
             pipe.send(start)
+    print(f"bench/reality: {len(plays)} plays begin", file=sys.stderr, flush=True)
     return [play.over() for play in plays]
 
 

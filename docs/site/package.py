@@ -18,6 +18,7 @@ PAGES = {
     "tenacity": ("tenacity", ["hikebox.adapters.tenacity"], ("",)),
     "backoff": ("backoff", ["hikebox.adapters.backoff"], ("",)),
     "errors": ("Exceptions", ["hikebox"], ("hikebox.errors",)),
+    "metrics": ("Metrics", ["hikebox.metrics"], ("",)),
     "testing": ("Tests", ["hikebox.testing"], ("",)),
 }
 # The classes of other libraries, whose members are not shown.

@@ -16,6 +16,7 @@ from typing import Any, Dict, List, Optional, Tuple
 import pytest
 from conftest import TOP, python_environment
 from hikebox import Policy
+from hikebox.retry.watch import watch
 
 #: Libraries that are no package of Debian 12: their blocks are run where they are installed, and else read.
 NOT_DEBIANS = ["opentelemetry"]
@@ -50,6 +51,7 @@ def run_shell(text: str, folder: Path) -> str:
 @pytest.mark.parametrize("page", PAGES)
 def test_each_block_does_what_the_page_says(page: str, tmp_path: Path, monkeypatch: Any, request: Any) -> None:
     monkeypatch.chdir(TOP)
+    monkeypatch.setattr(watch, "watchers", ())  # (a page has the retries of this process counted)
     names: Dict[str, Any] = {"folder": str(tmp_path)}
     if "import redis" in (TOP / page).read_text():
         monkeypatch.setenv("REDIS_PORT", str(request.getfixturevalue("redis_server")().port))

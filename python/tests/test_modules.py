@@ -61,7 +61,7 @@ def users_of(module: Path) -> List[Path]:
 
 def test_a_module_with_one_user_has_30_lines() -> None:
     small = [path for path in MODULES if len(path.read_text().splitlines()) < 30 and not path.stem.startswith("__")]
-    outside = {"hikebox_program"}  # which the entry point of the wheel names
+    outside = {"hikebox_program", "hikebox_pytest"}  # which the entry points of the wheel name
     assert [path.stem for path in small if path.stem not in outside and len(users_of(path)) < 2] == []
 
 
@@ -85,8 +85,12 @@ def loaded_by(text: str) -> List[str]:
 def test_import_hikebox_loads_nothing_of_storms_of_the_lab_or_of_adapters() -> None:
     loaded = loaded_by("import hikebox")
     assert "hikebox.retrying" in loaded
-    parts = ("advice", "storms", "lab", "adapters", "cli", "sweeps", "leased")
+    parts = ("advice", "storms", "lab", "adapters", "cli", "sweeps", "leased", "metrics")
     assert [name for name in loaded if name.startswith(tuple(f"hikebox.{part}" for part in parts))] == []
+
+
+def test_the_plugin_of_pytest_loads_nothing_of_the_package() -> None:
+    assert loaded_by("import hikebox_pytest") == ["hikebox_pytest"]
 
 
 def test_hikebox_plan_loads_nothing_of_storms_or_of_the_lab() -> None:

@@ -14,8 +14,8 @@ from hikebox.testing import VirtualClock
 #: A retry each second, whose policy reads codes; and one with jitter.
 POLICY = (recurs(3) & spaced(1)).while_input(below=600)
 JITTERED = spaced(1).jittered(0, 1)
-#: A call that fails with this code, and one that succeeds after so many seconds.
-FAILS, TAKES = 503, 2.5
+#: A call that fails with this code, one that succeeds after so many seconds, and one that waits as a coroutine.
+FAILS, TAKES, HANGS = 503, 2.5, "hangs"
 
 
 class Seen(NamedTuple):
@@ -59,7 +59,11 @@ class Watched:
         return outcome
 
     async def call_later(self) -> Any:
-        return self.call()
+        outcome = self.call()
+        if outcome == HANGS:
+            await asyncio.sleep(0.05)
+            return WON
+        return outcome
 
 
 #: Values of options that are made anew for each retry, with what it is watched by.
@@ -106,6 +110,7 @@ CASES: Dict[str, Case] = {
         {"wait": lambda state: 9},
     ),
     "deadline": Case({"deadline": 1.5}, [FAILS, FAILS, WON], TWICE, Seen("DEADLINE", 2, [1], [])),
+    "attempt_timeout": Case({"attempt_timeout": 0.01}, [HANGS, WON], AT_ONCE, Seen(WON, 2, [1], [])),
     "stop": Case(
         {"stop": lambda state: state.attempt_number == 2}, [FAILS, FAILS, WON], TWICE, Seen("STOPPED", 2, [1], [])
     ),
@@ -177,9 +182,16 @@ async def awaiting(kind: str, retrying: AsyncRetrying, watched: Watched) -> Any:
     return result
 
 
+#: The kinds of calls that take an option, where not all do.
+TAKEN_BY = {"attempt_timeout": ["coroutines"]}
+
+
 @pytest.mark.parametrize("kind", ["calls", "a loop", "coroutines", "an async loop"])
 @pytest.mark.parametrize("name", OPTIONS)
 def test_an_option_has_its_effect(name: str, kind: str) -> None:
+    if kind not in TAKEN_BY.get(name, [kind]):
+        assert seen(kind, POLICY, [WON], CASES[name].given) == Seen("TypeError", 0, [], [])
+        return
     case = CASES[name]
     assert seen(kind, case.policy, case.outcomes, case.beside) == case.without
     assert seen(kind, case.policy, case.outcomes, {**case.beside, **case.given}) == case.with_it

@@ -93,6 +93,7 @@ def test_the_engine_is_that_of_the_machine(
     assert (name, inside) == (f"hikebox-{VERSION}-py3-none-{tag}.whl", engine)
     assert {"hikebox_program.py", "hikebox/py.typed", "hikebox/adapters/httpx.py"} <= files
     assert {"hikebox/lab/page.html", "hikebox/lab/lab.css", "hikebox/lab/lab.js"} <= files
+    assert "hikebox_pytest.py" in files
     done = build("wheel", with_engines, tmp_path / "b", HIKEBOX_PLATFORM=machine)
     assert engine_in(tmp_path / "b") == (name, files, inside)
 

@@ -19,6 +19,7 @@ from .budgets.limit import Limit
 from .budgets.tickets import Refusal, RefusalReason, Ticket
 from .built import BuildInfo, build_info
 from .errors import (
+    AttemptTimeout,
     LimitClosed,
     LimitError,
     LimitInUse,
@@ -35,7 +36,7 @@ from .errors import (
     TicketError,
     TryAgain,
 )
-from .limits import Breaker, Bucket, CallLimit, InFlight, Request, Throttle, both
+from .limits import Breaker, Bucket, CallLimit, InFlight, PerHost, PerKey, Request, Throttle, both
 from .log import after_log, before_log, before_sleep_log
 from .policy import Policy, Step
 from .policy.builders import (
@@ -90,6 +91,7 @@ __all__ = [
     "AsyncRepeating",
     "AsyncRetrying",
     "Attempt",
+    "AttemptTimeout",
     "Breaker",
     "Bucket",
     "Budget",
@@ -108,6 +110,8 @@ __all__ = [
     "Milliseconds",
     "NotAdmitted",
     "Outcome",
+    "PerHost",
+    "PerKey",
     "Policy",
     "PolicyError",
     "Population",

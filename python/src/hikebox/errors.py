@@ -9,6 +9,7 @@ if TYPE_CHECKING:
     from .budgets.tickets import Refusal
 
 __all__ = [
+    "AttemptTimeout",
     "LimitClosed",
     "LimitError",
     "LimitInUse",
@@ -142,6 +143,10 @@ class NotAdmitted(HikeboxError):
 
 class TryAgain(HikeboxError):
     """Raise it in a call to have it retried, whatever `on` says."""
+
+
+class AttemptTimeout(HikeboxError, TimeoutError):
+    """An attempt took longer than its `attempt_timeout`, and was cancelled."""
 
 
 class ResultRefused(HikeboxError):

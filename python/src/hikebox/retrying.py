@@ -61,7 +61,7 @@ def look_at_names(called: str, given: Iterable[str], known: Iterable[str]) -> No
         if name not in known:
             import difflib
 
-            near = difflib.get_close_matches(name, known, 1)
+            near = difflib.get_close_matches(name, known, 1, 0.65)
             hint = f"; did you mean {near[0]!r}?" if near else ""
             raise TypeError(f"{called}() got an unexpected keyword argument {name!r}{hint}")
 

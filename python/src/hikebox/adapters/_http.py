@@ -6,7 +6,7 @@ import inspect
 import weakref
 from functools import partial
 from threading import get_ident
-from typing import Any, ClassVar, Collection, Dict, Generator, Optional, Tuple, Type, TypeVar, Union
+from typing import Any, ClassVar, Collection, Dict, Generator, List, Optional, Tuple, Type, TypeVar, Union
 
 from ..errors import ResultRefused
 from ..http import is_bad, methods_of, retry_after, retry_after_of, statuses_of
@@ -51,7 +51,8 @@ _COMMON = """
         The methods that may be repeated. A request with another method, or with a body that can't be sent again, such
         as a stream, is retried only if no connection was made.
 
-    It takes the options of `Retrying` too, such as `limit` and `deadline`. A request that a limit doesn't admit raises
+    It takes the options of `Retrying` too, such as `limit` and `deadline`. With a `PerHost` as the limit, each host has
+    one of its own; the key of another `PerKey` is told the request. A request that a limit doesn't admit raises
     a `NotAdmitted`. Each wait is the policy's, or the `Retry-After` of the response if that is longer, up to
     `max_retry_after` seconds. The policy's input is the status of the response. When the retry ends, you get the last
     response, or the last error is raised. With a `deadline`, the time that is left is the timeout of each attempt,
@@ -72,7 +73,7 @@ class Call:
     They are one request of a quota, have one deadline, and share the number of retries that the policy has.
     """
 
-    __slots__ = ("owner", "start", "deadline", "retries", "hops", "requests", "leads_on")
+    __slots__ = ("owner", "start", "deadline", "retries", "hops", "requests", "leads_on", "may_repeat", "_counted_by")
 
     def __init__(self, owner: BaseRetrying) -> None:
         settings = owner.settings
@@ -87,6 +88,10 @@ class Call:
         self.requests: weakref.WeakSet[Any] = weakref.WeakSet()
         #: Whether the answer to the latest of them is a redirect, which may be followed.
         self.leads_on = False
+        #: Whether the latest of them may be made twice.
+        self.may_repeat = True
+        #: The limits that have counted it.
+        self._counted_by: List[Any] = []
 
     @classmethod
     def of(cls, owner: BaseRetrying, kept: Dict[str, Any], request: Any) -> Call:
@@ -107,6 +112,13 @@ class Call:
 
     def __reduce__(self) -> Any:
         return type(None), ()  # a request that is copied or pickled begins another call
+
+    def is_counted_by(self, limit: Any) -> bool:
+        """Whether a limit has counted it; from now on it has."""
+        is_counted = any(each is limit for each in self._counted_by)
+        if not is_counted:
+            self._counted_by.append(limit)
+        return is_counted
 
     def is_late(self) -> bool:
         """Whether its deadline has passed before a redirect could be followed."""
@@ -141,6 +153,8 @@ class PolicyClient:
         name = type(self).__name__
         if "on_result" in how:
             raise TypeError(f"{name}() takes no on_result: on_status says which answers are retried")
+        if how.get("attempt_timeout") is not None:
+            raise TypeError(f"{name}() takes no attempt_timeout: the client's own timeout is for each attempt")
         look_at_names(name, how, {*_PARAMETERS, *inspect.signature(type(self)).parameters})
         if read_up_to is not None and (type(read_up_to) is not int or read_up_to < 0):
             raise TypeError(f"read_up_to: expected a number of bytes or None, got {read_up_to!r}")
@@ -163,11 +177,14 @@ class PolicyClient:
         """The steps of one request of a call; their answer is its response."""
         if call.is_late():
             raise self._too_late(request)
+        call.may_repeat = may_repeat
         owner = self.retrying if may_repeat else self._careful
+        if owner.settings.per_key is not None:
+            owner = owner.settings.per_key.retrying_of(owner, (self._told(request),), {})
         progress = Progress(owner, self._attempt, (request,), start=call.start, deadline=call.deadline)
         token = None if call.deadline is None else enter(call.deadline)
         call.hops += 1
-        driven = steps(progress, is_counted=call.hops > 1)
+        driven = steps(progress, is_counted=call.is_counted_by(owner.limit))
         try:
             want = yield from asked(driven, driven.send(None))
             while want is RUN:
@@ -200,7 +217,7 @@ class PolicyClient:
                 raise
         else:
             call.leads_on = not is_refused and self._leads_on(response)
-            if call.leads_on or (is_refused and progress.state.retry_object is self._careful):
+            if call.leads_on or (is_refused and not call.may_repeat):
                 return _gives(progress, response, Ending.WON if call.leads_on else Ending.NOT_RETRIED)
             want = yield from asked(driven, driven.send(_Answered(response, is_refused)))
             if isinstance(want, float):
@@ -221,6 +238,10 @@ class PolicyClient:
         return is_bad(response.status if status is None else status, self.on_status, "Retry-After" in response.headers)
 
     # What each client does in its own way
+
+    def _told(self, request: Any) -> Any:
+        """The request as the key of a `PerKey` is told it."""
+        return request
 
     def _attempt(self, request: Any) -> Any:
         """Makes the request once, up to the head of its response."""

@@ -17,6 +17,7 @@ from typing import Any, Collection, Dict, Generator, List, Optional, Union
 import aiohttp
 from aiohttp.base_protocol import BaseProtocol
 from aiohttp.http_exceptions import HttpProcessingError
+from yarl import URL
 
 from ..http import METHODS, STATUSES
 from ..policy import Policy
@@ -99,6 +100,11 @@ class PolicySession(PolicyClient):
         """A PUT request."""
         return self.request("PUT", url, **how)
 
+    def whole(self, url: Any) -> Any:
+        """A URL of a request, below that of the session if it has one."""
+        base = getattr(self.session, "_base_url", None)
+        return url if base is None else base.join(URL(url))
+
     async def _made(self, request: PolicyRequest) -> aiohttp.ClientResponse:
         """The response to a request, or to the last attempt of it."""
         call = Call(self.retrying)
@@ -108,7 +114,7 @@ class PolicySession(PolicyClient):
 
     def _attempt(self, request: PolicyRequest) -> Any:
         how = {**request.how, "raise_for_status": False}
-        return _in_time(self.session.request(request.method, request.url, **how))
+        return _in_time(self.session.request(request.method, request.given, **how))
 
     async def _accepts(self, request: PolicyRequest, response: aiohttp.ClientResponse) -> None:
         try:
@@ -141,11 +147,13 @@ class PolicySession(PolicyClient):
 class PolicyRequest:
     """A request that is made once it is awaited, or entered by `async with`, which lets its response go."""
 
-    __slots__ = ("method", "url", "how", "_client", "_response", "_check")
+    __slots__ = ("method", "url", "given", "how", "_client", "_response", "_check")
 
     def __init__(self, client: PolicySession, method: str, url: Any, how: Dict[str, Any]) -> None:
         self.method = method.upper()
-        self.url = url
+        #: Where it goes, whole; and as the session is told it, which may have a `base_url`.
+        self.url = client.whole(url)
+        self.given = url
         form = how.get("data")
         #: What the session is given. A form makes its body once.
         self.how = {**how, "data": form()} if isinstance(form, aiohttp.FormData) else how

@@ -18,7 +18,7 @@ from __future__ import annotations
 
 from typing import Any, Callable, Dict, Generator, Optional, Union
 
-from ..limits import CallLimit
+from ..limits import CallLimit, look_at_no_keys
 from ..policy import Policy
 from ..retry.progress import Progress
 from ..retry.state import Outcome
@@ -42,6 +42,7 @@ def wait_gen(policy: Union[Policy, str, bytes, Dict[str, Any]], **how: Any) -> C
     if isinstance(how.get("limit"), CallLimit):
         kind = type(how["limit"]).__name__
         raise TypeError(f"wait_gen() takes no {kind}: it is told of each success, and backoff tells of failures alone")
+    look_at_no_keys("wait_gen()", how.get("limit"), "backoff")
     retrying = Retrying(policy, **how)
 
     def waits() -> Told:

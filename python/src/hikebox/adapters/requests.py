@@ -114,6 +114,9 @@ class PolicyAdapter(PolicyClient, HTTPAdapter):
         """Whether the request may be made twice: its method allows that, and its body is still there."""
         return str(request.method).upper() in self.methods and is_kept(request.body, request._body_position)
 
+    def _told(self, hop: _Hop) -> Any:
+        return hop.request
+
     def _attempt(self, hop: _Hop) -> Any:
         hop.attempts += 1
         if hop.attempts > 1 and isinstance(hop.request._body_position, int):

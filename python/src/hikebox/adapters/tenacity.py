@@ -22,7 +22,7 @@ from tenacity.stop import stop_base
 from tenacity.wait import wait_base
 
 from ..leased import LeasedQuota
-from ..limits import look_at_no_limit
+from ..limits import look_at_no_keys, look_at_no_limit
 from ..policy import Policy
 from ..quota import Quota
 from ..retry.progress import Progress
@@ -42,6 +42,7 @@ def stop_and_wait(policy: Union[Policy, str, bytes, Dict[str, Any]], **how: Any)
     a quota, `before_deposit` counts each request at its first attempt, and no ticket comes back.
     """
     look_at_no_limit("stop_and_wait()", how.get("limit"), "tenacity")
+    look_at_no_keys("stop_and_wait()", how.get("limit"), "tenacity")
     shared = _Shared(Retrying(policy, **how))
     return _Stop(shared), _Wait(shared)
 

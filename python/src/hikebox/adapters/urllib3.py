@@ -15,7 +15,7 @@ from urllib3.util.retry import Retry
 
 from ..budgets.limit import Limit
 from ..http import METHODS, STATUSES, is_bad, parse_retry_after, statuses_of
-from ..limits import look_at_no_limit
+from ..limits import look_at_no_keys, look_at_no_limit
 from ..policy import Policy
 from ..retry.drivers import settle, slept
 from ..retry.progress import Progress
@@ -89,6 +89,7 @@ class PolicyRetry(Retry):
         how = {name: kw.pop(name) for name in _HOW if name in kw}
         if policy is not None:
             look_at_no_limit(f"{type(self).__name__}()", limit, "urllib3")
+            look_at_no_keys(f"{type(self).__name__}()", limit, "urllib3")
             kw = _retrys(type(self).__name__, on_status, kw)
         super().__init__(**kw)
         #: How it retries, or None where it is a `Retry` without a policy.

@@ -139,7 +139,8 @@ def _tell_request(state: RetryState) -> None:
         try:
             quota.seen()
         except StoreError as error:
-            logger.warning("%s: %s; it grants nothing until it can be reached", quota.name, error)
+            text = "%s: %s; it grants nothing until it can be reached"
+            logger.warning(text, quota.name, error, extra={"hikebox_limit": quota.name})
 
 
 class Runner:

@@ -142,7 +142,7 @@ class Leases(Limit):
             drawn = self._drawn_anew()
             notes, self._notes = self._notes, []
         for text, *told in notes:
-            logger.warning(text, *told)
+            logger.warning(text, *told, extra={"hikebox_limit": self.name})
         return drawn
 
     async def draw_async(self) -> Union[Ticket, Refusal]:

@@ -85,7 +85,8 @@ class SharedLimit(CallLimit):
 
     def _tell(self, error: StoreError) -> None:
         if not self._is_told:
-            logger.warning("%s: %s; it grants no retry until it can be reached", self.name, error)
+            text = "%s: %s; it grants no retry until it can be reached"
+            logger.warning(text, self.name, error, extra={"hikebox_limit": self.name})
         self._is_told = True
         self._error = error.with_traceback(None)
 

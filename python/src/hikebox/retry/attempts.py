@@ -81,7 +81,12 @@ class _BaseAttempts:
     """
 
     def __init__(self, owner: BaseRetrying) -> None:
-        self.progress = Progress(owner)
+        if owner.settings.attempt_millis is not None:
+            raise TypeError(
+                "attempt_timeout: expected a coroutine function; in the block of a loop use asyncio.timeout"
+            )
+        per_key = owner.settings.per_key
+        self.progress = Progress(owner if per_key is None else per_key.retrying_of(owner, (), {}))
         #: The steps of the retry, once something is to be done for it.
         self.steps: Optional[Steps] = None
         #: What the retry wants, once it began.

@@ -10,6 +10,8 @@ from .kinds import is_async, unwrapped
 from .progress import Progress
 from .state import Outcome
 from .steps import OVER, RAISE, RUN, Settled, Steps, steps
+from .waits import in_time
+from .watch import watch
 
 if TYPE_CHECKING:
     from ..retrying import BaseRetrying
@@ -89,6 +91,8 @@ def run(owner: BaseRetrying, fn: Callable[..., Any], args: Any, kwargs: Any) -> 
                 request = settings.drawing()
                 refusal = request.admit()
         if refusal is not None or not settings.is_quiet:
+            if settings.per_key is not None:
+                return run(settings.per_key.retrying_of(owner, args, kwargs), fn, args, kwargs)
             progress = Progress(owner, fn, args, kwargs, start, deadline, request, refusal)
             driven = steps(progress)
             return _attempts(progress, driven, settle(driven, driven.send(None)))
@@ -107,6 +111,8 @@ def run(owner: BaseRetrying, fn: Callable[..., Any], args: Any, kwargs: Any) -> 
             if type(result) is CoroutineType:
                 refuse_awaitable(repr(fn), result, settings.repeats)
             owner.counts.add_success()
+            if watch.watchers:
+                watch.succeeded(fn)
             if request is not None:
                 request.won()
                 request = None
@@ -175,12 +181,16 @@ async def run_async(owner: BaseRetrying, fn: Callable[..., Any], args: Any, kwar
                 request = settings.drawing()
                 refusal = request.admit()
         if refusal is not None or not settings.is_quiet:
+            if settings.per_key is not None:
+                return await run_async(settings.per_key.retrying_of(owner, args, kwargs), fn, args, kwargs)
             progress = Progress(owner, fn, args, kwargs, start, deadline, request, refusal)
             driven = steps(progress)
             want = await settle_async(driven, driven.send(None))
         while want is RUN:
             try:
                 awaitable = fn(*args, **kwargs)
+                if settings.attempt_millis is not None and hasattr(type(awaitable), "__await__"):
+                    awaitable = in_time(awaitable, settings.attempt_millis)
                 result = await awaitable if hasattr(type(awaitable), "__await__") else _NOT_AWAITABLE
             except BaseException as error:
                 if progress is None:
@@ -199,6 +209,8 @@ async def run_async(owner: BaseRetrying, fn: Callable[..., Any], args: Any, kwar
                     raise TypeError(f"{fn!r} returned nothing to await: {_plain(settings.repeats)} is for functions")
                 if progress is None:
                     owner.counts.add_success()
+                    if watch.watchers:
+                        watch.succeeded(fn)
                     if request is not None:
                         request.won()
                         request = None

@@ -73,7 +73,13 @@ def mark(error: BaseException, state: RetryState, note: str) -> None:
 
 def _fields(state: RetryState, **more: Any) -> Dict[str, Any]:
     """The fields of a log record."""
-    return {"hikebox_call": state.name, "hikebox_attempt": state.attempt_number, **more}
+    fields: Dict[str, Any] = {"hikebox_call": state.name, "hikebox_attempt": state.attempt_number, **more}
+    error = None if state.outcome is None else state.outcome.error
+    if error is not None:
+        fields["hikebox_error"] = type(error).__qualname__
+    if state.refusal is not None:
+        fields["hikebox_refusal"] = state.refusal.reason.name
+    return fields
 
 
 def _told(outcome: Optional[Outcome]) -> str:

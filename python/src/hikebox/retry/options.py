@@ -26,8 +26,8 @@ from ..budget import Budget
 from ..budgets.drawing import ByCall
 from ..budgets.limit import Limit
 from ..budgets.passes import UNLIMITED, Grants
-from ..errors import LimitClosed, TermsError, TryAgain
-from ..limits import CallLimit
+from ..errors import AttemptTimeout, LimitClosed, TermsError, TryAgain
+from ..limits import CallLimit, PerKey
 from ..policy import Policy
 from ..quota import Quota
 from .kinds import hooks_of, look_at_function, parts_of_on, stop_of
@@ -102,7 +102,23 @@ Stop = Union[Event, Callable[[RetryState], bool]]
 
 def _on_follows(settings: Settings) -> None:
     types, settings.tests = parts_of_on(settings.on, settings.awaits)
-    settings.types = (*types, TryAgain)
+    is_timed = settings.attempt_timeout is not None and not settings.repeats
+    settings.types = (*types, TryAgain, AttemptTimeout) if is_timed else (*types, TryAgain)
+
+
+def _attempt_timeout_follows(settings: Settings) -> None:
+    settings.attempt_millis = _above_0("attempt_timeout", settings.attempt_timeout)
+    if settings.attempt_timeout is not None and not settings.awaits:
+        told = "expected a coroutine function: an attempt of a thread can't be ended; bound what it waits for"
+        raise TypeError(f"attempt_timeout: {told}, as by a timeout of its client")
+
+
+def _above_0(name: str, duration: Optional[Duration]) -> Optional[int]:
+    """The milliseconds of a time, which may not be 0."""
+    millis = None if duration is None else seconds(duration, name)
+    if millis == 0:
+        raise TermsError(f"{name}: expected a time above 0, got {duration!r}")
+    return millis
 
 
 def _hooks_follow(settings: Settings) -> None:
@@ -128,10 +144,8 @@ def _deadline_follows(settings: Settings) -> None:
 
 
 def _slow_follows(settings: Settings) -> None:
-    settings.slow_millis = None if settings.slow is None else seconds(settings.slow, "slow")
-    if settings.slow_millis == 0:
-        raise TermsError(f"slow: expected a time above 0, got {settings.slow!r}")
-    if settings.slow is not None and not isinstance(settings.limit, CallLimit):
+    settings.slow_millis = _above_0("slow", settings.slow)
+    if settings.slow is not None and not isinstance(settings.limit, (CallLimit, PerKey)):
         wanted = "expected a limit that hears how calls end, such as a Breaker or a Bucket, beside it"
         raise TypeError(f"slow: {wanted}, got limit={settings.limit!r}")
 
@@ -144,6 +158,7 @@ def _waits_follow(settings: Settings) -> None:
 
 def _drawing_follows(settings: Settings) -> None:
     limit = settings.limit
+    settings.per_key = limit if isinstance(limit, PerKey) else None
     settings.grants, settings.drawing = _grants_of(limit, settings.clock, settings.awaits)
     settings.deposit, settings.deposit_won = _deposits(limit)
     settings.asks_limit = isinstance(limit, CallLimit)
@@ -153,6 +168,10 @@ def _drawing_follows(settings: Settings) -> None:
 def _grants_of(limit: Any, clock: Any, awaits: bool) -> Tuple[Grants, Any]:
     """What grants the engine's retry its tickets, and what makes the drawing of a retry that draws elsewhere."""
     if limit is None:
+        return UNLIMITED, None
+    if isinstance(limit, PerKey):
+        if limit.key is None:
+            raise TypeError("limit: expected a PerKey with key=.., or per_key[..], the limit of one key")
         return UNLIMITED, None
     draw = getattr(limit, "draw", None)
     if isinstance(limit, type):
@@ -254,7 +273,7 @@ class Options:
         None,
         """What bounds the retries of all calls together: a `Budget`, a `Quota`, a `Breaker` or another `Limit`, or
         other `Tickets`; None for no limit. A quota counts each call as a request. A breaker may refuse a first attempt
-        too, which raises a `NotAdmitted`.""",
+        too, which raises a `NotAdmitted`. A `PerKey` bounds the calls of each key by a limit of their own.""",
         _drawing_follows,
         shapes=True,
     )
@@ -309,6 +328,14 @@ class Options:
         ends and its ticket comes back. `seconds_left()` tells the call how long it has.""",
         _deadline_follows,
         shapes=True,
+    )
+    attempt_timeout: Optional[Duration] = option(
+        None,
+        """How long an attempt of a coroutine function may take, by the clock of asyncio or trio: seconds, or a
+        `timedelta`. Then it is cancelled, and has failed with an `AttemptTimeout`, which is retried whatever `on` says.
+        The attempt of a thread or of a loop can't be ended, so there it is a `TypeError`.""",
+        _attempt_timeout_follows,
+        _on_follows,
     )
     stop: Optional[Stop] = option(
         None,

@@ -14,6 +14,7 @@ from ..policy.preview import word_of
 from .deadline import Deadline
 from .marks import DEBUG, late, log_wait
 from .state import ENDINGS, Ending, Outcome, RetryState
+from .watch import watch
 
 if TYPE_CHECKING:
     from ..retrying import BaseRetrying
@@ -205,6 +206,8 @@ class Progress:
                 self._until = max(self._until, self._whole(self.seconds() + delay))
         state.upcoming_sleep = delay
         state.idle_for += delay
+        if watch.watchers:
+            watch.waits(self, delay)
         if self._logs:
             log_wait(state, delay)
         elif settings.lets_go and state.fn is not None:
@@ -300,6 +303,8 @@ class Progress:
             state.ending = Ending.CANCELLED
         assert state.retry_object is not None
         state.retry_object.counts.add(state.attempt_number, state.idle_for, state.ending)
+        if watch.watchers:
+            watch.ended(self, is_finalized=not serves_others)
 
     def __del__(self) -> None:
         try:

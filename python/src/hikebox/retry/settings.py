@@ -66,6 +66,8 @@ class Settings(HasOptions):
     drawing: Any
     #: Whether what it draws on is a limit that calls ask before their first attempt, and that hears how each ended.
     asks_limit: bool
+    #: What has a limit for each call's key. A call is then retried by another one's settings, which have that limit.
+    per_key: Any
     #: What counts a request at the first attempt, and what counts it at the success, where the limit counts any.
     deposit: Optional[Callable[[], Any]]
     deposit_won: Optional[Callable[[], Any]]
@@ -86,6 +88,8 @@ class Settings(HasOptions):
     lets_go: bool
     #: How many seconds these may ask for at most.
     most_wait: float
+    #: The milliseconds after which an attempt is cancelled.
+    attempt_millis: Optional[int]
     #: The milliseconds of the deadline.
     deadline_millis: Optional[int]
 
@@ -116,7 +120,7 @@ class Settings(HasOptions):
     def _derive_shape(self) -> None:
         """Works out what a retry can leave out."""
         self.asks = self.retry_after is not None or self.wait is not None
-        looks = self.on_result is not None or self.slow_millis is not None
+        looks = self.on_result is not None or self.slow_millis is not None or self.per_key is not None
         self.is_quiet = not (self.repeats or self.hooks_before or self.hooks_on_success or looks)
         self.draws_elsewhere = self.drawing is not None and not self.asks_limit
         self.takes_time = bool(self.hooks_after or self.asks or self.draws_elsewhere or self.stop is not None)

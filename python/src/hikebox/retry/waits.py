@@ -9,9 +9,11 @@ from functools import lru_cache, partial
 from typing import Any, Callable, Dict, Optional
 
 from .._forks import begins_anew_in_a_child
+from .._time import seconds_text
+from ..errors import AttemptTimeout
 from .kinds import is_async, look_at_function
 
-__all__ = ["pause_of", "sleep_of", "switch"]
+__all__ = ["in_time", "pause_of", "sleep_of", "switch"]
 
 Sleep = Callable[[float], Any]
 
@@ -193,6 +195,53 @@ def _pause(sleep: Sleep, _: float) -> Any:
     if library == "asyncio":
         return sys.modules["asyncio"].sleep(0)
     return sys.modules["trio"].sleep(0) if library == "trio" else sleep(0)
+
+
+async def in_time(awaitable: Any, millis: int) -> Any:
+    """Awaits something for at most so many milliseconds; then it is cancelled, and an `AttemptTimeout` is raised."""
+    library = _library()
+    if library == "trio":
+        with sys.modules["trio"].move_on_after(millis / 1000):
+            return await awaitable
+    elif library == "asyncio":
+        timeout = getattr(sys.modules["asyncio"], "timeout", _TimeoutByTask)(millis / 1000)
+        try:
+            async with timeout:
+                return await awaitable
+        except TimeoutError:
+            if not timeout.expired():
+                raise
+    else:
+        getattr(awaitable, "close", int)()
+        raise RuntimeError("attempt_timeout: expected a coroutine that asyncio or trio runs")
+    raise AttemptTimeout(f"the attempt took longer than {seconds_text(millis)} s")
+
+
+class _TimeoutByTask:
+    """What asyncio.timeout is, which Python 3.9 and 3.10 lack: it cancels the task, and knows that it did."""
+
+    def __init__(self, seconds: float) -> None:
+        self.seconds = seconds
+        self._is_expired = False
+
+    def expired(self) -> bool:
+        """Whether it has cancelled the task."""
+        return self._is_expired
+
+    async def __aenter__(self) -> None:
+        import asyncio
+
+        self._task: Any = asyncio.current_task()
+        self._timer = asyncio.get_running_loop().call_later(self.seconds, self._expire)
+
+    def _expire(self) -> None:
+        self._is_expired = True
+        self._task.cancel()
+
+    async def __aexit__(self, kind: Any, error: Any, trace: Any) -> None:
+        self._timer.cancel()
+        if self._is_expired and kind is sys.modules["asyncio"].CancelledError:
+            raise TimeoutError from error
 
 
 async def _sleep_in_asyncio(sleep: Sleep, event: Any, ends: Callable[[], Any], seconds: float) -> None:
