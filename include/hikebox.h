@@ -836,9 +836,9 @@ typedef struct {
  */
 hikebox_status hikebox_limit_look(hikebox_limit *limit, hikebox_seen *seen, bool *quiet);
 
-/* Begins a request that was admitted when a look of this handle, which was quiet, saw these words, and writes to `begun`
- * whether it did: nothing changes if a word is not quiet, or a request is under way. `begun` must hold a bool before the
- * call. HIKEBOX_EMPTY; _WRONG_KIND. */
+/* Begins a request that was admitted when a look of this handle, which was quiet, saw these words, and writes to
+ * `begun` whether it did: nothing changes if a word is not quiet, or a request is under way. `begun` must hold a bool
+ * before the call. HIKEBOX_EMPTY; _WRONG_KIND. */
 hikebox_status hikebox_limit_begin(hikebox_limit *limit, const hikebox_seen *seen, bool *begun);
 
 /*

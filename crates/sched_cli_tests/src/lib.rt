@@ -1,4 +1,5 @@
-//! Tests of the command line and of what it prints by public calls alone, without a second proof of these libraries.
+//! Tests of `sched_cli` by its public calls alone. They stand apart so that they are proved without a second proof of
+//! that library.
 #![tactic(auto)]
 
 #[cfg(test)]

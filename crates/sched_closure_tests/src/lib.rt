@@ -1,5 +1,4 @@
-//! Tests of limits, of what requests hold of them, and of closures that are retried, by public calls alone, without a
-//! second proof of these libraries. What each row wants was worked by hand.
+//! Tests of `sched_closure`, of its public calls alone: here they are proved without a second proof of that library.
 #![tactic(auto)]
 
 #[cfg(test)]

@@ -10,8 +10,8 @@ use Rattle.sched_limit.specs.declared.bucket.Bucket.{Bucket}
 use Rattle.sched_limit.specs.declared.breaker.Breaker.{Breaker}
 use Rattle.sched_limit.specs.declared.refusal.Refusal.{Refusal}
 
--- at this word a request is admitted, and its calls change nothing: its admission, a success, of whatever generation and
--- worth, and its end
+-- at this word a request is admitted, and its calls change nothing: its admission, a success, of whatever generation
+-- and worth, and its end
 pub record IsQuiet (next : Next) (refusal : Call → ℕ → Option Refusal) (word : ℕ) : Type 0 where
   pub granted : (now random before : ℕ) → refusal (Admit now random before) word ≡ None
   pub admits : (now random before : ℕ) → next (Admit now random before) word ≡ word

@@ -23,7 +23,8 @@ use Rattle.sched_limit_request.specs.Tells.{IsTold}
 
 module _ (m : Rules) (word : ℕ) (q : IsQuiet m.next m.refusal word) where
   admits_free : (now random : ℕ) (r : Request) (v : View)
-      → IsTold m (Admit now) random (record r { counted = false }) (Ok tt) (admitted (m.stamp word)) v (with_look v word)
+      → IsTold m (Admit now) random (record r { counted = false }) (Ok tt) (admitted (m.stamp word)) v
+      (with_look v word)
   admits_free now random r v =
       let c : Call = call.Admit now random 0 in
       let stays : m.next c word ≡ word = q.admits now random 0 in
@@ -86,8 +87,8 @@ module _ (m : Rules) (word : ℕ) (q : IsQuiet m.next m.refusal word) where
       (left_free o holds honest r kind)
 
   -- what it may give back, its pass has gained
-  pub held_at : (o : Tokens) (holds : Holds) → IsHonest o m holds → (r : Request) (moves : List Move) → r.counted ≡ false
-      → IsHeld o holds r moves → IsHeld o holds (admitted (m.stamp word)) moves
+  pub held_at : (o : Tokens) (holds : Holds) → IsHonest o m holds → (r : Request) (moves : List Move)
+      → r.counted ≡ false → IsHeld o holds r moves → IsHeld o holds (admitted (m.stamp word)) moves
   held_at o holds honest r moves free has = λ kind. omega (arith, left o holds honest r kind free, has kind)
 
 pub free_of : (a c : Bool) → (a && not c) ≡ true → c ≡ false

@@ -1,5 +1,5 @@
-//! Tests of the loop, of claims, workers, boards and scripted pools by public calls alone, without a second proof of
-//! these libraries.
+//! Tests of `sched_pool` by its public calls alone. They stand apart so that they are proved without a second proof of
+//! that library.
 #![tactic(auto)]
 
 #[cfg(test)]

@@ -1,5 +1,5 @@
-//! Tests of budgets, quotas, leases and draws by public calls alone, and examples of the budget's theorem, without a
-//! second proof of these libraries.
+//! Tests of `sched_ticket` by its public calls alone, and examples of its theorem. They stand apart so that they are
+//! proved without a second proof of that library.
 #![tactic(auto)]
 
 pub mod locked;

@@ -11,9 +11,7 @@ invariant_of-self g c =
     let m : Rules = rules g.M.Machine.next g.M.Refuses.refusal g.M.Refuses.generation g.M.Refuses.worth x in
     let quiet : IsQuiet m.next m.refusal c.args.word =
     rw (c.machine.ensures, c.deref.ensures) at (c.if-not-is_quiet.ensures.quiet (sym c.if-not-is_quiet.ensures.same)) in
-    let free : c.self.inside.hold.request.counted ≡ false = rw (← c.request.ensures) c.if-request.false in (
-      c.self.invariant.0,
-      rw (c.begin.ensures, c.generation.ensures, c.machine-2.ensures, c.deref-2.ensures) (held_at m c.args.word quiet (g.M.Machine.tokens x)
-          (g.M.Refuses.holds x) (g.met.M.Refuses.honest x) c.self.inside.hold.request c.self.inside.pass.has.moves free
-          c.self.invariant.1),
-    )
+    let free : c.self.inside.hold.request.counted ≡ false = rw (← c.request.ensures) c.if-request.false in
+    let has = held_at m c.args.word quiet (g.M.Machine.tokens x) (g.M.Refuses.holds x) (g.met.M.Refuses.honest x)
+    c.self.inside.hold.request c.self.inside.pass.has.moves free c.self.invariant.1 in
+    (c.self.invariant.0, rw (c.begin.ensures, c.generation.ensures, c.machine-2.ensures, c.deref-2.ensures) has)
