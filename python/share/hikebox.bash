@@ -12,14 +12,15 @@ _hikebox_options() {
       echo --steps:text --from:text --took:text --input:text --inputs:text --word:text --words:text --svg:file --width:text
       ;;
     storm)
-      echo --scenario:scenario --rate:text --rates:text --together:text --seconds:text --capacity:text --patience:text \
+      echo --log:file --fields:text --scenario:scenario --rate:text --rates:text --together:text --seconds:text --capacity:text --patience:text \
         --queue:text --replicas:text --down:text --window:text --until:text --calls:text --words:text --outage:text \
         --slow:text --beside:text --budget:text --quota:text --limit:text --open:file --without --sweep:text \
         --measure:succeeded,calls,recovery,slowest --find:quota,retries,patience,beside --compare:file --csv --json \
         --svg:file --bars --width:text --detail --title:text --name:text
       ;;
     advise)
-      echo --rate:text --rates:text --together:text --seconds:text --capacity:text --patience:text --queue:text \
+      echo --log:file --fields:text --rate:text --rates:text --together:text --seconds:text --capacity:text \
+        --patience:text --queue:text \
         --replicas:text --words:text --outage:text --slow:text --surge:text \
         --kind:none,quota,bucket,inflight,breaker,throttle --cookbook --all --json --svg:file --width:text --title:text
       ;;

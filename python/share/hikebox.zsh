@@ -54,6 +54,8 @@ case $state in
       storm)
         _arguments -S '(- *)'{-h,--help}'[print help]' $picture \
           '--scenario[begin with a scenario, by its name or its file]:scenario:_hikebox_scenarios' \
+          '--log[take how requests come from an access log]:file:_files' \
+          '--fields[where JSON or CSV has what]:time=NAME,latency=NAME:UNIT,status=NAME:' \
           '--rate[requests a second]:number:' \
           '--rates[spans with a rate of their own]:FROM..TO@N,..:' \
           '--together[requests that come at one moment]:number:' \
@@ -89,6 +91,8 @@ case $state in
         ;;
       advise)
         _arguments -S '(- *)'{-h,--help}'[print help]' $picture \
+          '--log[take how requests come from an access log]:file:_files' \
+          '--fields[where JSON or CSV has what]:time=NAME,latency=NAME:UNIT,status=NAME:' \
           '--rate[requests a second]:number:' \
           '--rates[spans with a rate of their own]:FROM..TO@N,..:' \
           '--together[requests that come at one moment]:number:' \

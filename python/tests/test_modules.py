@@ -66,13 +66,13 @@ def test_a_module_with_one_user_has_30_lines() -> None:
 
 
 #: What plays storms, and what shows them: what retries calls needs none of it.
-STORMS = re.compile(r"^hikebox/(advice/|storms/|lab/|cli/|sweeps\.py|__init__\.py$)")
+STORMS = re.compile(r"^hikebox/(advice/|storms/|traffic/|lab/|cli/|sweeps\.py|__init__\.py$)")
 
 
 @pytest.mark.parametrize("name", [name for name in NAMES if not STORMS.search(name)])
 def test_what_retries_calls_imports_nothing_of_storms(name: str) -> None:
     text = (SOURCES / name).read_text().replace("hikebox.cli.main", "")
-    assert not re.search(r"^ *(from|import) .*\b(advice|storms|sweeps|lab|cli)\b", text, re.M)
+    assert not re.search(r"^ *(from|import) .*\b(advice|storms|traffic|sweeps|lab|cli)\b", text, re.M)
 
 
 def loaded_by(text: str) -> List[str]:
@@ -85,7 +85,7 @@ def loaded_by(text: str) -> List[str]:
 def test_import_hikebox_loads_nothing_of_storms_of_the_lab_or_of_adapters() -> None:
     loaded = loaded_by("import hikebox")
     assert "hikebox.retrying" in loaded
-    parts = ("advice", "storms", "lab", "adapters", "cli", "sweeps", "leased", "metrics")
+    parts = ("advice", "storms", "traffic", "lab", "adapters", "cli", "sweeps", "leased", "metrics")
     assert [name for name in loaded if name.startswith(tuple(f"hikebox.{part}" for part in parts))] == []
 
 
@@ -96,7 +96,18 @@ def test_the_plugin_of_pytest_loads_nothing_of_the_package() -> None:
 def test_hikebox_plan_loads_nothing_of_storms_or_of_the_lab() -> None:
     loaded = loaded_by("from hikebox.cli.main import main; main(['plan', 'recurs(3)'])")
     assert "hikebox.policy.parsing" in loaded
-    parts = ("advice", "storms", "lab", "adapters", "sweeps", "leased", "cli.run", "cli.storm", "cli.scenario")
+    parts = (
+        "advice",
+        "storms",
+        "traffic",
+        "lab",
+        "adapters",
+        "sweeps",
+        "leased",
+        "cli.run",
+        "cli.storm",
+        "cli.scenario",
+    )
     assert [name for name in loaded if name.startswith(tuple(f"hikebox.{part}" for part in parts))] == []
 
 

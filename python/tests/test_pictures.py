@@ -589,7 +589,7 @@ def test_the_storms_of_the_page_on_storms_are_those_that_zsched_prints(monkeypat
     if not program or subprocess.run([program, "storm", "--help"], capture_output=True).returncode:
         pytest.skip("HIKEBOX_ZSCHED names no zsched with storms")
     commands = re.findall(r"^hikebox (storm [^\n]*)$", (TOP / "docs" / STORMS).read_text(), flags=re.M)
-    assert len(commands) == 17
+    assert len(commands) == 16
     for command in commands:
         given = _parser().parse_args(shlex.split(command))
         for played in play_all(wanted_of(given, _policy).storms):

@@ -19,12 +19,15 @@ from ..policy import Policy
 from ..storms.cores import Told, silent
 from ..storms.parameters import Parameters, RateSpan, plural
 from .status_line import StatusLine
-from .storm_options import add_numbers, rates_of, slow_of, span_of
+from .log_options import with_log
+from .storm_options import add_log, add_numbers, rates_of, slow_of, span_of
 
 __all__ = ["add_advise_options", "advice_of"]
 
 #: The numbers of a storm that are of the traffic and the peer.
 _NUMBERS = ("rate", "together", "seconds", "capacity", "patience", "queue", "replicas", "words")
+#: As so many spans a log is played, which leaves some for a surge.
+_SPANS = 6
 #: How long the bar is.
 _BAR = 24
 
@@ -32,6 +35,7 @@ _BAR = 24
 def add_advise_options(advise: argparse.ArgumentParser) -> None:
     """Adds the options that say how requests come, what the peer is, and what is tried."""
     add_numbers(advise, _NUMBERS)
+    add_log(advise)
     outage = "when the peer, or a replica, is down (10000..20000 of a minute)"
     advise.add_argument("--outage", type=span_of, metavar="FROM..TO", help=outage)
     slow = "when the peer works at PERCENT of its capacity (10000..20000@50 of a minute)"
@@ -67,7 +71,11 @@ def advice_of(given: Any, policy_of: Callable[[str], Policy]) -> str:
 
 def _base(given: Any) -> Parameters:
     told = {name: getattr(given, name) for name in (*_NUMBERS, "rates")}
-    return Parameters()._replace(**{name: value for name, value in told.items() if value is not None}).checked()
+    return (
+        with_log(given, Parameters(), _SPANS)
+        ._replace(**{name: value for name, value in told.items() if value is not None})
+        .checked()
+    )
 
 
 def _policies(given: Any, policy_of: Callable[[str], Policy]) -> List[Policy]:

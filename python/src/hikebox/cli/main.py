@@ -84,6 +84,7 @@ examples:
   hikebox storm --quota 10/10%/1s --beside 30=plans/three-tries.json plans/back-off.json
   hikebox storm --quota 10/10%/1s --without --sweep rate=200..1600/8 --svg load.svg plans/back-off.json
   hikebox storm --scenario brown-out --find quota 'recurs(3)'
+  hikebox storm --log /var/log/nginx/access.log.1.gz --quota 10/10%/1s --without plans/back-off.json
 """
 
 
@@ -123,7 +124,7 @@ def _does(words: Optional[List[str]]) -> int:
     except PolicyError as error:
         return _fails(str(error), BAD_INPUT)
     except (LimitError, StoreError, StormError) as error:
-        is_file = isinstance(error, StormError) and error.name == "scenario"
+        is_file = isinstance(error, StormError) and error.name in ("scenario", "log")
         return _fails(str(error), BAD_INPUT if is_file else BAD_COMMAND_LINE)
     except MemoryError:
         return _fails("no memory", NO_MEMORY)
@@ -389,7 +390,10 @@ def _plan(given: Any) -> int:
 def _storm(given: Any) -> int:
     from .storm_command import result_of
 
-    result = result_of(given, _policy)
+    try:
+        result = result_of(given, _policy)
+    except OSError as error:  # (of a log)
+        return _fails(str(error.strerror), BAD_STREAM)
     status = _prints(result.text) if given.svg is None else _writes(given.svg, result.text)
     return _fails(_CUT, NOT_FINISHED) if result.is_cut and status == 0 else status
 
@@ -397,7 +401,10 @@ def _storm(given: Any) -> int:
 def _advise(given: Any) -> int:
     from .advise_command import advice_of
 
-    text = advice_of(given, _policy)
+    try:
+        text = advice_of(given, _policy)
+    except OSError as error:  # (of a log)
+        return _fails(str(error.strerror), BAD_STREAM)
     return _prints(text) if given.svg is None else _writes(given.svg, text)
 
 

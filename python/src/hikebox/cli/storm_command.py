@@ -22,6 +22,7 @@ from ..storms.picture import storm_picture
 from ..storms.texts import populations_table, sentences, side_by_side
 from ..sweeps import Sweep, find_from, swept
 from .scenario import Line, Scenario, scenario_of
+from .log_options import with_log
 from .status_line import StatusLine
 from .storm_options import limits_of, parameters_of
 
@@ -51,7 +52,7 @@ class Wanted(NamedTuple):
 def wanted_of(given: Any, policy_of: PolicyOf) -> Wanted:
     """The storms that the options ask for. The options are judged before a policy is read."""
     scenario = scenario_of(given.scenario)
-    parameters = parameters_of(given, scenario.parameters)
+    parameters = parameters_of(given, with_log(given, scenario.parameters))
     words = _words(given, scenario)
     limits = limits_of(given, _open_times(given, policy_of))
     has_limits = bool(given.limits or given.without)

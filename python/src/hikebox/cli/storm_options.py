@@ -20,6 +20,7 @@ from .arguments import Once
 
 __all__ = [
     "Beside",
+    "add_log",
     "add_numbers",
     "add_storm_options",
     "limits_of",
@@ -69,11 +70,23 @@ def add_numbers(storm: argparse.ArgumentParser, names: Sequence[str]) -> None:
     storm.add_argument("--rates", type=rates_of, metavar="FROM..TO@N,..", help=rates)
 
 
+def add_log(storm: argparse.ArgumentParser) -> None:
+    """Adds the options of an access log."""
+    log = (
+        "take how requests come from an access log, or - for standard input: nginx's or Apache's, JSON lines or CSV, "
+        "also compressed by gzip; --seconds is then how long its busiest part is that is played (all)"
+    )
+    storm.add_argument("--log", metavar="FILE", action=Once, help=log)
+    fields = "where JSON or CSV has the moment, how long a request took (in s, ms, us or ns) and the status"
+    storm.add_argument("--fields", metavar="time=NAME,latency=NAME:UNIT,status=NAME", action=Once, help=fields)
+
+
 def add_storm_options(storm: argparse.ArgumentParser) -> None:
     """Adds the options that say how a storm is played."""
     story = "start from the parameters of outage (the default), herd or brown-out, or from a JSON file"
     storm.add_argument("--scenario", metavar="NAME|FILE", default="outage", help=story)
     add_numbers(storm, list(_HELP))
+    add_log(storm)
     outage = "when the peer refuses all calls, in milliseconds (10000..20000)"
     storm.add_argument("--outage", type=span_of, metavar="FROM..TO", help=outage)
     slow = "when the peer works at PERCENT of its capacity, in milliseconds (never)"
