@@ -36,7 +36,7 @@ void draws(hikebox_limit *limit, uint64_t now, uint64_t cost, hikebox_status wan
 void admits(hikebox_limit *limit, uint64_t now, hikebox_status wanted, uint64_t says);
 
 // Those of looks.c, which limits() makes.
-void looks(void);
+void limits_looked_at(void);
 
 // Those of structs.c.
 int sizes(void);

@@ -448,7 +448,7 @@ int limits(void) {
     clock_ends();
     steps_refused();
     refusals();
-    looks();
+    limits_looked_at();
     races();
     return wrong;
 }

@@ -29,7 +29,7 @@ static void succeeds(hikebox_limit *limit, hikebox_seen seen) {
 
 // What a look saw admits a request in the generation in which the breaker was then: once it was open, that request's
 // success neither closes it nor takes its probe. Several are quiet where each of them is.
-void looks(void) {
+void limits_looked_at(void) {
     hikebox_breaker terms = {sizeof terms, 1, 1, 1000};
     hikebox_bucket aws = HIKEBOX_BUCKET_AWS;
     hikebox_limit limit = HIKEBOX_INIT, other = HIKEBOX_INIT, bucket = HIKEBOX_INIT, spare = HIKEBOX_INIT;
