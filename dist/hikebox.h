@@ -805,6 +805,42 @@ hikebox_status hikebox_limit_ended(hikebox_limit *limit);
  * HIKEBOX_EMPTY; _WRONG_KIND. */
 hikebox_status hikebox_limit_free(hikebox_limit *limit);
 
+/* The words that a look saw, of the limits of a handle in the order in which they are asked. */
+typedef struct {
+    uint64_t first;
+    uint64_t second;
+    uint64_t third;
+    uint64_t fourth;
+} hikebox_seen;
+
+/*
+ * Looks whether all limits of the handle are quiet, and the handle has no request. A bucket is quiet while it is full,
+ * and a breaker while it is closed and has counted no failure since the last success; other kinds never are. Admitting
+ * a request, its success and its end leave a quiet limit as it is. So a look before the run and another one after its
+ * success may stand for these three calls, with no moment and no change that other threads would wait for:
+ *
+ *     hikebox_seen before, after;
+ *     bool quiet = false, begun;
+ *     hikebox_limit_look(&limit, &before, &quiet);
+ *     if (quiet) {
+ *         won = run();
+ *         if (won)
+ *             hikebox_limit_look(&limit, &after, &quiet);
+ *         if (!won || !quiet)
+ *             hikebox_limit_begin(&limit, &before, &begun);
+ *     }
+ *
+ * If the first look is not quiet, ask by hikebox_limit_admit. If the run failed, or the second look is not quiet, the
+ * request begins by what the first look saw, and its other calls follow. `quiet` must hold a bool before the call.
+ * HIKEBOX_EMPTY; _WRONG_KIND.
+ */
+hikebox_status hikebox_limit_look(hikebox_limit *limit, hikebox_seen *seen, bool *quiet);
+
+/* Begins a request that was admitted when a look of this handle, which was quiet, saw these words, and writes to
+ * `begun` whether it did: nothing changes if a word is not quiet, or a request is under way. `begun` must hold a bool
+ * before the call. HIKEBOX_EMPTY; _WRONG_KIND. */
+hikebox_status hikebox_limit_begin(hikebox_limit *limit, const hikebox_seen *seen, bool *begun);
+
 /*
  * Processes share a bucket or a breaker by a store that keeps one word of it. Each call of a request is one step of the
  * store: the process reads what the store keeps, passes it to one of the two calls below with what the request asks or
