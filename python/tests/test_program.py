@@ -250,7 +250,7 @@ def test_what_is_found_is_quoted_up_to_60_characters() -> None:
 @pytest.mark.parametrize(
     "engine, said",
     [
-        ("/no/such.so", "/no/such.so: cannot open shared object file: No such file or directory; it is made for "),
+        ("/no/such.so", "/no/such.so: cannot open shared object file: No such file or directory; each system and "),
         ("/etc/passwd", "/etc/passwd: "),
         (_ctypes.__file__, f"expected that of {VERSION}, got {_ctypes.__file__}: undefined symbol: hikebox_"),
     ],
