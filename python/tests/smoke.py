@@ -16,6 +16,9 @@ import threading
 import urllib.request
 from typing import Any, List
 
+# the library that a module's examples import, where it is not named as an adapter is
+EXAMPLES_OF = {"hikebox.metrics": "prometheus_client"}
+
 
 def main() -> None:
     import hikebox
@@ -33,7 +36,7 @@ def main() -> None:
         except ImportError as error:
             assert name.startswith("hikebox.adapters."), error
             continue
-        library = name.partition("hikebox.adapters.")[2].lstrip("_")
+        library = EXAMPLES_OF.get(name, name.partition("hikebox.adapters.")[2].lstrip("_"))
         if library and importlib.util.find_spec(library) is None:
             continue  # (its example imports the library)
         result = doctest.testmod(loaded, optionflags=doctest.IGNORE_EXCEPTION_DETAIL)
