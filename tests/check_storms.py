@@ -13,7 +13,6 @@ from __future__ import annotations
 import json
 import os
 import random
-import re
 import subprocess
 import sys
 import tempfile
@@ -162,36 +161,6 @@ def looks_at_numbers(program: List[str]) -> List[str]:
     if within > 12_000:
         wrong.append(f"the herd with half to whole of the delay: the last is won after {within} ms")
     return wrong
-
-
-#: A row of the table of limits in docs/LIMITS.md: a limit, and in each of three scenarios how many requests succeed,
-#: and but for the last when the peer is back.
-ROW = re.compile(r"\| (none|`.*`) \| ([\d,]+).* \| (.*) \| ([\d,]+).* \| (.*) \| ([\d,]+).* \|")
-
-
-def looks_at_page(program: List[str]) -> List[str]:
-    """What is wrong with the table of limits in docs/LIMITS.md."""
-    rows = [row for row in map(ROW.fullmatch, (TOP / "docs/LIMITS.md").read_text().splitlines()) if row]
-    storms = []
-    for row in rows:
-        limit = row[1].strip("`")
-        name, _, terms = limit.rpartition(" ") if limit.startswith("--") else ("--limit", "", limit)
-        drawn = {} if limit == "none" else {name[2:]: terms}
-        storms += [(program, FULL, {"scenario": scenario, **drawn}) for scenario in ("outage", "brown-out", "herd")]
-    with Pool() as pool:
-        played = [got["totals"] for got in pool.starmap(told, storms)]
-    wrong = [] if len(rows) == 7 else [f"docs/LIMITS.md: expected seven rows of limits, got {len(rows)}"]
-    for number, row in enumerate(rows):
-        three = played[3 * number : 3 * number + 3]
-        cells = [cell for totals in three for cell in (f"{totals['won']:,}", back_at(totals["recovered"]))]
-        if list(row.groups()[1:]) != cells[:-1]:
-            wrong.append(f"docs/LIMITS.md: expected {cells[:-1]}, got {row[0]}")
-    return wrong
-
-
-def back_at(recovered: Optional[int]) -> str:
-    """When a peer is back that was away, or slow, until 20 s."""
-    return "never" if recovered is None else "at once" if recovered == 20_000 else f"at {recovered // 1000} s"
 
 
 #: Command lines that are bad, each before its plan is read.
@@ -623,7 +592,7 @@ def main() -> int:
     wrong += looks_at_numbers(programs[-1])
     if knows:
         wrong += looks_at_words(programs[-1]) + looks_at_lines(programs[-1]) + looks_at_limits(programs[-1])
-        wrong += looks_at_sweeps(programs[-1]) + looks_at_page(programs[-1])
+        wrong += looks_at_sweeps(programs[-1])
         with Pool() as pool:
             wrong += filter(None, pool.imap_unordered(differs, [f"{seed}.{number}" for number in range(count)]))
     for line in wrong[:20]:
