@@ -1,7 +1,9 @@
 //! `counted CASE FAILURES COUNT` makes so many calls, each of which fails so often and then succeeds, by the crate that the
 //! case names, for bench/crates.sh, which counts the instructions. No run waits.
 
-use hikebox::{both, Breaker, Bucket, Budget, CallLimit, InFlight, Policy, Quota, RetryLayer, Retrying, Schedule, Terms};
+use hikebox::{
+    both, Breaker, Bucket, Budget, CallLimit, InFlight, Policy, Quota, RetryLayer, Retrying, Schedule, Terms,
+};
 use std::convert::Infallible;
 use std::future::{ready, Future, Ready};
 use std::sync::{Arc, Mutex};
