@@ -1,6 +1,6 @@
 #compdef hikebox
 # Completion of hikebox for zsh: commands, options, and what an option takes.
-local -a commands picture
+local -a commands picture traffic
 local context state state_descr line
 typeset -A opt_args
 commands=(
@@ -14,6 +14,18 @@ commands=(
 picture=(
   '--svg[write the picture into this file]:file:_files'
   '--width[how wide the picture is]:number:'
+)
+traffic=(
+  '--log[take how requests come from an access log]:file:_files'
+  '--fields[where JSON or CSV has what]:time=NAME,latency=NAME:UNIT,status=NAME:'
+  '--rate[requests a second]:number:'
+  '--rates[spans with a rate of their own]:FROM..TO@N,..:'
+  '--together[requests that come at one moment]:number:'
+  '--seconds[for how many seconds requests come]:number:'
+  '--capacity[calls that each replica of the peer can serve in a second]:number:'
+  '--patience[when a client gives a call up]:milliseconds:'
+  '--queue[calls of work that may stand at each replica of the peer]:number:'
+  '--replicas[how many replicas the peer is]:number:'
 )
 
 _hikebox_scenarios() { _alternative 'names:scenario:(outage herd brown-out)' 'files:file:_files' }
@@ -54,16 +66,7 @@ case $state in
       storm)
         _arguments -S '(- *)'{-h,--help}'[print help]' $picture \
           '--scenario[begin with a scenario, by its name or its file]:scenario:_hikebox_scenarios' \
-          '--log[take how requests come from an access log]:file:_files' \
-          '--fields[where JSON or CSV has what]:time=NAME,latency=NAME:UNIT,status=NAME:' \
-          '--rate[requests a second]:number:' \
-          '--rates[spans with a rate of their own]:FROM..TO@N,..:' \
-          '--together[requests that come at one moment]:number:' \
-          '--seconds[for how many seconds requests come]:number:' \
-          '--capacity[calls that each replica of the peer can serve in a second]:number:' \
-          '--patience[when a client gives a call up]:milliseconds:' \
-          '--queue[calls of work that may stand at each replica of the peer]:number:' \
-          '--replicas[how many replicas the peer is]:number:' \
+          $traffic \
           '--down[how many replicas refuse calls in the outage]:number:' \
           '--window[how long a line of the report is]:milliseconds:' \
           '--until[the moment after which nothing is played]:milliseconds:' \
@@ -91,16 +94,7 @@ case $state in
         ;;
       advise)
         _arguments -S '(- *)'{-h,--help}'[print help]' $picture \
-          '--log[take how requests come from an access log]:file:_files' \
-          '--fields[where JSON or CSV has what]:time=NAME,latency=NAME:UNIT,status=NAME:' \
-          '--rate[requests a second]:number:' \
-          '--rates[spans with a rate of their own]:FROM..TO@N,..:' \
-          '--together[requests that come at one moment]:number:' \
-          '--seconds[for how many seconds requests come]:number:' \
-          '--capacity[calls that each replica of the peer can serve in a second]:number:' \
-          '--patience[when a client gives a call up]:milliseconds:' \
-          '--queue[calls of work that may stand at each replica of the peer]:number:' \
-          '--replicas[how many replicas the peer is]:number:' \
+          $traffic \
           '--words[the seed of the random words]:seed:' \
           '--outage[when the peer or a replica is down]:FROM..TO:' \
           '--slow[when the peer works at a part of its capacity]:FROM..TO@PERCENT:' \
