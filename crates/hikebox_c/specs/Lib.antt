@@ -10,4 +10,7 @@ pub mod Leases
 pub mod Leased
 pub mod Limits
 pub mod LimitTerms
+pub mod Paces
 pub mod Kept
+pub mod States
+pub mod PacesKept

@@ -159,9 +159,9 @@ pub extern "C" fn hikebox_breaker_step(
     held: &mut HeldGiven,
     number: &mut u64,
 ) -> u32
-    ensures wrong_size { terms.now.size ≢ 32 →
+    ensures wrong_size { terms.now.size ≢ 40 →
         IsUnmoved status.WrongSize result (kept.old, held.old, number.old) (kept.new, held.new, number.new) }
-    ensures does { terms.now.size ≡ 32 → BreakerDoes terms.now (length times.now) told.now result
+    ensures does { terms.now.size ≡ 40 → BreakerDoes terms.now (length times.now) told.now result
         (kept.old, held.old, number.old) (kept.new, held.new, number.new) }
 {
     if terms.size != BREAKER_SIZE {

@@ -1,6 +1,7 @@
 //! Limits: what a request asks before each run, and tells after it.
-ghost use Rattle.std.specs.Prelude.{◌≡◌, ◌≢◌, ◌<◌, ◌≤◌, None, length, IfSome};
+ghost use Rattle.std.specs.Prelude.{◌≡◌, ◌≢◌, ◌<◌, ◌≤◌, None, length, IfSome, IfNone};
 ghost use Rattle.sched_time.specs.declared.numbers.TheConstants.{FAR};
+ghost use Rattle.sched_limit.specs.Results.{IsByResults};
 ghost use Rattle.sched_limit.specs.declared.request.Told.TheVariants as told_as;
 ghost use Rattle.sched_limit_handle.specs.Held.{MakesBucket, MakesFlight, HeldTells};
 ghost use Rattle.sched_handle.specs.Fills.{Frees};
@@ -11,10 +12,11 @@ ghost use Rattle.sched_handle.specs.declared.status.Status.TheVariants as status
 ghost use Rattle.hikebox_c.specs.Calls.{OnHeld};
 ghost use Rattle.hikebox_c.specs.Limits.{MakesLimit, PutsLimits, PartsHeld, JoinsHeld, TellsRefusal, TellsAsked};
 ghost use Rattle.hikebox_c.specs.Limits.{TellsHeld};
-ghost use Rattle.hikebox_c.specs.LimitTerms.{bucket_of, flight_of, IsBreakerOf, BreakerMade, ThrottleMade};
+ghost use Rattle.hikebox_c.specs.LimitTerms.{bucket_of, flight_of, IsAdaptiveGiven, IsAdaptiveOf, AdaptiveMade};
+ghost use Rattle.hikebox_c.specs.LimitTerms.{IsBreakerOf, BreakerMade, ThrottleMade};
 
 use sched_handle::{Handle, Held, Kind, Status};
-use sched_limit::{Breaker, Bucket, InFlight, MAX_TRIPS, Refusal, Throttle};
+use sched_limit::{Adaptive, Breaker, Bucket, InFlight, MAX_TRIPS, Refusal, Throttle};
 use sched_limit_handle::{Held as Limits, Status as Reason, number_of, refused};
 use sched_time::{Millis, Moment};
 use std::alloc::Global;
@@ -34,6 +36,20 @@ pub struct BucketGiven {
 // The size of it.
 pub(crate) const BUCKET_SIZE: usize = 48;
 
+/// An adaptive limit, as C gives it.
+#[repr(C)]
+#[derive(Clone, Copy)]
+pub struct AdaptiveGiven {
+    pub size: usize,
+    pub least: u64,
+    pub most: u64,
+    pub first: u64,
+    pub backoff: u64,
+}
+
+// The size of it.
+const ADAPTIVE_SIZE: usize = 40;
+
 /// A breaker without its open times, as C gives it.
 #[repr(C)]
 #[derive(Clone, Copy)]
@@ -42,10 +58,11 @@ pub struct BreakerGiven {
     pub failures: u64,
     pub probes: u64,
     pub deadline: u64,
+    pub results: u64,
 }
 
 // The size of it.
-pub(crate) const BREAKER_SIZE: usize = 32;
+pub(crate) const BREAKER_SIZE: usize = 40;
 
 // How many limits a handle holds at most.
 const MOST: u64 = 4;
@@ -85,15 +102,67 @@ pub extern "C" fn hikebox_in_flight_new(
     alloc: Global,
     least: u32,
     share: u32,
+    most: u32,
     limit: &mut Handle,
 ) -> u32
-    ensures { MakesLimit (MakesFlight (flight_of least share)) limit.old.held result limit.new.held }
+    ensures { MakesLimit (MakesFlight (flight_of least share most)) limit.old.held result limit.new.held }
 {
     if limit.is_full(alloc) {
         return Status::Full.code();
     }
-    let made = Limits::in_flight(alloc, InFlight { least, share });
+    let made = Limits::in_flight(alloc, InFlight { least, share, most });
     fill(alloc, limit, made)
+}
+
+#[unsafe(no_mangle)]
+pub extern "C" fn hikebox_adaptive_new(
+    alloc: Global,
+    terms: &AdaptiveGiven,
+    limit: &mut Handle,
+) -> u32
+    ensures made { terms.now.size ≡ 40 →
+        MakesLimit (AdaptiveMade terms.now) limit.old.held result limit.new.held }
+    ensures wrong_size { terms.now.size ≢ 40 →
+        (limit.new.held ≡ limit.old.held) × (result ≡ code_of status.WrongSize) }
+{
+    if terms.size != ADAPTIVE_SIZE {
+        return Status::WrongSize.code();
+    }
+    if limit.is_full(alloc) {
+        return Status::Full.code();
+    }
+    let made = adaptive(alloc, terms);
+    fill(alloc, limit, made)
+}
+
+// An adaptive limit of these terms, if there is one.
+fn adaptive(alloc: Global, terms: &AdaptiveGiven) -> Result<Box<Limits>, Reason>
+    ensures { AdaptiveMade terms.now result }
+{
+    match adaptive_of(terms) {
+        Some(adaptive) => Limits::adaptive(alloc, adaptive),
+        None => Err(Reason::OutOfRange),
+    }
+}
+
+// The adaptive limit of these terms, if there is one.
+fn adaptive_of(terms: &AdaptiveGiven) -> Option<Adaptive>
+    ensures some { IfSome result (IsAdaptiveOf terms.now) }
+    ensures none { IfNone result (IsAdaptiveGiven terms.now → ⊥) }
+{
+    let Ok(least) = u32::try_from(terms.least) else {
+        return None;
+    };
+    let Ok(most) = u32::try_from(terms.most) else {
+        return None;
+    };
+    let Ok(first) = u32::try_from(terms.first) else {
+        return None;
+    };
+    let Ok(backoff) = u32::try_from(terms.backoff) else {
+        return None;
+    };
+    Adaptive::new(least, most, first, backoff)
 }
 
 #[unsafe(no_mangle)]
@@ -104,11 +173,11 @@ pub extern "C" fn hikebox_breaker_new(
     times: &[u64],
     limit: &mut Handle,
 ) -> u32
-    ensures made { terms.now.size ≡ 32 → now ≤ FAR →
+    ensures made { terms.now.size ≡ 40 → now ≤ FAR →
         MakesLimit (BreakerMade now terms.now (length times.now)) limit.old.held result limit.new.held }
-    ensures wrong_size { terms.now.size ≢ 32 →
+    ensures wrong_size { terms.now.size ≢ 40 →
         (limit.new.held ≡ limit.old.held) × (result ≡ code_of status.WrongSize) }
-    ensures too_large { terms.now.size ≡ 32 → FAR < now →
+    ensures too_large { terms.now.size ≡ 40 → FAR < now →
         (limit.new.held ≡ limit.old.held) × (result ≡ code_of status.TooLarge) }
 {
     if terms.size != BREAKER_SIZE {
@@ -154,14 +223,29 @@ pub(crate) fn breaker_of(now: Moment, terms: &BreakerGiven, times: &[u64]) -> Op
         return None;
     }
     let kept = kept_of(times);
-    Breaker::new(
+    let breaker = Breaker::new(
         now,
         failures,
         terms.probes,
         deadline,
         kept,
         count as u64 - 1,
-    )
+    )?;
+    by_results(breaker, terms.results)
+}
+
+// The breaker by so many of its last results, or in a row where they are 0, if there is such a one.
+fn by_results(breaker: Breaker, results: u64) -> Option<Breaker>
+    requires { breaker.results ≡ 0 }
+    ensures { IfSome result (IsByResults breaker results) }
+{
+    if results == 0 {
+        return Some(breaker);
+    }
+    match u32::try_from(results) {
+        Ok(results) => breaker.by_results(results),
+        Err(_) => None,
+    }
 }
 
 // The first 64 open times, and 0 in the place of those that are not given.

@@ -6,16 +6,19 @@ ghost use Rattle.sched_cli.specs.Answering.{ForInput, AnswersStorm, TellsSome};
 
 use crate::answers::tell_found;
 use crate::stops::{Stop, Told, tell_error};
-use sched_cli_plan::{Counted, PrintFault, Sink, read_all};
+use sched_cli_plan::{Counted, PrintFault, Sink, Source, read_all};
 use sched_cli_pool::PoolFault;
 use sched_cli_storm::{open_times, print_storm};
-use sched_cli_storm_words::StormOptions;
+use sched_cli_storm_words::{ArrivalLines, StormFault, StormOptions};
 use sched_cli_words::Asked;
 use sched_plan_hint::plan_fault;
 use sched_time::NoMemory;
 use std::alloc::Global;
-use std::fs;
 use std::rt::Files;
+use std::{fs, io};
+
+// The most reads of a file of moments: no file of so many lines has more bytes.
+const MAX_READS: u64 = 67108864;
 
 /// What is asked for, with the texts of the further plans of a storm, which are read from their files.
 ///
@@ -25,6 +28,7 @@ pub fn with_texts<R: Files>(rt: &R, alloc: Global, asked: Asked) -> Result<Asked
         Asked::Storm(options, origin) => {
             let texts = texts_of(rt, alloc, &options.names)?;
             let options = with_open_times(rt, alloc, options)?;
+            let options = with_arrivals(rt, alloc, options)?;
             Ok(Asked::Storm(StormOptions { texts, ..options }, origin))
         }
         other => Ok(other),
@@ -59,6 +63,79 @@ fn with_open_times<R: Files>(
             fault: PoolFault::Print(fault),
             told: tell_fault(alloc, name.as_str(), &text),
         }),
+    }
+}
+
+// The options with the moments at which requests come, where a file has them.
+fn with_arrivals<R: Files>(
+    rt: &R,
+    alloc: Global,
+    options: StormOptions,
+) -> Result<StormOptions, Stop> {
+    let Some(name) = &options.arrivals else {
+        return Ok(options);
+    };
+    let moments = moments_of(rt, alloc, name.as_str())?;
+    match options.with_arrivals(moments) {
+        Some(options) => Ok(options),
+        None => Err(Stop {
+            fault: PoolFault::Print(PrintFault::OutOfRange),
+            told: tell_line(
+                alloc,
+                "--until",
+                "60 s after the last moment are more than 65536 times '--window <M>'",
+            ),
+        }),
+    }
+}
+
+// The moments that the lines of the file of this name spell. It is read in parts, of which none is kept.
+fn moments_of<R: Files>(rt: &R, alloc: Global, name: &str) -> Result<Vec<u64>, Stop> {
+    let file = match fs::open(rt, name) {
+        Ok(file) => file,
+        Err(error) => return Err(Stop::unopened(alloc, name, error)),
+    };
+    let mut reader = Counted::new(file);
+    let mut lines = ArrivalLines::new(alloc);
+    let mut part = [0; 8192];
+    for _ in 0..MAX_READS {
+        let taken = match reader.read(&mut part) {
+            Ok(0) => break,
+            Ok(taken) => taken,
+            Err(_) => return Err(unread(alloc, name, reader.last_error())),
+        };
+        if let Err(fault) = lines.read(alloc, &part[..taken]) {
+            return Err(unfit(alloc, name, &fault));
+        }
+    }
+    match lines.into_moments(alloc) {
+        Ok(moments) => Ok(moments),
+        Err(fault) => Err(unfit(alloc, name, &fault)),
+    }
+}
+
+// The file of this name spells no moments for this reason.
+fn unfit(alloc: Global, name: &str, fault: &StormFault) -> Stop {
+    match fault {
+        StormFault::Bad(why) => Stop {
+            fault: PoolFault::Print(PrintFault::OutOfRange),
+            told: tell_line(alloc, name, why.as_str()),
+        },
+        StormFault::NoMemory => Stop {
+            fault: PoolFault::Print(PrintFault::NoMemory),
+            told: Ok(Told::Alone),
+        },
+    }
+}
+
+// A read of the file of this name failed.
+fn unread(alloc: Global, name: &str, error: Option<io::Error>) -> Stop {
+    Stop {
+        fault: PoolFault::Print(PrintFault::ReadFailed),
+        told: match error {
+            Some(error) => tell_error(alloc, name, error),
+            None => Ok(Told::Alone),
+        },
     }
 }
 

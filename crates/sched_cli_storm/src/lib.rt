@@ -6,6 +6,7 @@
 mod bars;
 mod forms;
 mod lines;
+mod moments;
 mod openings;
 mod populations;
 mod printing;

@@ -1,5 +1,6 @@
 //! Storms of several populations of clients: playing them, and telling of each population.
 use crate::forms::push_report;
+use crate::moments::{arrivals_of, push_arrivals};
 use crate::rows::{push_comma, push_members};
 use crate::side_by_side::{Column, push_table};
 use sched_cli_storm_words::{Form, StormOptions};
@@ -33,11 +34,13 @@ impl Populations {
         })
     }
 
-    /// Plays this storm of theirs, and reports on all requests, or on those of one population, from 0.
+    /// Plays this storm of theirs, with the requests that the options have, and reports on all requests, or on those of
+    /// one population, from 0.
     pub(crate) fn play(
         &self,
         alloc: Global,
         storm: &Storm,
+        options: &StormOptions,
         of: Option<u64>,
     ) -> Result<Report, NoMemory> {
         let plans = Plans {
@@ -46,7 +49,7 @@ impl Populations {
             third: self.beside(1)?,
             fourth: self.beside(2)?,
         };
-        storm.play_populations(alloc, plans, of)
+        storm.play_populations(alloc, arrivals_of(options), plans, of)
     }
 
     // The plan of a population beside the first one, from 0. One that there is not has that of the first.
@@ -65,7 +68,7 @@ pub(crate) fn populated(
     populations: &Populations,
     options: &StormOptions,
 ) -> Result<(String, bool), NoMemory> {
-    let report = populations.play(alloc, &options.storm, None)?;
+    let report = populations.play(alloc, &options.storm, options, None)?;
     let mut text = String::new(alloc);
     match options.form {
         Form::Csv => push_report(alloc, &mut text, &report, options)?,
@@ -90,13 +93,15 @@ fn push_objects(
     push_members(text, report)?;
     text.push_str(",\"populations\":[")?;
     for (place, population) in options.populations.iter().enumerate() {
-        let report = populations.play(alloc, &options.storm, Some(place as u64))?;
+        let report = populations.play(alloc, &options.storm, options, Some(place as u64))?;
         push_comma(text, place)?;
         write!(text, "{{\"share\":{},", population.share)?;
         push_members(text, &report)?;
         text.push('}')?;
     }
-    text.push_str("]}\n")?;
+    text.push(']')?;
+    push_arrivals(text, options)?;
+    text.push_str("}\n")?;
     Ok(())
 }
 
@@ -118,7 +123,7 @@ fn push_columns(
             None => "",
         };
         columns.push(Column::new(alloc, name, population.word.as_str())?)?;
-        let report = populations.play(alloc, &options.storm, Some(place as u64))?;
+        let report = populations.play(alloc, &options.storm, options, Some(place as u64))?;
         all.push(report.totals)?;
     }
     push_table(alloc, text, "share %", &columns, &all)

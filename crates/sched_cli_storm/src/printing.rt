@@ -5,6 +5,7 @@ ghost use Rattle.sched_cli_plan.specs.Whole.{count_of_writes};
 ghost use Rattle.sched_cli_storm.specs.StormPrinting.{PrintsStorm, IsRefusal};
 
 use crate::forms::push_report;
+use crate::moments::{arrivals_of, push_source};
 use crate::populations::{Populations, populated};
 use crate::side_by_side::{Column, push_table};
 use crate::sweep_rows::{push_sweep_csv, push_sweep_json};
@@ -13,7 +14,7 @@ use sched_cli_plan::{PrintFault, Sink, put_all, read_value};
 use sched_cli_storm_words::{Form, Limited, StormOptions, Sweep};
 use sched_plan::{Plan, SharedPlan};
 use sched_plan_json::read_plan;
-use sched_storm::{Report, Totals};
+use sched_storm::{Plans, Report, Storm, Totals};
 use sched_time::NoMemory;
 use std::alloc::Global;
 
@@ -93,7 +94,18 @@ fn text_of(
 // The storm under this plan.
 fn played(alloc: Global, options: &StormOptions, plan: Plan) -> Result<Report, NoMemory> {
     let plan = SharedPlan::new(alloc, plan)?;
-    options.storm.play(alloc, plan)
+    played_in(alloc, options, &options.storm, plan)
+}
+
+// One of the storms that are asked for, under this plan.
+fn played_in(
+    alloc: Global,
+    options: &StormOptions,
+    storm: &Storm,
+    plan: SharedPlan,
+) -> Result<Report, NoMemory> {
+    let plans = Plans::all(plan)?;
+    storm.play_populations(alloc, arrivals_of(options), plans, None)
 }
 
 // The storms along a parameter, and whether one was cut.
@@ -105,14 +117,17 @@ fn swept(
 ) -> Result<(String, bool), NoMemory> {
     let mut all = Vec::new(alloc);
     for swept in &sweep.storms {
-        let report = populations.play(alloc, &swept.storm, None)?;
+        let report = populations.play(alloc, &swept.storm, options, None)?;
         all.push(report.totals)?;
     }
     let mut text = String::new(alloc);
     match options.form {
         Form::Csv => push_sweep_csv(&mut text, sweep, &all)?,
-        Form::Json => push_sweep_json(&mut text, sweep, &all)?,
-        Form::Bars | Form::Plain => push_sweep(alloc, &mut text, sweep, &all, options.width)?,
+        Form::Json => push_sweep_json(&mut text, sweep, &all, options)?,
+        Form::Bars | Form::Plain => {
+            push_sweep(alloc, &mut text, sweep, &all, options.width)?;
+            push_source(&mut text, options)?;
+        }
     }
     Ok((text, all.iter().any(|totals| totals.is_cut)))
 }
@@ -136,6 +151,7 @@ fn compared(
     }
     let mut text = String::new(alloc);
     push_table(alloc, &mut text, "limit", &columns, &all)?;
+    push_source(&mut text, options)?;
     Ok((text, all.iter().any(|totals| totals.is_cut)))
 }
 
@@ -147,13 +163,14 @@ fn crossed(
     options: &StormOptions,
 ) -> Result<(String, bool), NoMemory> {
     let mut all = Vec::new(alloc);
-    push_totals(alloc, &mut all, plan, &options.limited)?;
+    push_totals(alloc, &mut all, plan, options)?;
     for plan in others {
-        push_totals(alloc, &mut all, plan, &options.limited)?;
+        push_totals(alloc, &mut all, plan, options)?;
     }
     let columns = crossed_columns(alloc, options)?;
     let mut text = String::new(alloc);
     push_table(alloc, &mut text, "limit", &columns, &all)?;
+    push_source(&mut text, options)?;
     Ok((text, all.iter().any(|totals| totals.is_cut)))
 }
 
@@ -162,11 +179,11 @@ fn push_totals(
     alloc: Global,
     all: &mut Vec<Totals>,
     plan: Plan,
-    limits: &[Limited],
+    options: &StormOptions,
 ) -> Result<(), NoMemory> {
     let plan = SharedPlan::new(alloc, plan)?;
-    for limited in limits {
-        let report = limited.storm.play(alloc, plan.share()?)?;
+    for limited in &options.limited {
+        let report = played_in(alloc, options, &limited.storm, plan.share()?)?;
         all.push(report.totals)?;
     }
     Ok(())

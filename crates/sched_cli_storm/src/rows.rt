@@ -1,4 +1,6 @@
 //! Windows as rows of numbers, as comma-separated values and as JSON.
+use crate::moments::push_arrivals;
+use sched_cli_storm_words::StormOptions;
 use sched_storm::{Report, Totals, Window};
 use sched_time::NoMemory;
 use std::fmt::Write;
@@ -88,9 +90,14 @@ pub(crate) fn push_csv(text: &mut String, report: &Report) -> Result<(), NoMemor
 }
 
 /// Adds the windows and the totals as one object, on one line.
-pub(crate) fn push_json(text: &mut String, report: &Report) -> Result<(), NoMemory> {
+pub(crate) fn push_json(
+    text: &mut String,
+    report: &Report,
+    options: &StormOptions,
+) -> Result<(), NoMemory> {
     text.push('{')?;
     push_members(text, report)?;
+    push_arrivals(text, options)?;
     text.push_str("}\n")?;
     Ok(())
 }

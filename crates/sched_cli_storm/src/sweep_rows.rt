@@ -1,6 +1,7 @@
 //! Storms along a parameter, as comma-separated values and as JSON.
+use crate::moments::push_arrivals;
 use crate::rows::{TOTALS, push_comma, push_totals, totals_row};
-use sched_cli_storm_words::{Axis, Sweep};
+use sched_cli_storm_words::{Axis, StormOptions, Sweep};
 use sched_storm::Totals;
 use sched_time::NoMemory;
 use std::fmt::Write;
@@ -34,6 +35,7 @@ pub(crate) fn push_sweep_json(
     text: &mut String,
     sweep: &Sweep,
     all: &[Totals],
+    options: &StormOptions,
 ) -> Result<(), NoMemory> {
     write!(text, "{{\"parameter\":\"{}\",\"values\":[", sweep.name)?;
     for (place, swept) in sweep.storms.iter().enumerate() {
@@ -45,7 +47,9 @@ pub(crate) fn push_sweep_json(
         push_comma(text, place)?;
         push_totals(text, totals)?;
     }
-    text.push_str("]}\n")?;
+    text.push(']')?;
+    push_arrivals(text, options)?;
+    text.push_str("}\n")?;
     Ok(())
 }
 

@@ -18,7 +18,8 @@ const STORM_EXAMPLES: &str = "Examples:
   zsched storm --beside 30@2000=plans/three-times.json plans/back-off.json
   zsched storm --limit aws --limit grpc:100/100 --compare plans/three-times.json \\
     plans/back-off.json
-  zsched storm --sweep rate=200..1600/8 plans/back-off.json";
+  zsched storm --sweep rate=200..1600/8 plans/back-off.json
+  zsched storm --arrivals moments.txt plans/back-off.json";
 
 const STORIES: [Row; 4] = [
     Row {
@@ -55,7 +56,7 @@ const STORIES: [Row; 4] = [
 ];
 
 // What comes.
-const REQUESTS: [Row; 4] = [
+const REQUESTS: [Row; 5] = [
     Row {
         name: "rate",
         takes: Takes::Number("N", 1, MAX_EACH),
@@ -80,6 +81,13 @@ const REQUESTS: [Row; 4] = [
         takes: Takes::Number("S", 1, MAX_SECONDS),
         excludes: &[],
         help: "How many seconds requests arrive for, from 1 to 3600, with at most 1048576 requests [default: 60]",
+    },
+    Row {
+        name: "arrivals",
+        takes: Takes::Text("FILE"),
+        excludes: &["rate", "rates", "together", "seconds"],
+        help: "Read when each request arrives from this file: a moment on each line, in milliseconds from 0 to \
+               7200000, none before that of the line before it; up to 1048576 lines",
     },
 ];
 
@@ -148,9 +156,10 @@ const RETRIES: [Row; 5] = [
         excludes: &["budget", "quota"],
         help: "Instead of a budget: a limit that requests ask before their first call too, as \
                bucket:CAPACITY/FLOOR/COST/LATE/DEBIT/CREDIT[+refund] (thousandths of a token; LATE is the cost after \
-               a late call), grpc:TOKENS/RATIO, aws, inflight:LEAST/SHARE (thousandths), \
-               breaker:FAILURES/PROBES/DEADLINE or throttle:RATIO/PERIOD (thousandths, milliseconds); with --compare \
-               you can give it again",
+               a late call), grpc:TOKENS/RATIO, aws, inflight:LEAST/SHARE[/MOST] (SHARE in thousandths; MOST requests \
+               at once), adaptive:LEAST/MOST/FIRST/BACKOFF (requests at once; BACKOFF in thousandths), \
+               breaker:FAILURES[/RESULTS]/PROBES/DEADLINE (FAILURES of the last RESULTS) or throttle:RATIO/PERIOD \
+               (thousandths, milliseconds); with --compare you can give it again",
     },
     Row {
         name: "open",
@@ -180,7 +189,7 @@ const REPORT: [Row; 7] = [
         takes: Takes::Number("M", 0, MAX_UNTIL),
         excludes: &[],
         help: "The moment at which the simulation stops, in milliseconds from 0 to 7200000 \
-               [default: 60 s after the end of --seconds]",
+               [default: 60 s after the end of --seconds, or after the last moment of --arrivals]",
     },
     Row {
         name: "calls",

@@ -2,6 +2,7 @@
 //! its range, or there is a line that says why not. It stands on `sched_storm`.
 #![tactic(auto)]
 
+mod arrivals;
 mod axes;
 mod beside;
 mod commands;
@@ -15,6 +16,7 @@ mod rows;
 mod several;
 mod sweeps;
 
+pub use arrivals::ArrivalLines;
 pub use axes::Axis;
 pub use beside::PopulationWords;
 pub use commands::storm_command;

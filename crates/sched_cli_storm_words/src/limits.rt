@@ -1,6 +1,6 @@
 //! Limits, as words spell them.
 use crate::numbers::number_in;
-use sched_limit::{Breaker, Bucket, InFlight, MAX_TRIPS, Throttle};
+use sched_limit::{Adaptive, Breaker, Bucket, InFlight, MAX_TRIPS, NO_MOST, Throttle};
 use sched_storm::Limit;
 use sched_time::{Millis, Moment};
 
@@ -16,6 +16,8 @@ const AWS_LATE: u64 = 10000;
 #[derive(Clone, Copy, Debug, PartialEq, Eq)]
 pub struct BreakerWords {
     failures: u32,
+    /// Among how many of the last results these are; none where they are in a row.
+    results: Option<u32>,
     probes: u64,
     deadline: u64,
 }
@@ -25,7 +27,11 @@ impl BreakerWords {
     pub fn breaker(&self, times: [u64; MAX_TRIPS], last: u64) -> Option<Breaker> {
         let now = Moment::new(0)?;
         let deadline = Millis::new(self.deadline)?;
-        Breaker::new(now, self.failures, self.probes, deadline, times, last)
+        let breaker = Breaker::new(now, self.failures, self.probes, deadline, times, last)?;
+        match self.results {
+            Some(results) => breaker.by_results(results),
+            None => Some(breaker),
+        }
     }
 }
 
@@ -43,6 +49,7 @@ pub(crate) fn limit_in(word: &str) -> Option<Limit> {
         "bucket" => bucket_in(numbers),
         "grpc" => grpc_in(numbers),
         "inflight" => in_flight_in(numbers),
+        "adaptive" => adaptive_in(numbers),
         "breaker" => Some(Limit::Breaker(breaker_in(numbers)?.breaker([OPEN; MAX_TRIPS], 0)?)),
         "throttle" => throttle_in(numbers),
         _ => None,
@@ -93,21 +100,50 @@ fn grpc_in(word: &str) -> Option<Limit> {
     })
 }
 
-// LEAST/SHARE.
+// LEAST/SHARE, or LEAST/SHARE/MOST.
 fn in_flight_in(word: &str) -> Option<Limit> {
-    let (least, share) = two_in(word)?;
+    let (least, rest) = word.split_once('/')?;
+    let (share, most) = match rest.split_once('/') {
+        Some((share, most)) => (share, word_of(number_in(most)?)?),
+        None => (rest, NO_MOST),
+    };
     Some(Limit::InFlight(InFlight {
-        least: word_of(least)?,
-        share: word_of(share)?,
+        least: word_of(number_in(least)?)?,
+        share: word_of(number_in(share)?)?,
+        most,
     }))
 }
 
-// FAILURES/PROBES/DEADLINE.
+// LEAST/MOST/FIRST/BACKOFF.
+fn adaptive_in(word: &str) -> Option<Limit> {
+    let (least, rest) = first_in(word)?;
+    let (most, rest) = first_in(rest)?;
+    let (first, backoff) = two_in(rest)?;
+    Some(Limit::Adaptive(Adaptive::new(
+        word_of(least)?,
+        word_of(most)?,
+        word_of(first)?,
+        word_of(backoff)?,
+    )?))
+}
+
+// FAILURES/PROBES/DEADLINE, or FAILURES/RESULTS/PROBES/DEADLINE.
 fn breaker_in(word: &str) -> Option<BreakerWords> {
     let (failures, rest) = first_in(word)?;
-    let (probes, deadline) = two_in(rest)?;
+    let (second, rest) = first_in(rest)?;
+    let (results, probes, deadline) = match rest.split_once('/') {
+        Some((probes, deadline)) => {
+            (
+                Some(word_of(second)?),
+                number_in(probes)?,
+                number_in(deadline)?,
+            )
+        }
+        None => (None, second, number_in(rest)?),
+    };
     Some(BreakerWords {
         failures: word_of(failures)?,
+        results,
         probes,
         deadline,
     })

@@ -1,4 +1,5 @@
 //! What the options of the command ask for.
+use crate::axes::Axis;
 use crate::beside::{PopulationWords, beside_in, file_of, populations_in};
 use crate::faults::StormFault;
 use crate::following::Following;
@@ -9,9 +10,17 @@ use crate::several::{Limited, draws_on, limited_in, opened, with_draws};
 use crate::sweeps::{Sweep, sweep_in};
 use clap::ArgMatches;
 use sched_limit::MAX_TRIPS;
-use sched_storm::{BrownOut, Draws, MAX_WINDOWS, Others, Parameters, Rates, Span, Storm};
+use sched_storm::{
+    BrownOut, Draws, MAX_UNTIL, MAX_WINDOWS, Others, Parameters, Rates, Span, Storm,
+};
 use sched_ticket_quota::Terms;
 use std::alloc::{AllocError, Global};
+
+// How long a storm is played after its requests came, in milliseconds, where nothing is said of it.
+const AFTER: u64 = 60000;
+
+const SWEEP_EXCLUDED: &str =
+    "the argument '--sweep <NAME=VALUES>' of rate, clients or together cannot be used with '--arrivals <FILE>'";
 
 const OPEN_WANTED: &str = "'--open <FILE>' is of '--limit breaker:..' alone";
 
@@ -60,6 +69,12 @@ pub struct StormOptions {
     pub open: Option<String>,
     /// The storm under each limit, where there are several: the first is `storm`.
     pub limited: Vec<Limited>,
+    /// The file of the moments at which its requests come, where there is one, and these moments; none before they are
+    /// read.
+    pub arrivals: Option<String>,
+    pub moments: Vec<u64>,
+    /// Whether the options say when the storm ends.
+    pub has_until: bool,
     /// The populations of its clients, where there are several.
     pub populations: Vec<PopulationWords>,
     /// The files of the plans that it is played under, or of those of its populations; the first is the program's
@@ -89,6 +104,7 @@ pub fn storm_options(
         Some(word) => Some(sweep_in(alloc, word, &parameters, &following)?),
         None => None,
     };
+    let arrivals = arrivals(alloc, options, &sweep)?;
     Ok(StormOptions {
         storm,
         sweep,
@@ -97,6 +113,9 @@ pub fn storm_options(
         breaker: options.get_str("limit").and_then(breaker_words_in),
         limited: limited_in(alloc, options, &storm)?,
         open: open(alloc, options)?,
+        arrivals,
+        moments: Vec::new(alloc),
+        has_until: options.get_one::<u64>("until").is_some(),
         populations: populations_in(alloc, options, &following.beside)?,
         names: names(alloc, options)?,
         texts: Vec::new(alloc),
@@ -168,16 +187,38 @@ fn parameters(
         down: number(options, "down", replicas),
         slow: slow(alloc, options, base.slow)?,
         window: number(options, "window", base.window),
-        until: number(
-            options,
-            "until",
-            seconds.saturating_mul(1000).saturating_add(60000),
-        ),
+        until: number(options, "until", until_after(options, seconds)),
         calls: number(options, "calls", base.calls),
         words: number(options, "words", base.words),
         draws,
         others: Others::NONE,
     })
+}
+
+// When a storm ends whose requests come for so many seconds, where nothing is said of it. Where they come by moments it
+// ends at 0 until these are read.
+fn until_after(options: &ArgMatches<'_>, seconds: u64) -> u64 {
+    if options.get_str("arrivals").is_some() {
+        return 0;
+    }
+    seconds.saturating_mul(1000).saturating_add(AFTER)
+}
+
+// The file of the moments of the requests, where one is named. No sweep is then along what says when requests come.
+fn arrivals(
+    alloc: Global,
+    options: &ArgMatches<'_>,
+    sweep: &Option<Sweep>,
+) -> Result<Option<String>, StormFault> {
+    let Some(name) = options.get_str("arrivals") else {
+        return Ok(None);
+    };
+    if let Some(sweep) = sweep {
+        if matches!(sweep.axis, Axis::Rate | Axis::Clients | Axis::Together) {
+            return Err(StormFault::bad(alloc, SWEEP_EXCLUDED));
+        }
+    }
+    Ok(Some(String::from_str(alloc, name)?))
 }
 
 // The number that is given, or this one.
@@ -288,7 +329,37 @@ fn has_breaker(options: &ArgMatches<'_>) -> bool {
     false
 }
 
+// The same storm, which ends at this moment. `None` where it has too many windows.
+pub(crate) fn with_until(storm: &Storm, until: u64) -> Option<Storm> {
+    let parameters = Parameters {
+        until,
+        ..*storm.parameters()
+    };
+    Storm::new(parameters)
+}
+
 impl StormOptions {
+    /// The same, with requests at these moments. Where the options do not say when the storm ends, it ends 60 s after
+    /// the last of them. `None` where it has too many windows then.
+    pub fn with_arrivals(self, moments: Vec<u64>) -> Option<StormOptions> {
+        let mut options = self;
+        if !options.has_until {
+            let last = moments.last().copied().unwrap_or(0);
+            let until = last.saturating_add(AFTER).min(MAX_UNTIL);
+            let storm = with_until(&options.storm, until)?;
+            options.storm = storm;
+            for limited in &mut options.limited {
+                let storm = with_until(&limited.storm, until)?;
+                limited.storm = storm;
+            }
+            if let Some(sweep) = &mut options.sweep {
+                sweep.end_at(until)?;
+            }
+        }
+        options.moments = moments;
+        Some(options)
+    }
+
     /// The same, with breakers that are open for these times, of which the first `last + 1` count.
     pub fn with_open_times(self, times: [u64; MAX_TRIPS], last: u64) -> StormOptions {
         let mut options = self;

@@ -8,8 +8,8 @@ use std::alloc::{AllocError, Global};
 
 const LIMIT_WANTED: &str =
     "expected bucket:CAPACITY/FLOOR/COST/LATE/DEBIT/CREDIT (in thousandths of a token, with +refund or without), \
-     grpc:TOKENS/RATIO, aws, inflight:LEAST/SHARE, breaker:FAILURES/PROBES/DEADLINE or throttle:RATIO/PERIOD, \
-     such as grpc:100/100";
+     grpc:TOKENS/RATIO, aws, inflight:LEAST/SHARE[/MOST], adaptive:LEAST/MOST/FIRST/BACKOFF, \
+     breaker:FAILURES[/RESULTS]/PROBES/DEADLINE or throttle:RATIO/PERIOD, such as grpc:100/100";
 
 const ONCE: &str =
     "the argument '--limit <LIMIT>' cannot be used multiple times without '--compare <FILE>'";

@@ -3,6 +3,7 @@ use crate::axes::Axis;
 use crate::faults::StormFault;
 use crate::following::Following;
 use crate::numbers::number_in;
+use crate::options::with_until;
 use crate::several::with_draws;
 use sched_storm::{Draws, Parameters, Storm};
 use std::alloc::{AllocError, Global};
@@ -44,6 +45,15 @@ pub struct Sweep {
 }
 
 impl Sweep {
+    /// Ends its storms at this moment. `None` where one has too many windows then.
+    pub(crate) fn end_at(&mut self, until: u64) -> Option<()> {
+        for swept in &mut self.storms {
+            let storm = with_until(&swept.storm, until)?;
+            swept.storm = storm;
+        }
+        Some(())
+    }
+
     /// Makes the retries of its storms draw on this.
     pub(crate) fn draw_on(&mut self, draws: &Draws) {
         for swept in &mut self.storms {

@@ -4,3 +4,4 @@ mod Deadlines
 pub mod Quotas
 pub mod Splits
 pub mod Undrawn
+pub mod PaceMade

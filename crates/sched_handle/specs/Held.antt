@@ -1,7 +1,7 @@
 -- What a handle holds, and which kind of thing it is.
 use Rattle.std.specs.Prelude.{◌≡◌, ◌≢◌, Result, Err}
 use Rattle.sched_handle.specs.declared.held.Held.{Held}
-use Rattle.sched_handle.specs.declared.held.Held.TheVariants.{Room, Policy, Pass, Retry, Leased, Limits}
+use Rattle.sched_handle.specs.declared.held.Held.TheVariants.{Room, Policy, Pass, Retry, Leased, Limits, Pace}
 use Rattle.sched_handle.specs.declared.held.Kind.{Kind}
 use Rattle.sched_handle.specs.declared.held.Kind.TheVariants as kind
 use Rattle.sched_handle.specs.declared.status.Status.{Status}
@@ -14,6 +14,7 @@ kind_of (Pass s) = kind.Pass
 kind_of (Retry r) = kind.Retry
 kind_of (Leased l) = kind.Leased
 kind_of (Limits l) = kind.Limits
+kind_of (Pace d) = kind.Pace
 
 -- a call that asks for this kind is refused for this reason
 abbrev pub IsOther : Kind → Held → Status → Type 0

@@ -11,3 +11,5 @@ pub mod Retries
 pub mod Leases
 pub mod Limits
 pub mod Looks
+pub mod States
+pub mod Paces

@@ -45,6 +45,7 @@ code_of status.TooManyRequests = 44
 code_of status.LeaseWanted = 50
 code_of status.NotOut = 51
 code_of status.HeldAlready = 52
+code_of status.TooSoon = 70
 
 -- what a call that answers nothing else returns
 abbrev pub told : {A : Type 0} → Result A Status → ℕ

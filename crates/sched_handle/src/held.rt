@@ -7,6 +7,7 @@ ghost use Rattle.sched_handle.specs.declared.status.Status.TheVariants as status
 use crate::status::Status;
 use sched_driver_stepper::{Compiled, Stepper};
 use sched_limit_handle::Held as Limits;
+use sched_pace::OnPace;
 use sched_run_machine::{Machine, Until};
 use sched_ticket_draws::Drawing;
 use sched_ticket_lease::Leased;
@@ -28,6 +29,8 @@ pub enum Held {
     Leased(Leased),
     /// One limit or several at once, in a block of their own: they are larger than all else.
     Limits(Box<Limits>),
+    /// A pass of a pace.
+    Pace(OnPace),
 }
 
 /// Which kind of thing a handle holds, by the names that `Held` has for them.
@@ -39,6 +42,7 @@ pub enum Kind {
     Retry,
     Leased,
     Limits,
+    Pace,
 }
 
 impl Held {
@@ -53,6 +57,7 @@ impl Held {
             Held::Retry(_) => Kind::Retry,
             Held::Leased(_) => Kind::Leased,
             Held::Limits(_) => Kind::Limits,
+            Held::Pace(_) => Kind::Pace,
         }
     }
 
@@ -81,6 +86,7 @@ impl Held {
             Held::Retry(_) => unreachable!(),
             Held::Leased(_) => unreachable!(),
             Held::Limits(_) => unreachable!(),
+            Held::Pace(_) => unreachable!(),
         }
         room
     }

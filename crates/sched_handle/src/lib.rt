@@ -1,7 +1,7 @@
 //! Handles: what a host that isn't written in Rattle holds of the engine, each a pointer to a policy, a pass, a leased
-//! pass, a retry or limits. Each call does and replies what its clause says of what the handle holds, and refuses an
-//! empty handle and one of another kind. It stands on plans, on the machine of retries, on what retries draw on, and on
-//! limits.
+//! pass, a retry, limits or a pace. Each call does and replies what its clause says of what the handle holds, and
+//! refuses an empty handle and one of another kind. It stands on plans, on the machine of retries, on what retries draw
+//! on, and on limits.
 #![tactic(auto)]
 
 mod drawing;
@@ -10,10 +10,12 @@ mod held;
 mod leases;
 mod limits;
 mod looks;
+mod paces;
 mod passes;
 mod policies;
 mod replies;
 mod retries;
+mod states;
 mod status;
 
 pub use handle::Handle;

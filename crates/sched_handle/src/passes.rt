@@ -218,6 +218,7 @@ impl Held {
             Held::Policy(_) => None,
             Held::Leased(_) => None,
             Held::Limits(_) => None,
+            Held::Pace(_) => None,
         }
     }
 
@@ -237,6 +238,7 @@ impl Held {
             Held::Policy(_) => unreachable!(),
             Held::Leased(_) => unreachable!(),
             Held::Limits(_) => unreachable!(),
+            Held::Pace(_) => unreachable!(),
         }
     }
 

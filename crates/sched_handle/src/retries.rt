@@ -58,6 +58,7 @@ impl Held {
             Held::Pass(_) => Err(Status::WrongKind),
             Held::Leased(_) => Err(Status::WrongKind),
             Held::Limits(_) => Err(Status::WrongKind),
+            Held::Pace(_) => Err(Status::WrongKind),
         }
     }
 
@@ -85,6 +86,7 @@ impl Held {
             Held::Pass(_) => Err(Status::WrongKind),
             Held::Leased(_) => Err(Status::WrongKind),
             Held::Limits(_) => Err(Status::WrongKind),
+            Held::Pace(_) => Err(Status::WrongKind),
         }
     }
 
@@ -102,6 +104,7 @@ impl Held {
             Held::Pass(_) => Err(Status::WrongKind),
             Held::Leased(_) => Err(Status::WrongKind),
             Held::Limits(_) => Err(Status::WrongKind),
+            Held::Pace(_) => Err(Status::WrongKind),
         }
     }
 }

@@ -71,6 +71,8 @@ pub enum Status {
     NotOut,
     /// the range was granted already
     HeldAlready,
+    /// the call would wait too long
+    TooSoon,
 }
 
 impl Status {
@@ -110,6 +112,7 @@ impl Status {
             Status::LeaseWanted => 50,
             Status::NotOut => 51,
             Status::HeldAlready => 52,
+            Status::TooSoon => 70,
         }
     }
 }

@@ -5,13 +5,14 @@ use Rattle.std.proofs.Common.{ltb-false, eq-eqb, ne_eqb}
 use Rattle.sched_limit_word.specs.Laws.{IsKeptBy}
 use Rattle.sched_limit_word.specs.declared.call.Call.{Call}
 use Rattle.sched_limit_word.specs.declared.call.Call.TheVariants.{Admit, Draw, Failed, Succeeded, Ended, Returned}
-use Rattle.sched_limit_word.specs.declared.call.Call.TheVariants.{Closed}
+use Rattle.sched_limit_word.specs.declared.call.Call.TheVariants.{Closed, OpenedByHand, ClosedByHand}
 use Rattle.sched_limit_word.proofs.Views.{what_is_kept_holds}
 use Rattle.sched_limit.specs.Word.{generation_of, count_of, won_of, admitted_of, at_of, trip_of, closed, tripped}
 use Rattle.sched_limit.specs.Word.{stamp_of}
 use Rattle.sched_limit.specs.Breaker.{since_start, open_for, begins, joins, opens, is_open, is_out, waits, has_room}
 use Rattle.sched_limit.specs.Breaker.{probes_in, probed, asked, failed_closed, failed_tripped, failed, won}
-use Rattle.sched_limit.specs.Breaker.{succeeded_tripped, succeeded, breaker_next}
+use Rattle.sched_limit.specs.Breaker.{succeeded_tripped, succeeded, breaker_next, and_failure, and_success}
+use Rattle.sched_limit.specs.Breaker.{failures_kept, next_generation, opened_by_hand, closed_by_hand}
 use Rattle.sched_limit.specs.Laws.{ProbesAreFew, OpenIsKept, LateResultsChangeNothing, OpensAfterFailures}
 use Rattle.sched_limit.specs.Laws.{has_few_probes, is_kept_open, is_of_now, trips_late}
 use Rattle.sched_limit.specs.declared.breaker.Breaker.{Breaker}
@@ -20,13 +21,13 @@ use Rattle.sched_limit.proofs.Cases.{and_right, and_false, and_no_left, and_no_r
 use Rattle.sched_limit.proofs.Cases.{not_false, each_is}
 
 -- what a word says that was laid out
-tripped_odd : (g t a m n : ℕ) → tripped g t a m n % 2 ≡ 1
+pub tripped_odd : (g t a m n : ℕ) → tripped g t a m n % 2 ≡ 1
 tripped_odd g t a m n = omega arith
 
-closed_even : (g n : ℕ) → closed g n % 2 ≡ 0
+pub closed_even : (g n : ℕ) → closed g n % 2 ≡ 0
 closed_even g n = omega arith
 
-tripped_admitted : (g t a m n : ℕ) → m < 16 → n < 16 → admitted_of (tripped g t a m n) ≡ m
+pub tripped_admitted : (g t a m n : ℕ) → m < 16 → n < 16 → admitted_of (tripped g t a m n) ≡ m
 tripped_admitted g t a m n few-admitted few-won = omega (arith, few-admitted, few-won)
 
 few_won : (w : ℕ) → won_of w < 16
@@ -74,9 +75,9 @@ module _ (b : Breaker) where
       by_eq (λ (x : ℕ). has_few_probes b x ≡ true) (w % 2) 1 (failed_tripped b at w) (failed_closed b at w)
       (λ _. by_eq (λ (x : ℕ). has_few_probes b x ≡ true) (admitted_of w) 0 w (opens b at (min (trip_of w + 1) 63) w)
       (λ _. h) (λ _. few_opens at (min (trip_of w + 1) 63) w))
-      (λ _. by_lt (λ (x : ℕ). has_few_probes b x ≡ true) (count_of w + 1) b.failures
-      (closed (generation_of w) (count_of w + 1)) (opens b at 0 w)
-      (λ _. few_closed (generation_of w) (count_of w + 1)) (λ _. few_opens at 0 w))
+      (λ _. by_lt (λ (x : ℕ). has_few_probes b x ≡ true) (failures_kept b (and_failure b (count_of w))) b.failures
+      (closed (generation_of w) (and_failure b (count_of w))) (opens b at 0 w)
+      (λ _. few_closed (generation_of w) (and_failure b (count_of w))) (λ _. few_opens at 0 w))
 
   -- of a tripped breaker
   few_of : (w : ℕ) → w % 2 ≡ 1 → has_few_probes b w ≡ true → admitted_of w ≤ b.probes
@@ -85,14 +86,15 @@ module _ (b : Breaker) where
 
   few_after : (w : ℕ) → has_few_probes b w ≡ true → has_few_probes b (succeeded b w) ≡ true
   few_after w h =
-      by_eq (λ (x : ℕ). has_few_probes b x ≡ true) (w % 2) 1 (succeeded_tripped b w) (closed (generation_of w) 0)
+      by_eq (λ (x : ℕ). has_few_probes b x ≡ true) (w % 2) 1 (succeeded_tripped b w)
+      (closed (generation_of w) (and_success b (count_of w)))
       (λ odd. by_eq (λ (x : ℕ). has_few_probes b x ≡ true) (admitted_of w) 0 w (won b w) (λ _. h)
       (λ _. by_lt (λ (x : ℕ). has_few_probes b x ≡ true) (won_of w + 1) b.probes
       (tripped (generation_of w) (trip_of w) (at_of w) (admitted_of w) (won_of w + 1)) (closed (generation_of w) 0)
       (λ more. few_tripped (generation_of w) (trip_of w) (at_of w) (admitted_of w) (won_of w + 1) (few_of w odd h)
       (omega (arith, more, b.few_probes.1)))
       (λ _. few_closed (generation_of w) 0)))
-      (λ _. few_closed (generation_of w) 0)
+      (λ _. few_closed (generation_of w) (and_success b (count_of w)))
 
   few_next : (c : Call) (w : ℕ) → has_few_probes b w ≡ true → has_few_probes b (breaker_next b c w) ≡ true
   few_next (Admit now random before) w h = few_asked (since_start b now) w h
@@ -104,6 +106,9 @@ module _ (b : Breaker) where
   few_next (Ended slots) w h = h
   few_next (Returned cost slots) w h = h
   few_next (Closed now) w h = h
+  few_next (OpenedByHand now until) w h =
+      few_tripped (next_generation w) 0 (since_start b until) 0 0 (omega arith) (omega arith)
+  few_next (ClosedByHand now) w h = few_closed (next_generation w) 0
 
   pub kept_few : IsKeptBy (breaker_next b) 0 (has_few_probes b)
   kept_few = (refl, few_next)
@@ -142,13 +147,14 @@ module _ (b : Breaker) where
 
   succeeded_kept : (w : ℕ) → cond ((w % 2 == 1) && (admitted_of w == 0)) ((succeeded b w == w) || false) true ≡ true
   succeeded_kept w = by_eq (λ (x : ℕ). cond ((w % 2 == 1) && (admitted_of w == 0)) ((x == w) || false) true ≡ true)
-      (w % 2) 1 (succeeded_tripped b w) (closed (generation_of w) 0)
+      (w % 2) 1 (succeeded_tripped b w) (closed (generation_of w) (and_success b (count_of w)))
       (λ _. by_eq (λ (x : ℕ). cond ((w % 2 == 1) && (admitted_of w == 0)) ((x == w) || false) true ≡ true)
       (admitted_of w) 0 w (won b w)
       (λ _. same_kept false w)
       (λ some. no_demand ((w % 2 == 1) && (admitted_of w == 0)) ((won b w == w) || false)
       (and_no_right (w % 2 == 1) (admitted_of w == 0) (ne_eqb (admitted_of w) 0 some))))
-      (λ even. no_demand ((w % 2 == 1) && (admitted_of w == 0)) ((closed (generation_of w) 0 == w) || false)
+      (λ even. no_demand ((w % 2 == 1) && (admitted_of w == 0))
+      ((closed (generation_of w) (and_success b (count_of w)) == w) || false)
       (and_no_left (w % 2 == 1) (admitted_of w == 0) (ne_eqb (w % 2) 1 even)))
 
   open_kept : (c : Call) (w : ℕ) → is_kept_open b c w (breaker_next b c w) ≡ true
@@ -165,6 +171,12 @@ module _ (b : Breaker) where
   open_kept (Ended slots) w = same_kept false w
   open_kept (Returned cost slots) w = same_kept false w
   open_kept (Closed now) w = same_kept false w
+  open_kept (OpenedByHand now until) w =
+      some_demand ((w % 2 == 1) && (admitted_of w == 0)) ((opened_by_hand (since_start b until) w == w) || true)
+      (λ _. or_right (opened_by_hand (since_start b until) w == w) true refl)
+  open_kept (ClosedByHand now) w =
+      some_demand ((w % 2 == 1) && (admitted_of w == 0)) ((closed_by_hand w == w) || true)
+      (λ _. or_right (closed_by_hand w == w) true refl)
 
   late_same : (c : Call) (w : ℕ) → is_of_now c w (breaker_next b c w) ≡ true
   late_same (Admit now random before) w = refl
@@ -180,6 +192,8 @@ module _ (b : Breaker) where
   late_same (Ended slots) w = refl
   late_same (Returned cost slots) w = refl
   late_same (Closed now) w = refl
+  late_same (OpenedByHand now until) w = refl
+  late_same (ClosedByHand now) w = refl
 
   -- a breaker that is left as it is was not tripped
   as_it_was : (z : Bool) (w : ℕ) → ((w % 2 == 1) || (not (w % 2 == 1) || z)) ≡ true
@@ -193,27 +207,33 @@ module _ (b : Breaker) where
   trips (Admit now random before) w = asked_trips (since_start b now) w
   trips (Draw now cost slots) w = asked_trips (since_start b now) w
   trips (Failed now generation) w =
-      let z : Bool = leb b.failures (count_of w + 1) in
+      let kept : ℕ = and_failure b (count_of w) in
+      let z : Bool = leb b.failures (failures_kept b kept) in
       by_eq (λ (x : ℕ). ((w % 2 == 1) || (not (x % 2 == 1) || z)) ≡ true) generation (stamp_of w)
       (failed b (since_start b now) w) w
       (λ _. by_eq (λ (x : ℕ). ((w % 2 == 1) || (not (x % 2 == 1) || z)) ≡ true) (w % 2) 1
       (failed_tripped b (since_start b now) w) (failed_closed b (since_start b now) w)
       (λ odd. or_left (w % 2 == 1) _ (eq-eqb (w % 2) 1 odd))
-      (λ _. by_lt (λ (x : ℕ). ((w % 2 == 1) || (not (x % 2 == 1) || z)) ≡ true) (count_of w + 1) b.failures
-      (closed (generation_of w) (count_of w + 1)) (opens b (since_start b now) 0 w)
-      (λ _. or_right (w % 2 == 1) _ (or_left _ z (closed_not_odd (generation_of w) (count_of w + 1))))
-      (λ last. or_right (w % 2 == 1) _ (or_right _ z (le-leb b.failures (count_of w + 1) last)))))
+      (λ _. by_lt (λ (x : ℕ). ((w % 2 == 1) || (not (x % 2 == 1) || z)) ≡ true) (failures_kept b kept) b.failures
+      (closed (generation_of w) kept) (opens b (since_start b now) 0 w)
+      (λ _. or_right (w % 2 == 1) _ (or_left _ z (closed_not_odd (generation_of w) kept)))
+      (λ last. or_right (w % 2 == 1) _ (or_right _ z (le-leb b.failures (failures_kept b kept) last)))))
       (λ _. as_it_was z w)
   trips (Succeeded now generation worth) w =
       by_eq (λ (x : ℕ). ((w % 2 == 1) || (not (x % 2 == 1) || false)) ≡ true) generation (stamp_of w) (succeeded b w) w
       (λ _. by_eq (λ (x : ℕ). ((w % 2 == 1) || (not (x % 2 == 1) || false)) ≡ true) (w % 2) 1 (succeeded_tripped b w)
-      (closed (generation_of w) 0)
+      (closed (generation_of w) (and_success b (count_of w)))
       (λ odd. or_left (w % 2 == 1) _ (eq-eqb (w % 2) 1 odd))
-      (λ _. or_right (w % 2 == 1) _ (or_left _ false (closed_not_odd (generation_of w) 0))))
+      (λ _. or_right (w % 2 == 1) _
+      (or_left _ false (closed_not_odd (generation_of w) (and_success b (count_of w))))))
       (λ _. as_it_was false w)
   trips (Ended slots) w = as_it_was false w
   trips (Returned cost slots) w = as_it_was false w
   trips (Closed now) w = as_it_was false w
+  trips (OpenedByHand now until) w =
+      or_right (w % 2 == 1) _ (or_right (not (opened_by_hand (since_start b until) w % 2 == 1)) true refl)
+  trips (ClosedByHand now) w =
+      or_right (w % 2 == 1) _ (or_left _ false (closed_not_odd (next_generation w) 0))
 
 pub probes_are_few : ProbesAreFew
 probes_are_few b s kept = (what_is_kept_holds (breaker_next b) 0 s kept (has_few_probes b) (kept_few b)).0

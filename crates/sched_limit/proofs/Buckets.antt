@@ -7,7 +7,7 @@ use Rattle.sched_limit_word.specs.Laws.{IsKeptBy, word_of}
 use Rattle.sched_limit_word.specs.Tokens.{gained_by, used_by}
 use Rattle.sched_limit_word.specs.declared.call.Call.{Call}
 use Rattle.sched_limit_word.specs.declared.call.Call.TheVariants.{Admit, Draw, Failed, Succeeded, Ended, Returned}
-use Rattle.sched_limit_word.specs.declared.call.Call.TheVariants.{Closed}
+use Rattle.sched_limit_word.specs.declared.call.Call.TheVariants.{Closed, OpenedByHand, ClosedByHand}
 use Rattle.sched_limit_word.specs.declared.view.Move.{Move}
 use Rattle.sched_limit_word.specs.declared.view.View.{View}
 use Rattle.sched_limit_word.proofs.Views.{what_is_kept_holds, sums_telescope}
@@ -28,6 +28,8 @@ module _ (b : Bucket) where
   next_le (Ended slots) w h = h
   next_le (Returned cost slots) w h = omega arith
   next_le (Closed now) w h = h
+  next_le (OpenedByHand now until) w h = h
+  next_le (ClosedByHand now) w h = h
 
   pub kept_within : IsKeptBy (bucket_next b) b.capacity (λ (w : ℕ). leb w b.capacity)
   kept_within = (
@@ -47,6 +49,8 @@ module _ (b : Bucket) where
   balanced (Ended slots) w h = omega arith
   balanced (Returned cost slots) w h = omega (arith, h)
   balanced (Closed now) w h = omega arith
+  balanced (OpenedByHand now until) w h = omega arith
+  balanced (ClosedByHand now) w h = omega arith
 
   above : (c : Call) (w : ℕ) → is_above b c w (bucket_next b c w) ≡ true
   above (Admit now random before) w = refl
@@ -61,6 +65,8 @@ module _ (b : Bucket) where
   above (Ended slots) w = refl
   above (Returned cost slots) w = refl
   above (Closed now) w = refl
+  above (OpenedByHand now until) w = refl
+  above (ClosedByHand now) w = refl
 
 -- what two kinds of moves weigh together
 moves_plus : (f g : Move → ℕ) (views : List View)

@@ -1,12 +1,13 @@
 -- The laws of what is in flight.
-use Rattle.std.proofs.Common.{◌≡◌, ℕ, ◌+◌, ◌-◌, ◌*◌, ◌/◌, ◌%◌, ◌<◌, ◌≤◌, min, max, true, ◌==◌, ◌||◌, leb, refl}
-use Rattle.std.proofs.Common.{subst, sym, arith, le-leb, eq-eqb}
+use Rattle.std.proofs.Common.{◌≡◌, ℕ, ◌+◌, ◌-◌, ◌*◌, ◌/◌, ◌%◌, ◌<◌, ◌≤◌, min, max, Bool, true, ◌==◌, ◌||◌, leb, refl}
+use Rattle.std.proofs.Common.{subst, sym, arith, le-leb, leb-true, eq-eqb}
+use Rattle.sched_limit_word.specs.Laws.{word_of}
 use Rattle.sched_limit_word.specs.declared.call.Call.{Call}
 use Rattle.sched_limit_word.specs.declared.call.Call.TheVariants.{Admit, Draw, Failed, Succeeded, Ended, Returned}
-use Rattle.sched_limit_word.specs.declared.call.Call.TheVariants.{Closed}
-use Rattle.sched_limit_word.specs.declared.view.Move.{Move}
+use Rattle.sched_limit_word.specs.declared.call.Call.TheVariants.{Closed, OpenedByHand, ClosedByHand}
+use Rattle.sched_limit_word.proofs.Views.{what_is_kept_holds}
 use Rattle.sched_limit.specs.InFlight.{flight_next, requests_of, retries_of, bound}
-use Rattle.sched_limit.specs.Laws.{GrantsAreWithinTheBound, is_within}
+use Rattle.sched_limit.specs.Laws.{GrantsAreWithinTheBound, RequestsStayWithin, is_within}
 use Rattle.sched_limit.specs.declared.in_flight.InFlight.{InFlight}
 use Rattle.sched_limit.proofs.Cases.{by_lt, or_left, or_right, each_is}
 
@@ -55,7 +56,45 @@ module _ (k : InFlight) where
   within (Ended slots) w = refl
   within (Returned cost slots) w = refl
   within (Closed now) w = refl
+  within (OpenedByHand now until) w = refl
+  within (ClosedByHand now) w = refl
+
+  next_has_room : (c : Call) (w : ℕ) → requests_of w ≤ k.most → requests_of (flight_next k c w) ≤ k.most
+  next_has_room (Admit now random before) w h =
+      by_lt (λ (x : ℕ). requests_of x ≤ k.most) (requests_of w) k.most (w + 4294967296) w
+      (λ room. omega (arith, room)) (λ _. h)
+  next_has_room (Draw now cost slots) w h =
+      let q : ℕ = requests_of w in
+      let r : ℕ = retries_of w - slots in
+      by_lt (λ (x : ℕ). requests_of x ≤ k.most) r (bound k q) (q * 4294967296 + (r + 1)) (q * 4294967296 + r)
+      (λ room. omega (arith, requests_laid q (r + 1) (omega (arith, room, bound_le q)), h))
+      (λ _. omega (arith, requests_laid q r (omega arith), h))
+  next_has_room (Failed now generation) w h = h
+  next_has_room (Succeeded now generation worth) w h = h
+  next_has_room (Ended slots) w h = omega (
+    arith,
+    requests_laid (requests_of w - 1) (retries_of w - slots) (omega arith),
+    h,
+  )
+  next_has_room (Returned cost slots) w h = omega (
+    arith,
+    requests_laid (requests_of w) (retries_of w - slots) (omega arith),
+    h,
+  )
+  next_has_room (Closed now) w h = h
+  next_has_room (OpenedByHand now until) w h = h
+  next_has_room (ClosedByHand now) w h = h
 
 pub grants_are_within_the_bound : GrantsAreWithinTheBound
 grants_are_within_the_bound k =
     each_is (flight_next k) 0 (λ (w : ℕ). true) (is_within k) (refl, λ c w _. refl) (λ c w _. within k c w)
+
+pub requests_stay_within : RequestsStayWithin
+requests_stay_within k s kept =
+    let few : ℕ → Bool = λ (w : ℕ). leb (requests_of w) k.most in
+    leb-true (requests_of (word_of s)) k.most
+    (what_is_kept_holds (flight_next k) 0 s kept few (
+      le-leb (requests_of 0) k.most (omega arith),
+      λ c w h. le-leb (requests_of (flight_next k c w)) k.most
+          (next_has_room k c w (leb-true (requests_of w) k.most h)),
+    )).0

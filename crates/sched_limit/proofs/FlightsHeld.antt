@@ -6,7 +6,7 @@ use Rattle.sched_limit_word.specs.Rule.{IsRun}
 use Rattle.sched_limit_word.specs.Tokens.{UsesItsOwn, gained_by, used_by}
 use Rattle.sched_limit_word.specs.declared.call.Call.{Call}
 use Rattle.sched_limit_word.specs.declared.call.Call.TheVariants.{Admit, Draw, Failed, Succeeded, Ended, Returned}
-use Rattle.sched_limit_word.specs.declared.call.Call.TheVariants.{Closed}
+use Rattle.sched_limit_word.specs.declared.call.Call.TheVariants.{Closed, OpenedByHand, ClosedByHand}
 use Rattle.sched_limit_word.specs.declared.view.Move.{Move}
 use Rattle.sched_limit.specs.FlightTokens.{InFlightIsCounted, in_flight, flight_gained, flight_used, flight_tokens}
 use Rattle.sched_limit.specs.InFlight.{flight_next, requests_of, retries_of, bound}
@@ -51,9 +51,9 @@ module _ (k : InFlight) where
 
   counted : (c : Call) (w kind : ℕ) → flight_used c kind ≤ in_flight kind w → Counted c w kind
   counted (Admit now random before) w zero le =
-      omega (arith, admits_counted (ltb (requests_of w) 4294967295) w zero)
+      omega (arith, admits_counted (ltb (requests_of w) k.most) w zero)
   counted (Admit now random before) w (suc kind) le =
-      omega (arith, admits_counted (ltb (requests_of w) 4294967295) w (suc kind))
+      omega (arith, admits_counted (ltb (requests_of w) k.most) w (suc kind))
   counted (Draw now cost slots) w zero le =
       draws_counted (ltb (retries_of w - slots) (bound k (requests_of w))) (requests_of w) (retries_of w) slots zero
       (λ room. omega (
@@ -85,6 +85,10 @@ module _ (k : InFlight) where
       omega (arith, requests_laid (requests_of w) (retries_of w - slots) (omega (arith, small w)))
   counted (Closed now) w zero le = omega arith
   counted (Closed now) w (suc kind) le = omega arith
+  counted (OpenedByHand now until) w zero le = omega arith
+  counted (OpenedByHand now until) w (suc kind) le = omega arith
+  counted (ClosedByHand now) w zero le = omega arith
+  counted (ClosedByHand now) w (suc kind) le = omega arith
 
   -- what is used, the word has
   word_has : (u used gained there : ℕ) → (0 < u → u + used ≤ gained) → there + used ≡ gained → u ≤ there

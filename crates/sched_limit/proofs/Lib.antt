@@ -3,7 +3,12 @@ pub mod Cases
 pub mod Buckets
 pub mod Flights
 pub mod FlightsHeld
+pub mod Adaptives
 pub mod Breakers
+pub mod ResultBits
+pub mod LastResults
+pub mod ByHand
 pub mod Throttles
 pub mod QuietWords
 mod Rows
+mod RowsInside

@@ -1,10 +1,13 @@
 -- Worked rows of each limit, computed with the definitions alone.
 use Rattle.std.specs.Prelude.{◌≡◌, ℕ, ◌+◌, ◌*◌, ◌∷◌, replicate, Ok, Err}
 use Rattle.std.proofs.Common.{refl, arith, suc, zero}
+use Rattle.std.specs.Int.Count.{ones}
+use Rattle.sched_limit_word.specs.declared.call.Call.TheVariants.{OpenedByHand, ClosedByHand}
 use Rattle.sched_limit.specs.Step.{Rules, Step, step, nothing, admitted}
 use Rattle.sched_limit.specs.Turns.{Steps, steps}
 use Rattle.sched_limit.specs.Kinds.{bucket_rules, flight_rules, breaker_rules}
 use Rattle.sched_limit.specs.Bucket.{grpc_bucket}
+use Rattle.sched_limit.specs.Breaker.{breaker_next}
 use Rattle.sched_limit.specs.declared.breaker.Breaker.{Breaker}
 use Rattle.sched_limit.specs.declared.throttle.Throttle.{Throttle}
 use Rattle.sched_limit.specs.declared.refusal.Refusal.TheVariants.{LevelLow, Full, Open, Probing, Throttled}
@@ -44,7 +47,7 @@ refused_below = (refl, refl)
 
 -- one retry in flight, or a fifth of the requests, of which there are ten
 abbrev flight : Rules
-flight = flight_rules (record { least = 1; share = 200 })
+flight = flight_rules (record { least = 1; share = 200; most = 4294967295 })
 
 abbrev came : ℕ → ℕ
 came zero = 0
@@ -84,11 +87,13 @@ the_third = (refl, refl)
 abbrev times_two : Breaker
 times_two = record {
   failures = 2;
+  results = 0;
   probes = 1;
   deadline = 1000;
   start = 0;
   times = 100 ∷ 200 ∷ replicate 62 400;
   last = 63;
+  few_failures = (omega arith, omega arith);
   few_probes = (omega arith, omega arith);
   few_trips = (omega arith, refl);
   near = omega arith;
@@ -131,6 +136,61 @@ closes : (last_probe.answer ≡ Ok tt)
     × ((run 321 (tells (Succeeded 320) last_probe last_probe.word).word).answer ≡ Ok tt)
     × ((run 322 (tells (Succeeded 320) last_probe last_probe.word).word).answer ≡ Ok tt)
 closes = (refl, refl, refl)
+
+-- the same, but that two of its last three results open it
+abbrev two_of_three_results : Breaker
+two_of_three_results = record {
+  failures = 2;
+  results = 3;
+  probes = 1;
+  deadline = 1000;
+  start = 0;
+  times = 100 ∷ 200 ∷ replicate 62 400;
+  last = 63;
+  few_failures = (omega arith, omega arith);
+  few_probes = (omega arith, omega arith);
+  few_trips = (omega arith, refl);
+  near = omega arith;
+}
+
+abbrev by_last : Rules
+by_last = breaker_rules two_of_three_results
+
+-- what a request that was admitted at 0 tells of it
+abbrev told_it : Told → ℕ → Step
+told_it told word = step by_last told 0 (admitted 0) word
+
+abbrev succeeded_late : ℕ
+succeeded_late = (told_it (Succeeded 3) (told_it (Succeeded 2) (told_it (Failed 1) 0).word).word).word
+
+abbrev failed_later : ℕ
+failed_later = (told_it (Failed 4) succeeded_late).word
+
+failed_of_three : (step by_last (Admit 4) 0 nothing failed_later).answer ≡ Ok tt
+unfolding ones
+failed_of_three = refl
+
+opened_by_the_last : (step by_last (Admit 104) 0 nothing (told_it (Failed 5) failed_later).word).answer ≡ Err (Open 105)
+unfolding ones
+opened_by_the_last = refl
+
+-- by hand until 50, and closed by hand
+abbrev by_hand : ℕ
+by_hand = breaker_next times_two (OpenedByHand 20 50) failed_once.word
+
+open_by_hand : ((run 49 by_hand).answer ≡ Err (Open 50)) × ((run 50 by_hand).answer ≡ Ok tt)
+open_by_hand = (refl, refl)
+
+late_by_hand : (tells (Failed 60) (run 0 0) (run 50 by_hand).word).word ≡ (run 50 by_hand).word
+late_by_hand = refl
+
+-- the next trip is the second one
+again_by_hand : (run 259 (tells (Failed 60) (run 50 by_hand) (run 50 by_hand).word).word).answer ≡ Err (Open 260)
+again_by_hand = refl
+
+closed_by_hand : (breaker_next times_two (ClosedByHand 30) by_hand ≡ 2 * 4503599627370496)
+    × ((tells (Failed 60) (run 0 0) (2 * 4503599627370496)).word ≡ 2 * 4503599627370496)
+closed_by_hand = (refl, refl)
 
 late_failure : (tells (Failed 130) (run 5 failed_once.word) opened_again.word).word ≡ opened_again.word
 late_failure = refl

@@ -5,7 +5,7 @@ use Rattle.std.proofs.Common.{◌∙◌, subst, arith, eq-eqb, sym, ap, zero, su
 use Rattle.std.proofs.lemmas.Nat.{div-mul-add}
 use Rattle.sched_limit_word.specs.declared.call.Call.{Call}
 use Rattle.sched_limit_word.specs.declared.call.Call.TheVariants.{Admit, Draw, Failed, Succeeded, Ended, Returned}
-use Rattle.sched_limit_word.specs.declared.call.Call.TheVariants.{Closed}
+use Rattle.sched_limit_word.specs.declared.call.Call.TheVariants.{Closed, OpenedByHand, ClosedByHand}
 use Rattle.sched_limit.specs.Window.{window_of, is_closed, requests_in, accepts_in, counted, requests_at, accepts_at}
 use Rattle.sched_limit.specs.Window.{is_open_to}
 use Rattle.sched_limit.specs.Throttle.{throttle_next, window_at, asks_in, accepted_in, closed_in}
@@ -127,6 +127,8 @@ module _ (t : Throttle) where
       (goes_on k u 0 (requests_at u w) (min (accepts_at u w + 1) 1048575) w (fits_accepted u w)) (λ _. stays k w)
   forward (Ended slots) w = stays (Ended slots) w
   forward (Returned cost slots) w = stays (Returned cost slots) w
+  forward (OpenedByHand now until) w = stays (OpenedByHand now until) w
+  forward (ClosedByHand now) w = stays (ClosedByHand now) w
   forward (Closed now) w =
       let k : Call = Closed now in
       let u : ℕ = window_at t now - 1 in
@@ -150,6 +152,8 @@ module _ (t : Throttle) where
       (λ _. same k w)
   counts (Ended slots) w = same (Ended slots) w
   counts (Returned cost slots) w = same (Returned cost slots) w
+  counts (OpenedByHand now until) w = same (OpenedByHand now until) w
+  counts (ClosedByHand now) w = same (ClosedByHand now) w
   counts (Closed now) w =
       let k : Call = Closed now in
       let u : ℕ = window_at t now - 1 in

@@ -1,9 +1,9 @@
 -- The breaker as a sequential machine.
-use Rattle.std.specs.Prelude.{ℕ, ◌+◌, ◌-◌, ◌%◌, ◌==◌, ◌&&◌, ◌||◌, not, min, Bool, if◌then◌else◌, nat_lt, slice_index}
-use Rattle.std.specs.Prelude.{Option, Some, None}
+use Rattle.std.specs.Prelude.{ℕ, ◌+◌, ◌-◌, ◌*◌, ◌%◌, ◌^◌, ◌==◌, ◌&&◌, ◌||◌, not, min, Bool, if◌then◌else◌, nat_lt}
+use Rattle.std.specs.Prelude.{slice_index, count_ones, Option, Some, None}
 use Rattle.sched_limit_word.specs.declared.call.Call.{Call}
 use Rattle.sched_limit_word.specs.declared.call.Call.TheVariants.{Admit, Draw, Failed, Succeeded, Ended, Returned}
-use Rattle.sched_limit_word.specs.declared.call.Call.TheVariants.{Closed}
+use Rattle.sched_limit_word.specs.declared.call.Call.TheVariants.{Closed, OpenedByHand, ClosedByHand}
 use Rattle.sched_limit.specs.Word.{generation_of, count_of, won_of, admitted_of, at_of, trip_of, closed, tripped}
 use Rattle.sched_limit.specs.Word.{stamp_of}
 use Rattle.sched_limit.specs.declared.refusal.Refusal.{Refusal}
@@ -57,9 +57,22 @@ probed b at word = if waits b at word then word else probes_in b at word
 abbrev pub asked : Breaker → ℕ → ℕ → ℕ
 asked b at word = if word % 2 == 1 then probed b at word else word
 
+-- what a closed breaker keeps after one more failure, and after one more success: its failures in a row, or its last
+-- results as bits, the latest the lowest, of which a failure is 1
+abbrev pub and_failure : Breaker → ℕ → ℕ
+and_failure b kept = if b.results == 0 then kept + 1 else (2 * kept + 1) % 2 ^ b.results
+
+abbrev pub and_success : Breaker → ℕ → ℕ
+and_success b kept = if b.results == 0 then 0 else 2 * kept % 2 ^ b.results
+
+-- how many failures these are
+abbrev pub failures_kept : Breaker → ℕ → ℕ
+failures_kept b kept = if b.results == 0 then kept else count_ones kept
+
 abbrev pub failed_closed : Breaker → ℕ → ℕ → ℕ
 failed_closed b at word =
-    if nat_lt (count_of word + 1) b.failures then closed (generation_of word) (count_of word + 1) else opens b at 0 word
+    let kept = and_failure b (count_of word) in
+    if nat_lt (failures_kept b kept) b.failures then closed (generation_of word) kept else opens b at 0 word
 
 -- of an open breaker there is no run
 abbrev pub failed_tripped : Breaker → ℕ → ℕ → ℕ
@@ -80,7 +93,21 @@ succeeded_tripped b word = if admitted_of word == 0 then word else won b word
 
 -- a run of this generation succeeded
 abbrev pub succeeded : Breaker → ℕ → ℕ
-succeeded b word = if word % 2 == 1 then succeeded_tripped b word else closed (generation_of word) 0
+succeeded b word =
+    if word % 2 == 1
+    then succeeded_tripped b word
+    else closed (generation_of word) (and_success b (count_of word))
+
+-- by hand: open until this moment of its clock, for the first time, and closed with nothing kept, each in a new
+-- generation
+abbrev pub next_generation : ℕ → ℕ
+next_generation word = (generation_of word + 1) % 4096
+
+abbrev pub opened_by_hand : ℕ → ℕ → ℕ
+opened_by_hand until word = tripped (next_generation word) 0 until 0 0
+
+abbrev pub closed_by_hand : ℕ → ℕ
+closed_by_hand word = closed (next_generation word) 0
 
 abbrev pub breaker_next : Breaker → Call → ℕ → ℕ
 breaker_next b (Admit now random before) word = asked b (since_start b now) word
@@ -91,6 +118,8 @@ breaker_next b (Succeeded now generation worth) word = if generation == stamp_of
 breaker_next b (Ended slots) word = word
 breaker_next b (Returned cost slots) word = word
 breaker_next b (Closed now) word = word
+breaker_next b (OpenedByHand now until) word = opened_by_hand (since_start b until) word
+breaker_next b (ClosedByHand now) word = closed_by_hand word
 
 abbrev pub refused_tripped : Breaker → ℕ → ℕ → Option Refusal
 refused_tripped b at word =
@@ -108,3 +137,5 @@ breaker_refusal b (Succeeded now generation worth) word = None
 breaker_refusal b (Ended slots) word = None
 breaker_refusal b (Returned cost slots) word = None
 breaker_refusal b (Closed now) word = None
+breaker_refusal b (OpenedByHand now until) word = None
+breaker_refusal b (ClosedByHand now) word = None

@@ -2,7 +2,7 @@
 use Rattle.std.specs.Prelude.{ℕ, ◌+◌, ◌-◌, ◌*◌, ◌≤◌, min, true, false, if◌then◌else◌, nat_lt, Option, Some, None}
 use Rattle.sched_limit_word.specs.declared.call.Call.{Call}
 use Rattle.sched_limit_word.specs.declared.call.Call.TheVariants.{Admit, Draw, Failed, Succeeded, Ended, Returned}
-use Rattle.sched_limit_word.specs.declared.call.Call.TheVariants.{Closed}
+use Rattle.sched_limit_word.specs.declared.call.Call.TheVariants.{Closed, OpenedByHand, ClosedByHand}
 use Rattle.sched_limit.specs.declared.refusal.Refusal.{Refusal}
 use Rattle.sched_limit.specs.declared.refusal.Refusal.TheVariants.{LevelLow}
 use Rattle.sched_limit.specs.declared.bucket.Bucket.{Bucket}
@@ -34,6 +34,8 @@ bucket_next b (Succeeded now generation worth) level = min (level + worth) b.cap
 bucket_next b (Ended slots) level = level
 bucket_next b (Returned cost slots) level = min (level + cost) b.capacity
 bucket_next b (Closed now) level = level
+bucket_next b (OpenedByHand now until) level = level
+bucket_next b (ClosedByHand now) level = level
 
 abbrev pub bucket_refusal : Bucket → Call → ℕ → Option Refusal
 bucket_refusal b (Admit now random before) level = None
@@ -43,6 +45,8 @@ bucket_refusal b (Succeeded now generation worth) level = None
 bucket_refusal b (Ended slots) level = None
 bucket_refusal b (Returned cost slots) level = None
 bucket_refusal b (Closed now) level = None
+bucket_refusal b (OpenedByHand now until) level = None
+bucket_refusal b (ClosedByHand now) level = None
 
 -- a success gives the credit, or with refund what the last granted draw of its request took
 abbrev pub bucket_worth : Bucket → Option ℕ → ℕ

@@ -21,7 +21,7 @@ in_flight (suc kind) word = requests_of word
 abbrev pub flight_gained : InFlight → Call → ℕ → ℕ → ℕ
 flight_gained k (Draw now cost slots) zero found =
     if nat_lt (retries_of found - slots) (bound k (requests_of found)) then 1 else 0
-flight_gained k (Admit now random before) (suc kind) found = if nat_lt (requests_of found) 4294967295 then 1 else 0
+flight_gained k (Admit now random before) (suc kind) found = if nat_lt (requests_of found) k.most then 1 else 0
 flight_gained k call kind found = 0
 
 abbrev pub flight_used : Call → ℕ → ℕ

@@ -9,13 +9,13 @@ use Rattle.sched_limit_word.specs.Rule.{Next, moves_of, IsKept}
 use Rattle.sched_limit_word.specs.Laws.{word_of}
 use Rattle.sched_limit_word.specs.declared.call.Call.{Call}
 use Rattle.sched_limit_word.specs.declared.call.Call.TheVariants.{Admit, Draw, Failed, Succeeded, Returned}
-use Rattle.sched_limit_word.specs.declared.call.Call.TheVariants.{Closed}
+use Rattle.sched_limit_word.specs.declared.call.Call.TheVariants.{Closed, OpenedByHand, ClosedByHand}
 use Rattle.sched_limit_word.specs.declared.view.Move.{Move}
 use Rattle.sched_limit_word.specs.declared.view.View.{View}
 use Rattle.sched_limit.specs.Bucket.{bucket_next}
 use Rattle.sched_limit.specs.InFlight.{flight_next, requests_of, retries_of, bound}
 use Rattle.sched_limit.specs.Word.{count_of, admitted_of, at_of, stamp_of}
-use Rattle.sched_limit.specs.Breaker.{breaker_next, since_start}
+use Rattle.sched_limit.specs.Breaker.{breaker_next, since_start, and_failure, failures_kept}
 use Rattle.sched_limit.specs.declared.bucket.Bucket.{Bucket}
 use Rattle.sched_limit.specs.declared.in_flight.InFlight.{InFlight}
 use Rattle.sched_limit.specs.Window.{window_of, is_closed, requests_in, accepts_in, requests_at, accepts_at}
@@ -71,6 +71,11 @@ is_within k call found left = true
 abbrev pub GrantsAreWithinTheBound : Type 0
 GrantsAreWithinTheBound = (k : InFlight) → EachMove (flight_next k) 0 (is_within k)
 
+-- no more requests are in flight than the most
+abbrev pub RequestsStayWithin : Type 0
+RequestsStayWithin = (k : InFlight) (s : State Call View) → IsKept (flight_next k) 0 s →
+    requests_of (word_of s) ≤ k.most
+
 -- a breaker that is tripped has no more probes out than it admits
 abbrev pub has_few_probes : Breaker → ℕ → Bool
 has_few_probes b word = not (word % 2 == 1) || nat_le (admitted_of word) b.probes
@@ -79,10 +84,12 @@ abbrev pub ProbesAreFew : Type 0
 ProbesAreFew = (b : Breaker) (s : State Call View) → IsKept (breaker_next b) 0 s →
     has_few_probes b (word_of s) ≡ true
 
--- an open breaker is left by one that asks at the end of its time or later, and by none else
+-- an open breaker is left by one that asks at the end of its time or later, and by hand, and by none else
 abbrev pub stays_open : Breaker → Call → ℕ → ℕ → Bool
 stays_open b (Admit now random before) found left = nat_le (at_of found) (since_start b now)
 stays_open b (Draw now cost slots) found left = nat_le (at_of found) (since_start b now)
+stays_open b (OpenedByHand now until) found left = true
+stays_open b (ClosedByHand now) found left = true
 stays_open b call found left = false
 
 abbrev pub is_kept_open : Breaker → Call → ℕ → ℕ → Bool
@@ -101,9 +108,10 @@ is_of_now call found left = true
 abbrev pub LateResultsChangeNothing : Type 0
 LateResultsChangeNothing = (b : Breaker) → EachMove (breaker_next b) 0 is_of_now
 
--- a closed breaker is tripped by the last of so many failures in a row, and by nothing else
+-- a closed breaker is tripped by the failure that makes so many of those that it keeps, or by hand, and by nothing else
 abbrev pub is_last : Breaker → Call → ℕ → Bool
-is_last b (Failed now generation) found = nat_le b.failures (count_of found + 1)
+is_last b (Failed now generation) found = nat_le b.failures (failures_kept b (and_failure b (count_of found)))
+is_last b (OpenedByHand now until) found = true
 is_last b call found = false
 
 abbrev pub trips_late : Breaker → Call → ℕ → ℕ → Bool

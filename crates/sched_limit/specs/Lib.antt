@@ -3,6 +3,8 @@ pub mod Bucket
 pub mod InFlight
 pub mod Word
 pub mod Breaker
+pub mod Results
+pub mod ByHand
 pub mod Laws
 pub mod Window
 pub mod Throttle
@@ -14,4 +16,10 @@ pub mod Honest
 pub mod BucketTokens
 pub mod FlightTokens
 pub mod FlightHonest
+pub mod Levels
+pub mod Adaptive
+pub mod AdaptiveTokens
+pub mod AdaptiveHonest
+pub mod AdaptiveLaws
 pub mod Quiet
+pub mod States

@@ -2,7 +2,7 @@
 use Rattle.std.specs.Prelude.{ℕ, ◌+◌, ◌-◌, ◌*◌, ◌/◌, ◌&&◌, min, Bool, if◌then◌else◌, nat_lt, Option, Some, None}
 use Rattle.sched_limit_word.specs.declared.call.Call.{Call}
 use Rattle.sched_limit_word.specs.declared.call.Call.TheVariants.{Admit, Draw, Failed, Succeeded, Ended, Returned}
-use Rattle.sched_limit_word.specs.declared.call.Call.TheVariants.{Closed}
+use Rattle.sched_limit_word.specs.declared.call.Call.TheVariants.{Closed, OpenedByHand, ClosedByHand}
 use Rattle.sched_limit.specs.Window.{counted, requests_at, accepts_at, is_open_to}
 use Rattle.sched_limit.specs.declared.refusal.Refusal.{Refusal}
 use Rattle.sched_limit.specs.declared.refusal.Refusal.TheVariants.{Throttled, RacesLost}
@@ -42,6 +42,8 @@ throttle_next t (Ended slots) word = word
 throttle_next t (Returned cost slots) word = word
 throttle_next t (Closed now) word =
     if is_open_to (window_at t now - 1) word then closed_in (window_at t now - 1) word else word
+throttle_next t (OpenedByHand now until) word = word
+throttle_next t (ClosedByHand now) word = word
 
 -- one asks in this window, where the one before is another word
 abbrev pub asks_throttle : Throttle → ℕ → ℕ → ℕ → ℕ → Bool
@@ -61,3 +63,5 @@ throttle_refusal t (Succeeded now generation worth) word = None
 throttle_refusal t (Ended slots) word = None
 throttle_refusal t (Returned cost slots) word = None
 throttle_refusal t (Closed now) word = None
+throttle_refusal t (OpenedByHand now until) word = None
+throttle_refusal t (ClosedByHand now) word = None

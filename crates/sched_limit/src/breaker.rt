@@ -9,17 +9,19 @@ pub const MAX_PROBES: u64 = 15;
 /// How many open times are kept. Past the last one that is kept, it holds.
 pub const MAX_TRIPS: usize = 64;
 
-/// A breaker: after so many failures in a row it is open, which it is for the first of its open times, and for the next
-/// where a probe failed. After that it is half open, and admits probes: where so many won it is closed, and where one
-/// failed it is open again. Probes that tell nothing are over at a deadline.
+/// A breaker: after so many failures in a row, or among its last results, it is open, for the first of its open times,
+/// and for the next where a probe failed. After that it is half open, and admits probes: where so many won it is
+/// closed, and where one failed it is open again. Probes that tell nothing are over at a deadline.
 #[derive(Clone, Copy, Debug, PartialEq, Eq, Drop)]
 pub struct Breaker {
     pub(crate) failures: u32,
+    pub(crate) results: u32,
     pub(crate) probes: u64,
     pub(crate) deadline: u64,
     pub(crate) start: u64,
     pub(crate) times: [u64; 64],
     pub(crate) last: u64,
+    ghost few_failures: { (failures < 4294967296) × (results ≤ 32) },
     ghost few_probes: { (0 < probes) × (probes ≤ 15) },
     ghost few_trips: { (last ≤ 63) × (length times ≡ 64) },
     ghost near: { deadline ≤ 4611686018427387903 },
@@ -37,7 +39,7 @@ impl Breaker {
         last: u64,
     ) -> Option<Breaker>
         ensures some { IfSome result (λ b.
-            (b.failures ≡ failures) × (b.probes ≡ probes) × (b.deadline ≡ deadline) × (b.start ≡ now)
+            (b.failures ≡ failures) × (b.results ≡ 0) × (b.probes ≡ probes) × (b.deadline ≡ deadline) × (b.start ≡ now)
             × (b.times ≡ times) × (b.last ≡ last)) }
         ensures failures { OnSome result (0 < failures) }
         ensures none { IfNone result (((0 < failures) × (0 < probes) × (probes ≤ 15) × (last ≤ 63)) → ⊥) }
@@ -47,6 +49,7 @@ impl Breaker {
         }
         Some(Breaker {
             failures,
+            results: 0,
             probes,
             deadline: deadline.get(),
             start: now.get(),

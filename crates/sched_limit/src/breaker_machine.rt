@@ -4,8 +4,10 @@ ghost use Rattle.sched_limit.specs.Word.{stamp_of};
 ghost use Rattle.sched_limit.specs.Breaker.{since_start, open_for, begins, joins, opens, is_open, is_out, waits};
 ghost use Rattle.sched_limit.specs.Breaker.{has_room, probes_in, probed, asked, failed, failed_closed, failed_tripped};
 ghost use Rattle.sched_limit.specs.Breaker.{won, succeeded, succeeded_tripped, refused, refused_tripped};
+ghost use Rattle.sched_limit.specs.Breaker.{next_generation};
 
 use crate::breaker::Breaker;
+use crate::by_hand::{closed_by_hand, opened_by_hand};
 use crate::refusal::Refusal;
 use crate::refuses::Refuses;
 use crate::word;
@@ -37,8 +39,7 @@ impl Breaker {
         requires { at < 137438953472 }
         ensures { result ≡ begins at word }
     {
-        let generation = (word::generation_of(word) + 1) % word::GENERATIONS;
-        tripped(generation, trip_of(word), at, 1, 0)
+        tripped(next_generation(word), trip_of(word), at, 1, 0)
     }
 
     /// Open from now on, for the time of this trip.
@@ -135,9 +136,9 @@ impl Breaker {
         requires { at < 137438953472 }
         ensures { result ≡ failed_closed self.now at word }
     {
-        let count = count_of(word) + 1;
-        if count < self.failures as u64 {
-            closed(word::generation_of(word), count)
+        let kept = self.and_failure(count_of(word));
+        if self.failures_kept(kept) < self.failures as u64 {
+            closed(word::generation_of(word), kept)
         } else {
             self.opens(at, 0, word)
         }
@@ -192,7 +193,8 @@ impl Breaker {
         if is_tripped(word) {
             self.succeeded_tripped(word)
         } else {
-            closed(word::generation_of(word), 0)
+            let kept = self.and_success(count_of(word));
+            closed(word::generation_of(word), kept)
         }
     }
 
@@ -233,13 +235,21 @@ impl Breaker {
 }
 
 /// The moment of a clock that began at `start`.
-fn moment_at(start: u64, at: u64) -> Moment
+pub(crate) fn moment_at(start: u64, at: u64) -> Moment
     ensures { result ≡ min (start + at) 4611686018427387903 }
 {
     let Some(moment) = Moment::new(start.saturating_add(at).min(FAR)) else {
         unreachable!()
     };
     moment
+}
+
+/// The generation after that of this word.
+pub(crate) fn next_generation(word: u64) -> u64
+    ensures next { result ≡ next_generation word }
+    ensures few { result < 4096 }
+{
+    (word::generation_of(word) + 1) % word::GENERATIONS
 }
 
 /// Which runs may tell something at this word: those that were admitted in the same generation.
@@ -284,6 +294,8 @@ impl Machine for Breaker {
             Call::Ended(_) => word,
             Call::Returned(_, _) => word,
             Call::Closed(_) => word,
+            Call::OpenedByHand(_, until) => opened_by_hand(self.since_start(until), word),
+            Call::ClosedByHand(_) => closed_by_hand(word),
         }
     }
 }
@@ -313,6 +325,8 @@ impl Refuses for Breaker {
             Call::Ended(_) => None,
             Call::Returned(_, _) => None,
             Call::Closed(_) => None,
+            Call::OpenedByHand(_, _) => None,
+            Call::ClosedByHand(_) => None,
         }
     }
 

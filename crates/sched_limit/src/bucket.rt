@@ -117,6 +117,8 @@ impl Machine for Bucket {
             Call::Admit(_, _, _) => level,
             Call::Ended(_) => level,
             Call::Closed(_) => level,
+            Call::OpenedByHand(_, _) => level,
+            Call::ClosedByHand(_) => level,
         }
     }
 }
@@ -150,6 +152,8 @@ impl Refuses for Bucket {
             Call::Admit(_, _, _) => None,
             Call::Ended(_) => None,
             Call::Closed(_) => None,
+            Call::OpenedByHand(_, _) => None,
+            Call::ClosedByHand(_) => None,
         }
     }
 

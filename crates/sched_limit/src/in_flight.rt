@@ -1,4 +1,4 @@
-//! What is in flight: as many retries at once as a share of the requests at once.
+//! What is in flight: as many retries at once as a share of the requests at once, and requests up to a most.
 ghost use Rattle.std.specs.Prelude.{◌≡◌, ◌*◌, ◌≤◌};
 ghost use Rattle.sched_limit.specs.InFlight.{bound, retried};
 
@@ -12,23 +12,30 @@ const REQUEST: u64 = 4294967296;
 /// The most of each.
 const MOST: u64 = 4294967295;
 
-/// A bound on retries in flight: the greater of a least number and a share of the requests in flight.
+/// The most requests of a bound that sets none.
+pub const NO_MOST: u32 = 4294967295;
+
+/// A bound on what is in flight: on requests a number, on retries the greater of a least number and a share of the
+/// requests.
 #[derive(Clone, Copy, Debug, PartialEq, Eq, Drop)]
 pub struct InFlight {
     /// How many retries there may be, however few requests.
     pub least: u32,
     /// The thousandths of a retry that each request in flight allows.
     pub share: u32,
+    /// How many requests there may be: `NO_MOST` for as many as can be counted.
+    pub most: u32,
 }
 
 impl InFlight {
-    /// Envoy's `retry_budget`: so many percent of the requests in flight, and at least so many.
+    /// Envoy's `retry_budget`: so many percent of the requests in flight, and at least so many. It bounds no requests.
     pub fn envoy(budget_percent: u8, min_retry_concurrency: u32) -> InFlight
-        ensures { result ≡ record { least = min_retry_concurrency; share = 10 * budget_percent } }
+        ensures { result ≡ record { least = min_retry_concurrency; share = 10 * budget_percent; most = 4294967295 } }
     {
         InFlight {
             least: min_retry_concurrency,
             share: 10 * budget_percent as u32,
+            most: NO_MOST,
         }
     }
 
@@ -75,7 +82,7 @@ impl Machine for InFlight {
         let retries = word % REQUEST;
         match call {
             Call::Admit(_, _, _) => {
-                if requests < MOST {
+                if requests < self.most as u64 {
                     word + REQUEST
                 } else {
                     word
@@ -89,6 +96,8 @@ impl Machine for InFlight {
             Call::Succeeded(_, _, _) => word,
             Call::Returned(_, slots) => requests * REQUEST + retries.saturating_sub(slots),
             Call::Closed(_) => word,
+            Call::OpenedByHand(_, _) => word,
+            Call::ClosedByHand(_) => word,
         }
     }
 }
@@ -113,7 +122,7 @@ impl Refuses for InFlight {
         let retries = word % REQUEST;
         match call {
             Call::Admit(_, _, _) => {
-                if requests < MOST {
+                if requests < self.most as u64 {
                     None
                 } else {
                     Some(Refusal::TooMany)
@@ -131,6 +140,8 @@ impl Refuses for InFlight {
             Call::Succeeded(_, _, _) => None,
             Call::Returned(_, _) => None,
             Call::Closed(_) => None,
+            Call::OpenedByHand(_, _) => None,
+            Call::ClosedByHand(_) => None,
         }
     }
 

@@ -7,7 +7,7 @@ use sched_time::Moment;
 pub enum Refusal {
     /// The bucket's level, which the draw would take below the floor.
     LevelLow(u64),
-    /// As many requests are in flight as can be counted.
+    /// As many requests are in flight as the limit admits.
     TooMany,
     /// As many retries are in flight as the requests allow.
     Full,

@@ -176,6 +176,8 @@ impl Machine for Throttle {
             Call::Failed(_, _) => word,
             Call::Ended(_) => word,
             Call::Returned(_, _) => word,
+            Call::OpenedByHand(_, _) => word,
+            Call::ClosedByHand(_) => word,
         }
     }
 }
@@ -214,6 +216,8 @@ impl Refuses for Throttle {
             Call::Failed(_, _) => None,
             Call::Ended(_) => None,
             Call::Returned(_, _) => None,
+            Call::OpenedByHand(_, _) => None,
+            Call::ClosedByHand(_) => None,
         }
     }
 

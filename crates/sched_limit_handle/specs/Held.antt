@@ -2,7 +2,9 @@
 use Rattle.std.specs.Prelude.{◌≡◌, ◌⊎◌, ℕ, false, Result, Ok, Err}
 use Rattle.std.specs.Global.{Global}
 use Rattle.std_alloc.specs.declared.boxed.Box.{Box}
+use Rattle.sched_limit.specs.Adaptive.{adaptive_first}
 use Rattle.sched_limit.specs.Bucket.{AreTerms}
+use Rattle.sched_limit.specs.declared.adaptive.Adaptive.{Adaptive}
 use Rattle.sched_limit.specs.declared.bucket.Bucket.{Bucket}
 use Rattle.sched_limit.specs.declared.in_flight.InFlight.{InFlight}
 use Rattle.sched_limit.specs.declared.breaker.Breaker.{Breaker}
@@ -77,6 +79,14 @@ IsFlight terms l = ⊥
 
 abbrev pub MakesFlight : InFlight → Result (Box Held Global) Status → Type 0
 MakesFlight terms r = Makes (IsFlight terms) r
+
+abbrev pub IsAdaptive : Adaptive → AnyLimit → Type 0
+IsAdaptive terms (any.Adaptive d) =
+    (d.limit.machine ≡ terms) × (d.pass.has ≡ first_view (adaptive_first terms)) × (d.request ≡ nothing)
+IsAdaptive terms l = ⊥
+
+abbrev pub MakesAdaptive : Adaptive → Result (Box Held Global) Status → Type 0
+MakesAdaptive terms r = Makes (IsAdaptive terms) r
 
 abbrev pub IsBreaker : Breaker → AnyLimit → Type 0
 IsBreaker terms (any.Breaker d) = (d.limit.machine ≡ terms) × (d.pass.has ≡ first_view 0) × (d.request ≡ nothing)

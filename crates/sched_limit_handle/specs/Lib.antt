@@ -3,3 +3,5 @@ pub mod Status
 pub mod AnyLimit
 pub mod Held
 pub mod Looks
+pub mod ByHand
+pub mod States

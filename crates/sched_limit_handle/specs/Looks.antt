@@ -10,16 +10,18 @@ use Rattle.sched_limit_handle.specs.declared.held.Held.{Held}
 use Rattle.sched_limit_handle.specs.declared.held.Held.TheVariants.{Unlimited, One, Two, Three, Four}
 use Rattle.sched_limit_handle.specs.declared.looks.Words.{Words}
 
--- a bound on what is in flight and a throttle have no quiet word, and are not looked at
+-- a bound on what is in flight, an adaptive limit and a throttle have no quiet word, and are not looked at
 abbrev pub any_looked : AnyLimit → ℕ → AnyLimit
 any_looked (any.Bucket d) word = any.Bucket (looked d word)
 any_looked (any.InFlight d) word = any.InFlight d
+any_looked (any.Adaptive d) word = any.Adaptive d
 any_looked (any.Breaker d) word = any.Breaker (looked d word)
 any_looked (any.Throttle d) word = any.Throttle d
 
 abbrev pub any_may_begin : AnyLimit → ℕ → Bool
 any_may_begin (any.Bucket d) word = may_begin is_full d word
 any_may_begin (any.InFlight d) word = false
+any_may_begin (any.Adaptive d) word = false
 any_may_begin (any.Breaker d) word = may_begin is_calm d word
 any_may_begin (any.Throttle d) word = false
 
@@ -27,6 +29,7 @@ any_may_begin (any.Throttle d) word = false
 abbrev pub any_begun : AnyLimit → ℕ → AnyLimit
 any_begun (any.Bucket d) word = any.Bucket (begun is_full (λ b word. 0) d word)
 any_begun (any.InFlight d) word = any.InFlight d
+any_begun (any.Adaptive d) word = any.Adaptive d
 any_begun (any.Breaker d) word = any.Breaker (begun is_calm (λ b word. stamp_of word) d word)
 any_begun (any.Throttle d) word = any.Throttle d
 

@@ -1,12 +1,12 @@
 //! What a handle holds: one limit, or two to four at once.
 ghost use Rattle.std.specs.Prelude.{◌≡◌, ◌+◌, ◌≤◌, IfOk, IfErr};
-ghost use Rattle.sched_limit_handle.specs.Held.{MakesBucket, MakesFlight, MakesBreaker, MakesThrottle};
+ghost use Rattle.sched_limit_handle.specs.Held.{MakesBucket, MakesFlight, MakesAdaptive, MakesBreaker, MakesThrottle};
 ghost use Rattle.sched_limit_handle.specs.Held.{SplitsHeld, count, joined, and_one, and_two, and_three};
 ghost use Rattle.sched_limit_handle.specs.declared.status.Status.TheVariants as status;
 
 use crate::any_limit::AnyLimit;
 use crate::status::Status;
-use sched_limit::{Breaker, Bucket, InFlight, Refusal, Throttle, Told};
+use sched_limit::{Adaptive, Breaker, Bucket, InFlight, Refusal, Throttle, Told};
 use sched_limit_request::{Asks, Both, OnLimit, OnThrottle, SplitFault};
 use std::alloc::Global;
 use std::mem;
@@ -37,6 +37,7 @@ impl Asks for Held {
 
     ghost asked = { held_asked };
 
+    #[inline(always)]
     fn tell(&mut self, told: &Told, random: u32) -> Result<(), Refusal> {
         match self {
             Held::Unlimited => Ok(()),
@@ -78,6 +79,16 @@ impl Held {
     {
         match OnLimit::new(alloc, terms) {
             Ok(limit) => Held::One(AnyLimit::InFlight(limit)).boxed(alloc),
+            Err(_) => Err(Status::NoMemory),
+        }
+    }
+
+    /// An adaptive limit.
+    pub fn adaptive(alloc: Global, terms: Adaptive) -> Result<Box<Held>, Status>
+        ensures { MakesAdaptive terms result }
+    {
+        match OnLimit::new(alloc, terms) {
+            Ok(limit) => Held::One(AnyLimit::Adaptive(limit)).boxed(alloc),
             Err(_) => Err(Status::NoMemory),
         }
     }

@@ -4,8 +4,10 @@
 #![tactic(auto)]
 
 mod any_limit;
+mod by_hand;
 mod held;
 mod looks;
+mod states;
 mod status;
 
 pub use any_limit::AnyLimit;

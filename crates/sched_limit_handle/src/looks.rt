@@ -30,6 +30,7 @@ impl AnyLimit {
             AnyLimit::Bucket(limit) => limit.look(word),
             AnyLimit::Breaker(limit) => limit.look(word),
             AnyLimit::InFlight(_) => false,
+            AnyLimit::Adaptive(_) => false,
             AnyLimit::Throttle(_) => false,
         }
     }
@@ -42,6 +43,7 @@ impl AnyLimit {
             AnyLimit::Bucket(limit) => limit.may_begin(word),
             AnyLimit::Breaker(limit) => limit.may_begin(word),
             AnyLimit::InFlight(_) => false,
+            AnyLimit::Adaptive(_) => false,
             AnyLimit::Throttle(_) => false,
         }
     }
@@ -58,6 +60,7 @@ impl AnyLimit {
                 let _ = limit.begin(word);
             }
             AnyLimit::InFlight(_) => {}
+            AnyLimit::Adaptive(_) => {}
             AnyLimit::Throttle(_) => {}
         }
     }

@@ -7,4 +7,6 @@ pub mod Sides
 pub mod Windows
 pub mod Pairs
 pub mod Quiet
+pub mod ByHand
+pub mod States
 pub mod Laws

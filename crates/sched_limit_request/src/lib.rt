@@ -5,6 +5,7 @@
 
 mod asks;
 mod both;
+mod by_hand;
 mod fault;
 mod hold;
 pub mod laws;
@@ -12,9 +13,11 @@ mod on_limit;
 mod on_throttle;
 mod quiet;
 mod side;
+mod states;
 
 pub use asks::Asks;
 pub use both::Both;
+pub use by_hand::Hand;
 pub use fault::SplitFault;
 pub use on_limit::OnLimit;
 pub use on_throttle::OnThrottle;

@@ -17,8 +17,8 @@ use std::marker::Model;
 /// counts in a window closes the one before first, so that what that one counted is final. Contracts see it as these.
 #[derive(Drop)]
 pub struct OnThrottle {
-    even: Side,
-    odd: Side,
+    pub(crate) even: Side,
+    pub(crate) odd: Side,
     counted: bool,
     /// The window of its latest call, by which the next one's is guessed.
     latest: u64,

@@ -1,7 +1,7 @@
 //! A pass of the limit of a throttle's even windows, or of its odd ones.
 ghost use Rattle.std.specs.Prelude.{◌≡◌, IfOk, IfErr};
 ghost use Rattle.sched_limit_word.specs.Calls.{LostRaces};
-ghost use Rattle.sched_limit_word.specs.View.{first_view, part_of, without_part};
+ghost use Rattle.sched_limit_word.specs.View.{first_view, part_of, with_look, without_part};
 ghost use Rattle.sched_limit_request.specs.Limits.{IsSpared};
 ghost use Rattle.sched_limit_request.specs.Sides.{IsSameSide};
 ghost use Rattle.sched_limit_request.specs.Windows.{Closes, TriesOn, Turns};
@@ -107,6 +107,16 @@ impl Side {
             Ok(word) => self.limit.machine().turn_of(told, random, at, before, word),
             Err(RacesLost) => Turn::Done(lost_answer(told)),
         }
+    }
+
+    /// Reads the word of its windows, and makes no call.
+    pub fn look(&mut self) -> u64
+        ensures limit { self.new.limit ≡ self.old.limit }
+        ensures table { self.new.pass.table ≡ self.old.pass.table }
+        ensures looked { self.new.pass.has ≡ with_look self.old.pass.has result }
+    {
+        self.closed = None;
+        self.pass.look(&*self.limit)
     }
 
     /// A pass of the same windows for another thread.

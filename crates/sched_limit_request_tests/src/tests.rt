@@ -4,6 +4,7 @@ use sched_limit_request::Asks;
 use sched_time::{FAR, Moment};
 use std::process::Abort;
 
+mod adaptives;
 mod breakers;
 mod buckets;
 mod flights;

@@ -20,4 +20,8 @@ pub enum Call {
     Returned(u64, u64),
     /// The window before that of this moment takes no more counts.
     Closed(Moment),
+    /// Somebody opens a breaker by hand at a moment: from now on it is open until another moment.
+    OpenedByHand(Moment, Moment),
+    /// Somebody closes a breaker by hand, at this moment.
+    ClosedByHand(Moment),
 }

@@ -30,7 +30,7 @@ pub use sched_driver_stepper::{StepFault, Stepper};
 pub use sched_effect::{
     Action, Call, Code, Coded, Effect, Fallback, FutureAction, FutureCall, Ran, Scripted, Tagged,
 };
-pub use sched_limit::{Breaker, Bucket, InFlight, Refusal as LimitRefusal, Throttle};
+pub use sched_limit::{Adaptive, Breaker, Bucket, InFlight, Refusal as LimitRefusal, Throttle};
 pub use sched_limit_draws::{Costs, OnAsks};
 pub use sched_limit_request::{Asks, Both, OnLimit, OnThrottle, SplitFault};
 pub use sched_plan::{Fold, Plan, PlanFault, SharedPlan, Side, Test, Val};

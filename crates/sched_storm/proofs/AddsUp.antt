@@ -91,17 +91,18 @@ over (m ∷ ms) =
     omega arith
 
 -- a storm has no more calls than it may, and one that is cut has as many
-few_calls : (p : Parameters) (plans : ℕ → Schedule) (is_cut : Bool) (es : List (Event Stage))
+few_calls : (arrivals : List ℕ) (p : Parameters) (plans : ℕ → Schedule) (is_cut : Bool) (es : List (Event Stage))
     (due : ℕ → Option (Due Stage))
-    (last : Shared) → EndsSo p plans is_cut es due last → calls_of p plans es ≤ p.calls
-few_calls p plans true es due last ends = let same = ends.0 in omega arith
-few_calls p plans false es due last ends = ends.0
+    (last : Shared) → EndsSo arrivals p plans is_cut es due last → calls_of arrivals p plans es ≤ p.calls
+few_calls arrivals p plans true es due last ends = let same = ends.0 in omega arith
+few_calls arrivals p plans false es due last ends = ends.0
 
-all_calls : (p : Parameters) (plans : ℕ → Schedule) (is_cut : Bool) (es : List (Event Stage))
+all_calls : (arrivals : List ℕ) (p : Parameters) (plans : ℕ → Schedule) (is_cut : Bool) (es : List (Event Stage))
     (due : ℕ → Option (Due Stage))
-    (last : Shared) → EndsSo p plans is_cut es due last → IsTrue is_cut → calls_of p plans es ≡ p.calls
-all_calls p plans true es due last ends cut = ends.0
-all_calls p plans false es due last ends cut = absurd (false≢true cut)
+    (last : Shared) → EndsSo arrivals p plans is_cut es due last → IsTrue is_cut →
+    calls_of arrivals p plans es ≡ p.calls
+all_calls arrivals p plans true es due last ends cut = ends.0
+all_calls arrivals p plans false es due last ends cut = absurd (false≢true cut)
 
 -- the windows of a quota, with the requests that were counted, where that is all of them
 module _ (p : Parameters) (d : Drawn) (requests tickets granted : ℕ) (h : TicketsAre p d requests tickets granted) where
@@ -156,18 +157,19 @@ away_denied (m ∷ ms) =
 
 -- ---- the report
 
-module _ (p : Parameters) (plans : ℕ → Schedule) (is_cut : Bool) (es : List (Event Stage)) (in_range : AreInRange p)
-    (storm : IsStorm p plans is_cut es) where
+module _ (arrivals : List ℕ) (p : Parameters) (plans : ℕ → Schedule) (is_cut : Bool) (es : List (Event Stage))
+    (in_range : AreInRange p)
+    (storm : IsStorm arrivals p plans is_cut es) where
   abbrev ms : List Moment
-  ms = told_by (played p plans) (start_at p) es
+  ms = told_by (played p plans) (start_at arrivals p) es
 
   abbrev at_end : Totals
   at_end = totals_of (ends_of p is_cut) (windows_of (peer_of p) p.window ms) (score_of ms) (in_order (times_of ms))
 
   tickets_are : TicketsAre p storm.last.drawn (score_of ms).all.requests (score_of ms).tickets (score_of ms).granted
   tickets_are = recounted p storm.last.drawn _ _ _ _ _ _ (omega arith) (omega arith) (omega arith)
-      (along p plans in_range.draws es (start_at p) storm.last 0 0 0
-      (by_until p plans es storm.due storm.last storm.plays)
+      (along p plans in_range.draws es (start_at arrivals p) storm.last 0 0 0
+      (by_until arrivals p plans es storm.due storm.last storm.plays)
       storm.plays.answers (none_are p))
 
   granted : AreGranted p at_end
@@ -181,7 +183,7 @@ module _ (p : Parameters) (plans : ℕ → Schedule) (is_cut : Bool) (es : List 
       record {
         granted = s.granted;
         failures = omega arith;
-        retries = retries-le p plans es storm.due storm.last storm.plays;
+        retries = retries-le arrivals p plans es storm.due storm.last storm.plays;
         few = laws.tickets;
         tickets = k.all_given;
         uses = ∣ in_windows p storm.last.drawn s.all.requests s.tickets s.granted k ∣₁;
@@ -192,33 +194,33 @@ module _ (p : Parameters) (plans : ℕ → Schedule) (is_cut : Bool) (es : List 
 
   -- A report on a storm, of all requests or of those of one population, has no more windows than there are until its
   -- end.
-  pub few_windows : (of : Option ℕ) (r : Report) → IsReportOf p plans of is_cut es r →
+  pub few_windows : (of : Option ℕ) (r : Report) → IsReportOf arrivals p plans of is_cut es r →
       vec_len r.windows ≤ p.until / p.window + 1
   few_windows of r told =
-      let ms = reported p plans of (start_at p) es in
+      let ms = reported p plans of (start_at arrivals p) es in
       let some = in_range.report.some in
       let len : length r.windows.items ≡ latest 0 ms / p.window + 1 =
       ap length told.windows ∙ length-map-range_with_len (window_of (peer_of p) p.window ms) 0
       (latest 0 ms / p.window + 1) in
       let all : vec_len r.windows ≡ length r.windows.items = r.windows.ok.0 in
       let whole = div-mul-le_self (latest 0 ms) p.window in
-      let by = latest-le p plans es storm.due storm.last storm.plays of in
+      let by = latest-le arrivals p plans es storm.due storm.last storm.plays of in
       let last = le-div (latest 0 ms / p.window) p.until p.window (omega arith) (omega arith) in
       omega arith
 
   totals_add_up : (windows : Vec Window Global) → windows.items ≡ windows_of (peer_of p) p.window ms →
       vec_len windows ≤ p.until / p.window + 1 → AddUpTo windows.items no_counts at_end.counts → AreTimes at_end →
-      AddsUp p (record { windows = windows; totals = at_end })
+      AddsUp arrivals p (record { windows = windows; totals = at_end })
   totals_add_up windows are short sums times =
       let s = score_of ms in
       let laws = score_adds_up ms in
       let calls = laws.calls in
       let denied = away_denied ms in
       let over_is = over ms in
-      let over_few = over-le p plans es storm.due storm.last storm.plays in
+      let over_few = over-le arrivals p plans es storm.due storm.last storm.plays in
       let ended_are = ended ms in
-      let ended_few = ends-le p plans es storm.due storm.last storm.plays in
-      let few = few_calls p plans is_cut es storm.due storm.last storm.ends in
+      let ended_few = ends-le arrivals p plans es storm.due storm.last storm.plays in
+      let few = few_calls arrivals p plans is_cut es storm.due storm.last storm.ends in
       record {
         windows = sums;
         few_windows = short;
@@ -227,16 +229,16 @@ module _ (p : Parameters) (plans : ℕ → Schedule) (is_cut : Bool) (es : List 
         calls = omega arith;
         turned_away = omega arith;
         none_away = λ none.
-            let zero = none_turned_away p plans es storm.due storm.last storm.plays none in
+            let zero = none_turned_away arrivals p plans es storm.due storm.last storm.plays none in
             omega arith;
         hundredths = refl;
         times = times;
         recovered = ap (recovered_in (end_of_trouble p)) (sym are);
         ended = omega arith;
         retries = granted;
-        requests = requests-le p plans es storm.due storm.last storm.plays;
+        requests = requests-le arrivals p plans es storm.due storm.last storm.plays;
         few = omega arith;
-        cut = λ h. all_calls p plans is_cut es storm.due storm.last storm.ends h;
+        cut = λ h. all_calls arrivals p plans is_cut es storm.due storm.last storm.ends h;
       }
 
   -- what is told of all requests is what happened
@@ -246,17 +248,19 @@ module _ (p : Parameters) (plans : ℕ → Schedule) (is_cut : Bool) (es : List 
       let a = played p plans s e.request e.due in ap (λ ms. a.told ∷ ms) (reported_all a.shared es)
 
   adds_up_told : (r : Report) → IsReport (peer_of p) (ends_of p is_cut) p.window ms r →
-      vec_len r.windows ≤ p.until / p.window + 1 → AddUpTo r.windows.items no_counts r.totals.counts → AddsUp p r
+      vec_len r.windows ≤ p.until / p.window + 1 → AddUpTo r.windows.items no_counts r.totals.counts →
+      AddsUp arrivals p r
   adds_up_told r told short sums =
-      subst (λ (t : Totals). AddsUp p (record { windows = r.windows; totals = t })) (sym told.totals)
+      subst (λ (t : Totals). AddsUp arrivals p (record { windows = r.windows; totals = t })) (sym told.totals)
       (totals_add_up r.windows told.windows short (subst (λ (t : Totals). AddUpTo r.windows.items no_counts t.counts)
       told.totals sums)
       (subst AreTimes told.totals (are_times (peer_of p) (ends_of p is_cut) p.window ms r told)))
 
-  pub adds_up : (of : Option ℕ) → of ≡ None → (r : Report) → IsReportOf p plans of is_cut es r →
-      AddUpTo r.windows.items no_counts r.totals.counts → AddsUp p r
+  pub adds_up : (of : Option ℕ) → of ≡ None → (r : Report) → IsReportOf arrivals p plans of is_cut es r →
+      AddUpTo r.windows.items no_counts r.totals.counts → AddsUp arrivals p r
   adds_up of all r told sums =
-      let of_all : IsReport (peer_of p) (ends_of p is_cut) p.window (reported p plans None (start_at p) es) r =
-      subst (λ o. IsReport (peer_of p) (ends_of p is_cut) p.window (reported p plans o (start_at p) es) r) all told in
+      let of_all : IsReport (peer_of p) (ends_of p is_cut) p.window (reported p plans None (start_at arrivals p) es) r =
+      subst (λ o. IsReport (peer_of p) (ends_of p is_cut) p.window (reported p plans o
+      (start_at arrivals p) es) r) all told in
       adds_up_told r (subst (λ ms. IsReport (peer_of p) (ends_of p is_cut) p.window ms r)
-      (reported_all (start_at p) es) of_all) (few_windows of r told) sums
+      (reported_all (start_at arrivals p) es) of_all) (few_windows of r told) sums

@@ -31,7 +31,7 @@ use Rattle.sched_storm.specs.Plays.{with_call}
 use Rattle.sched_storm.specs.Turns.{kind_of, kind_after, turn_for, turn_if, turn_by, next_drawn, next_at, asking}
 use Rattle.sched_storm.specs.Turns.{ending_by}
 use Rattle.sched_storm.specs.Populations.{population_of, storm_of}
-use Rattle.sched_storm.specs.Parameters.{comes_at}
+use Rattle.sched_storm.specs.Arrivals.{comes_at}
 use Rattle.sched_storm.specs.Clients.{client_at}
 use Rattle.sched_storm.specs.Course.{shared_of, client_of, answer_to, slot_of, Drives, IsReady, Tells, HasAnswered}
 use Rattle.sched_storm.specs.declared.parameters.Parameters.{Parameters}
@@ -185,14 +185,14 @@ module _ (old new : Course) (t r : ℕ) (u : Client) (limit : LimitState) (next 
 -- ---- a call that succeeds
 
 pub won_answered : (old new : Course) (t r : ℕ) (u : Client) → IsReady old t r → u ≡ client_of old r →
-    (began : ℕ) → began ≡ comes_at old.storm r →
+    (began : ℕ) → began ≡ comes_at old.arrivals.now old.storm r →
     (limit : LimitState) → limit ≡ limits.succeeding u.storm.draws t r (shared_of old).limit →
     shared_of new ≡ record (shared_of old) { limit = limit } → new.calls ≡ old.calls →
     Tells old new r (record { at = t; what = happening.Won began; busy = old.busy }) →
     HasAnswered (answer_to u old r t succeeds) t r old new None
 won_answered old new t r u ready of_r began began_is limit limit_is shared calls told =
-    let same = ap (λ p. comes_at p r) (meets old r u t of_r ready) in
-    let at : began ≡ comes_at u.storm r = began_is ∙ sym same in
+    let same = ap (λ p. comes_at old.arrivals.now p r) (meets old r u t of_r ready) in
+    let at : began ≡ comes_at old.arrivals.now u.storm r = began_is ∙ sym same in
     record {
       next_is = refl;
       shared_is = shared ∙ ap (λ l. let after : Shared = record (shared_of old) { limit = l } in after) limit_is;
@@ -208,6 +208,7 @@ won_answered old new t r u ready of_r began began_is limit limit_is shared calls
 pub record Gives (old new : Course) (t r : ℕ) (u : Client) (failure : Failure) (h : List Event) (s : Shared)
     (limit : LimitState)
     (n : Next) : Type 0 where
+  pub arrivals : new.arrivals.now ≡ s.arrivals
   pub busy : new.busy ≡ s.busy
   pub begun : new.calls ≡ s.calls
   pub words : words_of new.words ≡ s.words
@@ -227,12 +228,21 @@ module _ (old new : Course) (t r : ℕ) (u : Client) (of_r : u ≡ client_of old
   shared_given : (s : Shared) (limit : LimitState) (n : Next) → Gives old new t r u failure h s limit n →
       shared_of new ≡ after s limit n
   shared_given s limit n g =
+      let arrivals = g.arrivals in
       let busy = g.busy in
       let begun = g.begun in
       let words = g.words in
       let drawn = g.drawn in
       let stands = g.limit_is in
-      λ i. record { busy = busy i; calls = begun i; words = words i; drawn = drawn i; limit = stands i }
+      λ i. record {
+        arrivals = arrivals i;
+        busy = busy i;
+        calls = begun i;
+        words = words i;
+        drawn = drawn i;
+        limit =
+            stands i;
+      }
 
   drawn_answered : (s : Shared) (limit : LimitState) (start : ℕ) (granted : Bool) (drawn : Drawn) → t ≤ start →
       (n : Next) →

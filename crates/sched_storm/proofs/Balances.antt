@@ -26,7 +26,7 @@ use Rattle.sched_storm_limit.specs.Ranges.{has_draws, is_limited}
 use Rattle.sched_storm_limit.specs.declared.draws.Draws.{Draws}
 use Rattle.sched_storm_limit.specs.declared.draws.Draws.TheVariants.{Nothing, Budget, Quota, Limited}
 use Rattle.sched_storm.specs.Populations.{population_of, draws_of, storm_of}
-use Rattle.sched_storm.specs.Parameters.{all_requests, comes_at}
+use Rattle.sched_storm.specs.Arrivals.{all_requests, comes_at}
 use Rattle.sched_storm.specs.Calls.{called}
 use Rattle.sched_storm.specs.Tickets.{draw_at}
 use Rattle.sched_storm.specs.Drivers.{input_of, with_failure}
@@ -147,13 +147,15 @@ ends_step p plan s r t (fails f h) =
 
 -- ---- what comes at first
 
-first_late : (p : Parameters) (r : ℕ) → all_requests p ≤ r → first p r ≡ None
-first_late p r late = ap (λ b. cond b (if_by p.until (comes_at p r) begins) None) (le-ltb r (all_requests p) late)
+first_late : (ms : List ℕ) (p : Parameters) (r : ℕ) → all_requests ms p ≤ r → first ms p r ≡ None
+first_late ms p r late = ap (λ b. cond b (if_by p.until (comes_at ms p r) begins) None) (le-ltb r
+    (all_requests ms p) late)
 
-first_weight : (w : Stage → ℕ) (most : ℕ) → w begins ≤ most → (p : Parameters) (r : ℕ) → weighed w (first p r) ≤ most
-first_weight w most h p r = elim (nat_lt r (all_requests p)) as (λ b. weighed w (cond b (if_by p.until
-    (comes_at p r) begins) None) ≤ most) [
-      | true ↦ weight_if w p.until (comes_at p r) begins most h
+first_weight : (w : Stage → ℕ) (most : ℕ) → w begins ≤ most → (ms : List ℕ) (p : Parameters) (r : ℕ) →
+    weighed w (first ms p r) ≤ most
+first_weight w most h ms p r = elim (nat_lt r (all_requests ms p)) as (λ b. weighed w (cond b (if_by p.until
+    (comes_at ms p r) begins) None) ≤ most) [
+      | true ↦ weight_if w p.until (comes_at ms p r) begins most h
       | false ↦ omega arith
     ]
 
@@ -174,10 +176,10 @@ in_time_if until t what =
       | false ↦ λ e. refl
     ] refl
 
-first_in_time : (p : Parameters) (r : ℕ) → lateness p.until (first p r) ≡ 0
-first_in_time p r = elim (nat_lt r (all_requests p)) as (λ b. lateness p.until (cond b (if_by p.until
-    (comes_at p r) begins) None) ≡ 0) [
-      | true ↦ in_time_if p.until (comes_at p r) begins
+first_in_time : (ms : List ℕ) (p : Parameters) (r : ℕ) → lateness p.until (first ms p r) ≡ 0
+first_in_time ms p r = elim (nat_lt r (all_requests ms p)) as (λ b. lateness p.until (cond b (if_by p.until
+    (comes_at ms p r) begins) None) ≡ 0) [
+      | true ↦ in_time_if p.until (comes_at ms p r) begins
       | false ↦ refl
     ]
 
@@ -196,7 +198,7 @@ module _ (f : Stage → ℕ) (test : Happening → Bool) (comes : f begins ≡ c
       by_arrival (λ (a : Answer Stage Shared Moment). f begins ≡ cond (test a.told.what) 1 0) p r t
       (λ s c. comes) (λ s. denied) plan s
   same_told p plan s r t (retries h) = again h
-  same_told p plan s r t succeeds = won (comes_at p r)
+  same_told p plan s r t succeeds = won (comes_at s.arrivals p r)
   same_told p plan s r t (fails fault h) =
       by_failure (λ (a : Answer Stage Shared Moment). f (fails fault h) ≡ cond (test a.told.what) 1 0) p r t fault
       (λ s. failed fault h Lost) (λ s. failed fault h Denied) (λ s h' start.
@@ -389,30 +391,31 @@ latest_by p plans of s (e ∷ es) at early by =
 
 -- ---- all events of a storm
 
-module _ (p : Parameters) (plans : ℕ → Schedule) (es : List (Event Stage)) (due : ℕ → Option (Due Stage))
+module _ (arrivals : List ℕ) (p : Parameters) (plans : ℕ → Schedule) (es : List (Event Stage)) (due : ℕ →
+    Option (Due Stage))
     (last : Shared)
-    (h : IsBeginning (played p plans) (first p) (start_at p) es due last) where
+    (h : IsBeginning (played p plans) (first arrivals p) (start_at arrivals p) es due last) where
   abbrev ms : List Moment
-  ms = told_by (played p plans) (start_at p) es
+  ms = told_by (played p plans) (start_at arrivals p) es
 
   requests_told : sum_by (λ (e : Event Stage). comes e.due.what) es ≡ count_by (λ (m : Moment). is_request m.what) ms
   requests_told = count_told comes is_request refl refl (λ h. refl) (λ began. refl) (λ f h next. refl) p plans
-      (start_at p) es last h.answers
+      (start_at arrivals p) es last h.answers
 
   retries_told : sum_by (λ (e : Event Stage). is_again e.due.what) es ≡ count_by (λ (m : Moment). is_retry m.what) ms
   retries_told = count_told is_again is_retry refl refl (λ h. refl) (λ began. refl) (λ f h next. refl) p plans
-      (start_at p) es last h.answers
+      (start_at arrivals p) es last h.answers
 
   ends_told : sum_by (λ (e : Event Stage). is_end e.due.what) es ≡ count_by (λ (m : Moment). ends_call m.what) ms
   ends_told = count_told is_end ends_call refl refl (λ h. refl) (λ began. refl) (λ f h next. refl) p plans
-      (start_at p) es last h.answers
+      (start_at arrivals p) es last h.answers
 
   -- where there is no limit no request is denied before its first call
   pub none_turned_away : ((k : ℕ) → is_limited (draws_of p k) ≡ false) → turned_away ms ≡ 0
   none_turned_away none =
       let few = told_sum_le (played p plans) (λ e. 0) (λ m. cond (is_turned_away m.what) 1 0)
       (λ s r d. none_step (storm_of p r) (plans (population_of p r)) (none (population_of p r)) s r d.at d.what)
-      (start_at p) es last h.answers in
+      (start_at arrivals p) es last h.answers in
       let zero = sum_none es in
       omega arith
 
@@ -420,11 +423,12 @@ module _ (p : Parameters) (plans : ℕ → Schedule) (es : List (Event Stage)) (
   pub ends-le : count_by (λ (m : Moment). ends_call m.what) ms ≤ count_by (λ (m : Moment). is_call m.what) ms
   ends-le =
       let all = balance (played p plans) (weighed is_end) (λ e. is_end e.due.what) (λ e. weighed is_end e.next)
-      (λ s r d. omega arith) (first p) (all_requests p)
-      (λ r. let k = first_weight is_end 0 (omega arith) p r in
-      omega arith) (first_late p) (start_at p) es due last h in
+      (λ s r d. omega arith) (first arrivals p) (all_requests arrivals p)
+      (λ r. let k = first_weight is_end 0 (omega arith) arrivals p r in
+      omega arith) (first_late arrivals p) (start_at arrivals p) es due last h in
       let calls = told_sum_ge (played p plans) (λ e. weighed is_end e.next) (λ m. cond (is_call m.what) 1 0)
-      (λ s r d. ends_step (storm_of p r) (plans (population_of p r)) s r d.at d.what) (start_at p) es last h.answers in
+      (λ s r d. ends_step (storm_of p r) (plans (population_of p r)) s r d.at d.what)
+      (start_at arrivals p) es last h.answers in
       let ends = ends_told in
       omega arith
 
@@ -432,12 +436,12 @@ module _ (p : Parameters) (plans : ℕ → Schedule) (es : List (Event Stage)) (
   pub retries-le : count_by (λ (m : Moment). is_retry m.what) ms ≤ count_by (λ (m : Moment). is_granted m.what) ms
   retries-le =
       let all = balance (played p plans) (weighed is_again) (λ e. is_again e.due.what) (λ e. weighed is_again e.next)
-      (λ s r d. omega arith) (first p) (all_requests p)
-      (λ r. let k = first_weight is_again 0 (omega arith) p r in
-      omega arith) (first_late p) (start_at p) es due last h in
+      (λ s r d. omega arith) (first arrivals p) (all_requests arrivals p)
+      (λ r. let k = first_weight is_again 0 (omega arith) arrivals p r in
+      omega arith) (first_late arrivals p) (start_at arrivals p) es due last h in
       let granted = told_sum_ge (played p plans) (λ e. weighed is_again e.next) (λ m. cond (is_granted m.what) 1 0)
       (λ s r d. granted_step (storm_of p r) (plans (population_of p r)) s r d.at d.what)
-      (start_at p) es last h.answers in
+      (start_at arrivals p) es last h.answers in
       let again = retries_told in
       omega arith
 
@@ -445,20 +449,23 @@ module _ (p : Parameters) (plans : ℕ → Schedule) (es : List (Event Stage)) (
   pub over-le : count_by (λ (m : Moment). ends_request m.what) ms ≤ count_by (λ (m : Moment). is_request m.what) ms
   over-le =
       let all = balance (played p plans) (weighed goes_on) (λ e. is_over e.due.what e.next) (λ e. comes e.due.what)
-      (λ s r d. over_step (storm_of p r) (plans (population_of p r)) s r d.at d.what) (first p) (all_requests p)
-      (λ r. let k = first_weight goes_on 0 (omega arith) p r in
-      omega arith) (first_late p) (start_at p) es due last h in
+      (λ s r d. over_step (storm_of p r) (plans (population_of p r)) s r d.at d.what) (first arrivals p)
+      (all_requests arrivals p)
+      (λ r. let k = first_weight goes_on 0 (omega arith) arrivals p r in
+      omega arith) (first_late arrivals p) (start_at arrivals p) es due last h in
       let over = told_sum_le (played p plans) (λ e. is_over e.due.what e.next) (λ m. cond (ends_request m.what) 1 0)
-      (λ s r d. over_told (storm_of p r) (plans (population_of p r)) s r d.at d.what) (start_at p) es last h.answers in
+      (λ s r d. over_told (storm_of p r) (plans (population_of p r)) s r d.at d.what)
+      (start_at arrivals p) es last h.answers in
       let requests = requests_told in
       omega arith
 
   -- no more come than there are
-  pub requests-le : count_by (λ (m : Moment). is_request m.what) ms ≤ all_requests p
+  pub requests-le : count_by (λ (m : Moment). is_request m.what) ms ≤ all_requests arrivals p
   requests-le =
       let all = at_most (played p plans) (weighed comes) (λ e. comes e.due.what)
-      (λ s r d. comes_step (storm_of p r) (plans (population_of p r)) s r d.at d.what) (first p)
-      (all_requests p) (λ r. first_weight comes 1 (omega arith) p r) (first_late p) (start_at p) es due last h in
+      (λ s r d. comes_step (storm_of p r) (plans (population_of p r)) s r d.at d.what) (first arrivals p)
+      (all_requests arrivals p) (λ r. first_weight comes 1 (omega arith) arrivals p r) (first_late arrivals p)
+      (start_at arrivals p) es due last h in
       let requests = requests_told in
       omega arith
 
@@ -468,9 +475,10 @@ module _ (p : Parameters) (plans : ℕ → Schedule) (es : List (Event Stage)) (
       let all = balance (played p plans) (lateness p.until) (λ e. cond (nat_le e.due.at p.until) 0 1) (λ e. 0)
       (λ s r d. let k = in_time p.until (played p plans s r d).next (λ d' e.
       (due_next (storm_of p r) (plans (population_of p r)) s r d.at d.what d' e).by) in omega arith)
-      (first p) (all_requests p) (first_in_time p) (first_late p) (start_at p) es due last h in
+      (first arrivals p) (all_requests arrivals p) (first_in_time arrivals p) (first_late arrivals p)
+      (start_at arrivals p) es due last h in
       let none = sum_none es in
       are_until p.until es (omega arith)
 
-  pub latest-le : (of : Option ℕ) → latest 0 (reported p plans of (start_at p) es) ≤ p.until
-  latest-le of = latest_by p plans of (start_at p) es 0 (omega arith) by_until
+  pub latest-le : (of : Option ℕ) → latest 0 (reported p plans of (start_at arrivals p) es) ≤ p.until
+  latest-le of = latest_by p plans of (start_at arrivals p) es 0 (omega arith) by_until

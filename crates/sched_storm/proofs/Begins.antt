@@ -9,7 +9,8 @@ use Rattle.sched_storm_report.specs.Told.{AreTold}
 use Rattle.sched_storm_report.specs.declared.peer.Peer.{Peer}
 use Rattle.sched_storm_limit.specs.Limits.{state_at_first}
 use Rattle.sched_storm_limit.specs.States.{state_of}
-use Rattle.sched_storm.specs.Parameters.{AreInRange, comes_at}
+use Rattle.sched_storm.specs.Parameters.{AreInRange}
+use Rattle.sched_storm.specs.Arrivals.{AreArrivals, comes_at}
 use Rattle.sched_storm.specs.Calls.{AreFew}
 use Rattle.sched_storm.specs.Tickets.{none_drawn, asked_of, given_of}
 use Rattle.sched_storm.specs.Drivers.{DriverStands}
@@ -27,9 +28,10 @@ no_more a = omega arith
 -- what a course has before the first event
 pub record HasNothing (c : Course) : Type 0 where
   pub in_range : AreInRange c.storm
+  pub moments : AreArrivals c.arrivals.now
   pub words : c.words ≡ of_seed (splitmix_seed 16 c.storm.words)
   pub requests : c.requests ≡ 0
-  pub comes : c.comes ≡ comes_at c.storm 0
+  pub comes : c.comes ≡ comes_at c.arrivals.now c.storm 0
   pub calls : c.calls ≡ 0
   pub busy : c.busy ≡ none_busy
   pub drawn : c.drawn ≡ none_drawn
@@ -45,7 +47,7 @@ pub record HasNothing (c : Course) : Type 0 where
   pub events : c.reporter.events ≡ 0
 
 module _ (c : Course) (h : HasNothing c) where
-  shared_is : start_at c.storm ≡ shared_of c
+  shared_is : start_at c.arrivals.now c.storm ≡ shared_of c
   shared_is =
       let words = h.words in
       let busy = h.busy in
@@ -53,6 +55,7 @@ module _ (c : Course) (h : HasNothing c) where
       let drawn = h.drawn in
       let limit = h.limit in
       λ i. record {
+        arrivals = c.arrivals.now;
         busy = sym busy i;
         calls = sym calls i;
         words = words_of (sym words i);
@@ -63,9 +66,9 @@ module _ (c : Course) (h : HasNothing c) where
   no_slot : (r : ℕ) → slot_of c r ≡ None
   no_slot r = ap (λ xs. get_or xs r None) h.slots
 
-  near_first : (r : ℕ) (d : Due Stage) → first c.storm r ≡ Some d → IsNear c r d
+  near_first : (r : ℕ) (d : Due Stage) → first c.arrivals.now c.storm r ≡ Some d → IsNear c r d
   near_first r d is =
-      let by = comes_by c.storm r d is in
+      let by = comes_by c.arrivals.now c.storm r d is in
       let few = by.few in
       let near = by.by in
       let from = h.from in
@@ -73,21 +76,21 @@ module _ (c : Course) (h : HasNothing c) where
       subst (λ e. IsNear c r e) (sym by.is) (record {
         by = near;
         number = few;
-        begun = no_more (comes_at c.storm r);
+        begun = no_more (comes_at c.arrivals.now c.storm r);
         placed = omega arith;
         told = omega arith;
         drives = subst (λ o. DriverStands (client_of c r).plan o []) (sym (no_slot r)) refl;
       })
 
-  none_came : (r : ℕ) → first c.storm r ≡ cond (ltb r c.requests) None (first c.storm r)
+  none_came : (r : ℕ) → first c.arrivals.now c.storm r ≡ cond (ltb r c.requests) None (first c.arrivals.now c.storm r)
   none_came r =
       let none : ltb r c.requests ≡ false = le-ltb r c.requests (let requests = h.requests in omega arith) in
-      ap (λ b. cond b None (first c.storm r)) (sym none)
+      ap (λ b. cond b None (first c.arrivals.now c.storm r)) (sym none)
 
   pub stands_at_first : Stands c None
   stands_at_first = record {
     events = [];
-    due = first c.storm;
+    due = first c.arrivals.now c.storm;
     held = λ _. None;
     begun = record { in_order = tt; each_request = λ r. refl; answers = shared_is; none_after = λ r d is. tt };
     told = λ peer is. h.told peer;
@@ -97,7 +100,8 @@ module _ (c : Course) (h : HasNothing c) where
     unheld = λ r more. refl;
     near = near_first;
     in_range = h.in_range;
-    comes = h.comes ∙ ap (comes_at c.storm) (sym h.requests);
+    moments = h.moments;
+    comes = h.comes ∙ ap (comes_at c.arrivals.now c.storm) (sym h.requests);
     requests = (let requests = h.requests in omega arith);
     slots = h.slots_len ∙ sym h.requests;
     calls = h.calls;

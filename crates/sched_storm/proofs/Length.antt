@@ -10,7 +10,7 @@ use Rattle.sched_storm_report.specs.Laws.{is_turned_away, turned_away}
 use Rattle.sched_storm_report.specs.declared.moments.Happening.{Happening}
 use Rattle.sched_storm_report.specs.declared.moments.Happening.TheVariants.{Request, Retry, Won, Failed, Refused}
 use Rattle.sched_storm_report.specs.declared.moments.Moment.{Moment}
-use Rattle.sched_storm.specs.Parameters.{all_requests}
+use Rattle.sched_storm.specs.Arrivals.{all_requests}
 use Rattle.sched_storm.specs.Plays.{Stage, Shared, start_at, first, played}
 use Rattle.sched_storm.specs.Storms.{calls_of}
 use Rattle.sched_storm.specs.declared.parameters.Parameters.{Parameters}
@@ -63,15 +63,16 @@ told_length p plans s (e ∷ es) =
     let rest = told_length p plans a.shared es in
     ap (λ n. suc n) rest
 
-pub few_events : (p : Parameters) (plans : ℕ → Schedule) (es : List (Event Stage)) (due : ℕ → Option (Due Stage))
+pub few_events : (arrivals : List ℕ) (p : Parameters) (plans : ℕ → Schedule) (es : List (Event Stage)) (due : ℕ →
+    Option (Due Stage))
     (last : Shared) →
-    IsBeginning (played p plans) (first p) (start_at p) es due last →
-    length es ≤ 2 * calls_of p plans es + all_requests p
-few_events p plans es due last h =
-    let ms : List Moment = told_by (played p plans) (start_at p) es in
-    let ends = ends-le p plans es due last h in
-    let requests = requests-le p plans es due last h in
+    IsBeginning (played p plans) (first arrivals p) (start_at arrivals p) es due last →
+    length es ≤ 2 * calls_of arrivals p plans es + all_requests arrivals p
+few_events arrivals p plans es due last h =
+    let ms : List Moment = told_by (played p plans) (start_at arrivals p) es in
+    let ends = ends-le arrivals p plans es due last h in
+    let requests = requests-le arrivals p plans es due last h in
     let kinds = all_kinds ms in
     let away = away-le ms in
-    let same = told_length p plans (start_at p) es in
+    let same = told_length p plans (start_at arrivals p) es in
     omega arith

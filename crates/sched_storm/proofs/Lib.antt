@@ -1,5 +1,6 @@
 -- Lemmas that the proofs of `sched_storm` cite.
 pub mod Arrivals
+pub mod Moments
 pub mod Drawing
 pub mod Peer
 pub mod Called

@@ -3,7 +3,7 @@ use Rattle.std.proofs.Common.{◌≡◌, ◌≢◌, inl, inr, ℕ, ◌+◌, ◌*
 use Rattle.std.proofs.Common.{None, IsTrue, sym, ◌∙◌, ap, subst, arith}
 use Rattle.std.proofs.lemmas.Bool.{cases_lt}
 use Rattle.sched_storm_trace.specs.Trace.{Due, NotAfter}
-use Rattle.sched_storm.specs.Parameters.{all_requests, comes_at}
+use Rattle.sched_storm.specs.Arrivals.{all_requests, comes_at}
 use Rattle.sched_storm.specs.Populations.{population_of, storm_of}
 use Rattle.sched_storm.specs.Clients.{plans_of}
 use Rattle.sched_storm.specs.Plays.{Stage, begins, retries, succeeds, fails, playing, played}
@@ -17,14 +17,15 @@ use Rattle.sched_storm.specs.declared.turns.Turn.{Turn}
 use Rattle.sched_storm.specs.declared.clients.Client.{Client}
 use Rattle.sched_storm.specs.declared.course.Course.{Course}
 use Rattle.sched_storm.proofs.Length.{few_events}
+use Rattle.sched_storm.proofs.Moments.{few_in_all}
 use Rattle.sched_storm.proofs.Played.{call_told}
 use Rattle.sched_storm.proofs.Steps.{stands_later}
 
 -- how many events there were, at most two for each call, and one for each request
 pub few_said : (c : Course) (hand : Option Turn) → Stands c hand →
-    c.reporter.events ≤ 2 * c.storm.calls + all_requests c.storm
+    c.reporter.events ≤ 2 * c.storm.calls + all_requests c.arrivals.now c.storm
 few_said c hand h =
-    let few = few_events c.storm (plans_of c.clients) h.events h.due (shared_of c) h.begun in
+    let few = few_events c.arrivals.now c.storm (plans_of c.clients) h.events h.due (shared_of c) h.begun in
     let number = h.number in
     let calls = h.calls in
     let most = h.few_calls in
@@ -55,7 +56,7 @@ module _ (c : Course) (turn : Turn) (h : StandsFirst c (Some turn)) where
       let told = near.told in
       let number = near.number in
       let at = at_is in
-      let all = h.stands.in_range.requests.all in
+      let all = few_in_all c.arrivals.now c.storm h.stands.moments h.stands.in_range.requests in
       let until = h.stands.in_range.report.until in
       let most = h.stands.in_range.report.calls in
       let few = few_said c (Some turn) h.stands in
@@ -69,7 +70,7 @@ module _ (c : Course) (turn : Turn) (h : StandsFirst c (Some turn)) where
         at = omega arith;
         near = until;
         number = omega arith;
-        begun = subst (λ t. comes_at c.storm turn.request ≤ t) (sym at_is) begun;
+        begun = subst (λ t. comes_at c.arrivals.now c.storm turn.request ≤ t) (sym at_is) begun;
         slots = h.stands.slots;
         requests = omega arith;
         calls = omega arith;
@@ -142,7 +143,7 @@ module _ (c : Course) (turn : Turn) (h : StandsFirst c (Some turn)) where
       (subst (λ p. IsTrue (begins_call p (shared_of c) r d.at (kind_of d.what))) meets
       (subst (λ t. IsTrue (begins_call u.storm (shared_of c) r t (kind_of d.what))) at_is
       (subst (λ k. IsTrue (begins_call u.storm (shared_of c) r turn.at k)) kind_is call))) in
-      let all = h.stands.in_range.requests.all in
+      let all = few_in_all c.arrivals.now c.storm h.stands.moments h.stands.in_range.requests in
       let next : CallIsNext c.storm (plans_of c.clients) h.stands.due (shared_of c) = record {
         request = r;
         call = d;
@@ -169,7 +170,7 @@ is_done c h =
     let few = few_said c None h.stands in
     let said = h.stands.said in
     let most = h.stands.in_range.report.calls in
-    let all = h.stands.in_range.requests.all in
+    let all = few_in_all c.arrivals.now c.storm h.stands.moments h.stands.in_range.requests in
     let calls = h.stands.few_calls in
     let of = h.stands.calls in
     record {

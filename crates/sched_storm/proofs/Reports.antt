@@ -37,27 +37,28 @@ reported_push p plans of s (f ∷ fs) last e h =
 
 -- what is told of the events of a course that is over
 abbrev pub told_of : (c : Course) (is_cut : Bool) → IsOver c is_cut → List Moment
-told_of c is_cut over = reported c.storm (plans_of c.clients) c.reporter.of (start_at c.storm) over.events
+told_of c is_cut over = reported c.storm (plans_of c.clients) c.reporter.of
+    (start_at c.arrivals.now c.storm) over.events
 
 pub reports_of : (c : Course) (is_cut : Bool) (over : IsOver c is_cut) (r : Report) →
-    IsReportOf c.storm (plans_of c.clients) c.reporter.of is_cut over.events r →
-    ReportsOn c.storm (plans_of c.clients) c.reporter.of r
+    IsReportOf c.arrivals.now c.storm (plans_of c.clients) c.reporter.of is_cut over.events r →
+    ReportsOn c.arrivals.now c.storm (plans_of c.clients) c.reporter.of r
 reports_of c is_cut over r told =
     let plans = plans_of c.clients in
     let of = c.reporter.of in
     let cut : r.totals.is_cut ≡ is_cut = ap (λ (t : Totals). t.is_cut) told.totals in
     record {
       events = over.events;
-      is_storm = subst (λ b. IsStorm c.storm plans b over.events) (sym cut) over.is_storm;
-      told = subst (λ b. IsReportOf c.storm plans of b over.events r) (sym cut) told;
-      of_all = of_all c.storm plans of is_cut over.events r over.is_storm told;
+      is_storm = subst (λ b. IsStorm c.arrivals.now c.storm plans b over.events) (sym cut) over.is_storm;
+      told = subst (λ b. IsReportOf c.arrivals.now c.storm plans of b over.events r) (sym cut) told;
+      of_all = of_all c.arrivals.now c.storm plans of is_cut over.events r over.is_storm told;
     }
 
 pub report_is : (c : Course) (is_cut : Bool) (over : IsOver c is_cut) (r : Report) (made : Peer) (trouble : ℕ) →
     made ≡ peer_of c.storm → trouble ≡ end_of_trouble c.storm →
     IsReport made (record { trouble = trouble; is_cut = is_cut }) c.reporter.tally.window
     (told_of c is_cut over) r →
-    IsReportOf c.storm (plans_of c.clients) c.reporter.of is_cut over.events r
+    IsReportOf c.arrivals.now c.storm (plans_of c.clients) c.reporter.of is_cut over.events r
 report_is c is_cut over r made trouble peer end h =
     let ms : List Moment = told_of c is_cut over in
     let ends : record { trouble = trouble; is_cut = is_cut } ≡ ends_of c.storm is_cut =

@@ -16,7 +16,8 @@ use Rattle.sched_storm_trace.proofs.Traces.{one_more, told_push}
 use Rattle.sched_storm_report.specs.Told.{AreTold}
 use Rattle.sched_storm_report.specs.declared.peer.Peer.{Peer}
 use Rattle.sched_storm_report.specs.declared.moments.Moment.{Moment}
-use Rattle.sched_storm.specs.Parameters.{all_requests, comes_at, peer_of}
+use Rattle.sched_storm.specs.Parameters.{peer_of}
+use Rattle.sched_storm.specs.Arrivals.{AreArrivals, all_requests, comes_at}
 use Rattle.sched_storm.specs.Tickets.{asked_of, given_of}
 use Rattle.sched_storm.specs.Plays.{Stage, Shared, start_at, first}
 use Rattle.sched_storm.specs.Plays.{played}
@@ -134,37 +135,52 @@ module _ (old new : Course) (turn : Turn) (d : Due Stage) (next : Option Turn) (
   near_here : IsNear old r d
   near_here = was.near r d due_is
 
-  begun_old : IsBeginning (played old.storm plans) (first old.storm) (start_at old.storm) events due after.shared
-  begun_old = one_more (played old.storm plans) (first old.storm) (start_at old.storm) was.events was.due
+  begun_old : IsBeginning (played old.storm plans) (first old.arrivals.now old.storm)
+      (start_at old.arrivals.now old.storm) events due after.shared
+  begun_old = one_more (played old.storm plans) (first old.arrivals.now old.storm)
+      (start_at old.arrivals.now old.storm) was.events was.due
       (shared_of old) event was.begun due_is refl
       least answered.later
 
-  begun_new : IsBeginning (played new.storm (plans_of new.clients)) (first new.storm) (start_at new.storm) events due
+  begun_new : IsBeginning (played new.storm (plans_of new.clients)) (first new.arrivals.now new.storm)
+      (start_at new.arrivals.now new.storm) events due
       (shared_of new)
   begun_new =
-      subst (λ p. IsBeginning (played p (plans_of new.clients)) (first p) (start_at p) events due (shared_of new))
-      (sym rests.storm)
-      (subst (λ cs. IsBeginning (played old.storm (plans_of cs)) (first old.storm) (start_at old.storm) events due
+      subst (λ ms. IsBeginning (played new.storm (plans_of new.clients)) (first ms new.storm) (start_at ms new.storm)
+      events due (shared_of new)) (sym rests.arrivals)
+      (subst (λ p. IsBeginning (played p (plans_of new.clients)) (first old.arrivals.now p)
+      (start_at old.arrivals.now p)
+      events due (shared_of new)) (sym rests.storm)
+      (subst (λ cs. IsBeginning (played old.storm (plans_of cs)) (first old.arrivals.now old.storm)
+      (start_at old.arrivals.now old.storm) events due
       (shared_of new)) (sym rests.clients)
-      (subst (λ s. IsBeginning (played old.storm plans) (first old.storm) (start_at old.storm) events due s)
-      (sym answered.shared_is) begun_old))
+      (subst (λ s. IsBeginning (played old.storm plans) (first old.arrivals.now old.storm)
+      (start_at old.arrivals.now old.storm) events due s)
+      (sym answered.shared_is) begun_old)))
 
   told_new : (peer : Peer) → peer ≡ peer_of new.storm →
-      AreTold peer (reported new.storm (plans_of new.clients) new.reporter.of (start_at new.storm) events)
+      AreTold peer (reported new.storm (plans_of new.clients) new.reporter.of
+      (start_at new.arrivals.now new.storm) events)
       new.reporter.tally
   told_new peer is =
       let is_old : peer ≡ peer_of old.storm = is ∙ ap peer_of rests.storm in
-      let told = answered.told peer (reported old.storm plans old.reporter.of (start_at old.storm) was.events) is_old
+      let told = answered.told peer (reported old.storm plans old.reporter.of
+      (start_at old.arrivals.now old.storm) was.events) is_old
       (was.told peer is_old) in
-      let pushed = reported_push old.storm plans old.reporter.of (start_at old.storm) was.events
+      let pushed = reported_push old.storm plans old.reporter.of (start_at old.arrivals.now old.storm) was.events
       (shared_of old) event was.begun.answers in
-      subst (λ p. AreTold peer (reported p (plans_of new.clients) new.reporter.of (start_at p) events)
+      subst (λ ms. AreTold peer (reported new.storm (plans_of new.clients) new.reporter.of
+      (start_at ms new.storm) events)
+      new.reporter.tally) (sym rests.arrivals)
+      (subst (λ p. AreTold peer (reported p (plans_of new.clients) new.reporter.of (start_at old.arrivals.now p) events)
       new.reporter.tally) (sym rests.storm)
-      (subst (λ cs. AreTold peer (reported old.storm (plans_of cs) new.reporter.of (start_at old.storm) events)
+      (subst (λ cs. AreTold peer (reported old.storm (plans_of cs) new.reporter.of
+      (start_at old.arrivals.now old.storm) events)
       new.reporter.tally) (sym rests.clients)
-      (subst (λ o. AreTold peer (reported old.storm plans o (start_at old.storm) events) new.reporter.tally)
+      (subst (λ o. AreTold peer (reported old.storm plans o
+      (start_at old.arrivals.now old.storm) events) new.reporter.tally)
       (sym rests.of)
-      (subst (λ ms. AreTold peer ms new.reporter.tally) (sym pushed) told)))
+      (subst (λ ms. AreTold peer ms new.reporter.tally) (sym pushed) told))))
 
   requests_new : new.requests ≡ old.requests + came (kind_of d.what)
   requests_new = counted.requests_are
@@ -183,7 +199,7 @@ module _ (old new : Course) (turn : Turn) (d : Due Stage) (next : Option Turn) (
   }
 
   other_if : (o : Option (Due Stage)) (q : ℕ) → IsOther (turn_if r o) q → (b : Bool) → eqb r q ≡ b →
-      cond b o (was.due q) ≡ cond (ltb q new.requests) (was.held q) (first new.storm q)
+      cond b o (was.due q) ≡ cond (ltb q new.requests) (was.held q) (first new.arrivals.now new.storm q)
   other_if None q other true s =
       let same : r ≡ q = eqb-true r q s in
       let came : ltb q new.requests ≡ true = lt-ltb q new.requests (let here = came_here in omega arith) in
@@ -195,7 +211,7 @@ module _ (old new : Course) (turn : Turn) (d : Due Stage) (next : Option Turn) (
       let as_before : ltb q new.requests ≡ ltb q old.requests =
       ap (λ n. ltb q n) requests_new ∙ other_came (kind_of d.what) r q old.requests placed apart
       (ltb q old.requests) refl in
-      before ∙ (λ i. cond (sym as_before i) (was.held q) (first (sym rests.storm i) q))
+      before ∙ (λ i. cond (sym as_before i) (was.held q) (first (sym rests.arrivals i) (sym rests.storm i) q))
 
   near_if : (q : ℕ) (e : Due Stage) (b : Bool) → eqb r q ≡ b → cond b after.next (was.due q) ≡ Some e → IsNear new q e
   near_if q e true s at =
@@ -207,8 +223,8 @@ module _ (old new : Course) (turn : Turn) (d : Due Stage) (next : Option Turn) (
       let from = rests.from in
       subst (λ x. IsNear new x e) same (record {
         by = rw rests.storm by;
-        number = rw rests.storm (near_here.number);
-        begun = rw rests.storm (up (comes_at old.storm r) d.at e.at begun later);
+        number = rw (rests.arrivals, rests.storm) (near_here.number);
+        begun = rw (rests.arrivals, rests.storm) (up (comes_at old.arrivals.now old.storm r) d.at e.at begun later);
         placed = placed_by (kind_of e.what) r new.requests (next_is.placed r new.requests came_here);
         told = omega arith;
         drives = subst (λ (u : Client). Drives u.plan (slot_of new r) e.at e.what) (sym (same_client r))
@@ -221,8 +237,8 @@ module _ (old new : Course) (turn : Turn) (d : Due Stage) (next : Option Turn) (
       let from = rests.from in
       record {
         by = rw rests.storm near.by;
-        number = rw rests.storm near.number;
-        begun = rw rests.storm near.begun;
+        number = rw (rests.arrivals, rests.storm) near.number;
+        begun = rw (rests.arrivals, rests.storm) near.begun;
         placed = rw requests_new (placed_later (kind_of d.what)
             (kind_of e.what) r q old.requests placed apart near.placed);
         told = omega arith;
@@ -230,18 +246,22 @@ module _ (old new : Course) (turn : Turn) (d : Due Stage) (next : Option Turn) (
             (subst (λ o. Drives (client_of old q).plan o e.at e.what) (sym (rests.others q apart)) near.drives);
       }
 
-  calls_more : calls_of old.storm plans events ≡ calls_of old.storm plans was.events + calls_told after.told
+  calls_more : calls_of old.arrivals.now old.storm plans events
+      ≡ calls_of old.arrivals.now old.storm plans was.events + calls_told after.told
   calls_more =
-      let ms : List Moment = told_by (played old.storm plans) (start_at old.storm) was.events in
+      let ms : List Moment = told_by (played old.storm plans) (start_at old.arrivals.now old.storm) was.events in
       let pushed = ap (λ ms. count_by (λ (m : Moment). is_call m.what) ms)
-      (told_push (played old.storm plans) (start_at old.storm) was.events (shared_of old) event was.begun.answers) in
+      (told_push (played old.storm plans) (start_at old.arrivals.now old.storm) was.events
+      (shared_of old) event was.begun.answers) in
       let all = sum_by-append (λ (m : Moment). cond (is_call m.what) 1 0) ms (after.told ∷ []) in
       let one = sum_by-cons (λ (m : Moment). cond (is_call m.what) 1 0) after.told [] in
       omega arith
 
-  calls_same : calls_of new.storm (plans_of new.clients) events ≡ calls_of old.storm plans events
-  calls_same = ap (λ p. calls_of p (plans_of new.clients) events) rests.storm
-      ∙ ap (λ cs. calls_of old.storm (plans_of cs) events) rests.clients
+  calls_same : calls_of new.arrivals.now new.storm (plans_of new.clients) events
+      ≡ calls_of old.arrivals.now old.storm plans events
+  calls_same = ap (λ ms. calls_of ms new.storm (plans_of new.clients) events) rests.arrivals
+      ∙ (ap (λ p. calls_of old.arrivals.now p (plans_of new.clients) events) rests.storm
+      ∙ ap (λ cs. calls_of old.arrivals.now old.storm (plans_of cs) events) rests.clients)
 
   few_calls_new : new.calls ≤ old.storm.calls
   few_calls_new =
@@ -268,9 +288,10 @@ module _ (old new : Course) (turn : Turn) (d : Due Stage) (next : Option Turn) (
     unheld = λ q h. was.unheld q (let more = requests_new in omega arith);
     near = λ q e at. near_if q e (eqb r q) refl at;
     in_range = rw rests.storm was.in_range;
-    comes = rw rests.storm (counted.comes was.comes);
-    requests = rw (rests.storm, requests_new) (few_came (kind_of d.what) r old.requests
-        (all_requests old.storm) placed near_here.number was.requests);
+    moments = subst AreArrivals (sym rests.arrivals) was.moments;
+    comes = rw (rests.arrivals, rests.storm) (counted.comes was.comes);
+    requests = rw (rests.arrivals, rests.storm, requests_new) (few_came (kind_of d.what) r old.requests
+        (all_requests old.arrivals.now old.storm) placed near_here.number was.requests);
     slots = rests.slots;
     calls = answered.calls
         ∙ (ap {B = ℕ} (λ n. n + calls_told after.told) was.calls ∙ (sym calls_more ∙ sym calls_same));

@@ -1,15 +1,13 @@
 -- What is least due is taken out of the agenda, or is the next request; and what is due later is put in.
-use Rattle.std.proofs.Common.{◌≡◌, ◌≢◌, ℕ, ◌*◌, ◌/◌, ◌<◌, ◌≤◌, Bool, true, false, cond, eqb, eqb-true, eq-eqb, ltb}
-use Rattle.std.proofs.Common.{ltb-true, lt-ltb, le-ltb, Option, Some, None, IfSome, refl, sym, ◌∙◌, ap}
+use Rattle.std.proofs.Common.{◌≡◌, ◌≢◌, ℕ, ◌<◌, ◌≤◌, Bool, true, false, cond, eqb, eqb-true, eq-eqb, ltb}
+use Rattle.std.proofs.Common.{ltb-true, lt-ltb, le-ltb, List, Option, Some, None, IfSome, refl, sym, ◌∙◌, ap}
 use Rattle.std.proofs.Common.{subst, inl, inr, arith}
 use Rattle.std.proofs.lemmas.Bool.{false≢true, cases_lt, leb-true, le-leb}
-use Rattle.std.proofs.lemmas.Nat.{mul-le, le-div}
-use native.Mathlib.Nat.{div-mul-le_self}
 use Rattle.std.specs.Prelude.{nat_le}
 use Rattle.sched_calendar.specs.Calendar.{times}
 use Rattle.sched_storm_trace.specs.Trace.{Due, updated, NotAfter}
-use Rattle.sched_storm.specs.Rates.{phases_of}
-use Rattle.sched_storm.specs.Parameters.{RequestsAreInRange, all_requests, comes_at}
+use Rattle.sched_storm.specs.Parameters.{RequestsAreInRange}
+use Rattle.sched_storm.specs.Arrivals.{AreArrivals, all_requests, comes_at}
 use Rattle.sched_storm.specs.Plays.{Stage, begins, first}
 use Rattle.sched_storm.specs.Turns.{kind_of, turn_for, turn_if}
 use Rattle.sched_storm.specs.Keys.{key_of, request_in, turn_of, is_this, AreHeld, Holds, Pops, IsBeforeAny, ComesFirst}
@@ -21,7 +19,7 @@ use Rattle.sched_storm.specs.declared.turns.Kind.TheVariants.{Begins, Retries, S
 use Rattle.sched_storm.specs.declared.turns.Turn.{Turn}
 use Rattle.sched_storm.specs.declared.agenda.Agenda.{Agenda}
 use Rattle.sched_storm.specs.declared.course.Course.{Course}
-use Rattle.sched_storm.proofs.Arrivals.{arrives_rises}
+use Rattle.sched_storm.proofs.Moments.{comes_later, few_in_all}
 use Rattle.sched_storm.proofs.Keys.{request_back, turn_back, key_order, key_order_at}
 
 some_same : {X : Type 0} (a b : X) → Some a ≡ Some b → a ≡ b
@@ -42,37 +40,24 @@ same_up a b c h k = omega arith
 
 -- ---- when requests come
 
-quotient_rises : (k a b : ℕ) → 0 < k → a ≤ b → a / k ≤ b / k
-quotient_rises k a b some h = le-div (a / k) b k some (omega (arith, div-mul-le_self a k, h))
+pub record ComesBy (ms : List ℕ) (p : Parameters) (n : ℕ) (d : Due Stage) : Type 0 where
+  pub few : n < all_requests ms p
+  pub by : comes_at ms p n ≤ p.until
+  pub is : d ≡ record { at = comes_at ms p n; what = begins }
 
--- a later request comes no earlier
-comes_later : (p : Parameters) (n q : ℕ) → RequestsAreInRange p → n ≤ q → comes_at p n ≤ comes_at p q
-comes_later p n q ok h =
-    let herd = ok.herd in
-    let some = ok.some in
-    let group = quotient_rises p.together n q (omega arith) h in
-    let start = mul-le (n / p.together) p.together (q / p.together) p.together group (omega arith) in
-    arrives_rises p.rate (phases_of p.rates) (n / p.together * p.together * 1000) (q / p.together * p.together * 1000)
-    some ok.rates.in_order (omega arith)
-
-pub record ComesBy (p : Parameters) (n : ℕ) (d : Due Stage) : Type 0 where
-  pub few : n < all_requests p
-  pub by : comes_at p n ≤ p.until
-  pub is : d ≡ record { at = comes_at p n; what = begins }
-
-first_is : (p : Parameters) (n : ℕ) (d : Due Stage) (b c : Bool) → ltb n (all_requests p) ≡ b →
-    nat_le (comes_at p n) p.until ≡ c →
-    cond b (cond c (Some (record { at = comes_at p n; what = begins })) None) None ≡ Some d → ComesBy p n d
-first_is p n d true true s t h = record {
-  few = ltb-true n (all_requests p) s;
-  by = leb-true (comes_at p n) p.until t;
-  is = sym (some_same (record { at = comes_at p n; what = begins }) d h);
+first_is : (ms : List ℕ) (p : Parameters) (n : ℕ) (d : Due Stage) (b c : Bool) → ltb n (all_requests ms p) ≡ b →
+    nat_le (comes_at ms p n) p.until ≡ c →
+    cond b (cond c (Some (record { at = comes_at ms p n; what = begins })) None) None ≡ Some d → ComesBy ms p n d
+first_is ms p n d true true s t h = record {
+  few = ltb-true n (all_requests ms p) s;
+  by = leb-true (comes_at ms p n) p.until t;
+  is = sym (some_same (record { at = comes_at ms p n; what = begins }) d h);
 }
-first_is p n d true false s t h = absurd (not_none d h)
-first_is p n d false c s t h = absurd (not_none d h)
+first_is ms p n d true false s t h = absurd (not_none d h)
+first_is ms p n d false c s t h = absurd (not_none d h)
 
-pub comes_by : (p : Parameters) (n : ℕ) (d : Due Stage) → first p n ≡ Some d → ComesBy p n d
-comes_by p n d h = first_is p n d (ltb n (all_requests p)) (nat_le (comes_at p n) p.until) refl refl h
+pub comes_by : (ms : List ℕ) (p : Parameters) (n : ℕ) (d : Due Stage) → first ms p n ≡ Some d → ComesBy ms p n d
+comes_by ms p n d h = first_is ms p n d (ltb n (all_requests ms p)) (nat_le (comes_at ms p n) p.until) refl refl h
 
 both_true : {X : Type 0} (b c : Bool) (x : X) → b ≡ true → c ≡ true → cond b (cond c (Some x) None) None ≡ Some x
 both_true true true x h k = refl
@@ -80,41 +65,43 @@ both_true true false x h k = absurd (false≢true k)
 both_true false c x h k = absurd (false≢true h)
 
 -- where a request comes, each before it came
-comes_before : (p : Parameters) (n q : ℕ) (e : Due Stage) → RequestsAreInRange p → n ≤ q → first p q ≡ Some e →
-    (first p n ≡ Some (record { at = comes_at p n; what = begins })) × (comes_at p n ≤ e.at)
-comes_before p n q e ok h is =
-    let later = comes_by p q e is in
+comes_before : (ms : List ℕ) (p : Parameters) (n q : ℕ) (e : Due Stage) → AreArrivals ms → RequestsAreInRange p →
+    n ≤ q → first ms p q ≡ Some e →
+    (first ms p n ≡ Some (record { at = comes_at ms p n; what = begins })) × (comes_at ms p n ≤ e.at)
+comes_before ms p n q e given ok h is =
+    let later = comes_by ms p q e is in
     let few = later.few in
     let by = later.by in
-    let order = comes_later p n q ok h in
+    let order = comes_later ms p n q given ok h few in
     let at = ap (λ (d : Due Stage). d.at) later.is in
-    let here : ltb n (all_requests p) ≡ true = lt-ltb n (all_requests p) (omega arith) in
-    let near : nat_le (comes_at p n) p.until ≡ true =
-    le-leb (comes_at p n) p.until (up (comes_at p n) (comes_at p q) p.until order by) in (
-      both_true (ltb n (all_requests p)) (nat_le (comes_at p n) p.until)
-          (record { at = comes_at p n; what = begins }) here near,
-      subst (λ m. comes_at p n ≤ m) (sym at) order,
+    let here : ltb n (all_requests ms p) ≡ true = lt-ltb n (all_requests ms p) (omega arith) in
+    let near : nat_le (comes_at ms p n) p.until ≡ true =
+    le-leb (comes_at ms p n) p.until (up (comes_at ms p n) (comes_at ms p q) p.until order by) in (
+      both_true (ltb n (all_requests ms p)) (nat_le (comes_at ms p n) p.until)
+          (record { at = comes_at ms p n; what = begins }) here near,
+      subst (λ m. comes_at ms p n ≤ m) (sym at) order,
     )
 
-fits_if : (p : Parameters) (n : ℕ) (o : Option (Due Stage)) → first p n ≡ o → p.until ≤ 7200000 →
-    all_requests p ≤ 1048576 →
+fits_if : (ms : List ℕ) (p : Parameters) (n : ℕ) (o : Option (Due Stage)) → first ms p n ≡ o → p.until ≤ 7200000 →
+    all_requests ms p ≤ 1048576 →
     IfSome (turn_if n o) (λ t. (t.at ≤ 7200000) × (t.request < 1048576))
-fits_if p n None is until all = tt
-fits_if p n (Some d) is until all =
-    let by = comes_by p n d is in
+fits_if ms p n None is until all = tt
+fits_if ms p n (Some d) is until all =
+    let by = comes_by ms p n d is in
     let few = by.few in
     let near = by.by in
     let at = ap (λ (x : Due Stage). x.at) by.is in
-    (same_up d.at (comes_at p n) 7200000 at (up (comes_at p n) p.until 7200000 near until), omega arith)
+    (same_up d.at (comes_at ms p n) 7200000 at (up (comes_at ms p n) p.until 7200000 near until), omega arith)
 
 -- the next request is one of few, and comes until the end
-pub first_fits : (c : Course) → Stands c None → (o : Option Turn) → o ≡ turn_if c.requests (first c.storm c.requests) →
+pub first_fits : (c : Course) → Stands c None → (o : Option Turn) →
+    o ≡ turn_if c.requests (first c.arrivals.now c.storm c.requests) →
     IfSome o (λ t. (t.at ≤ 7200000) × (t.request < 1048576))
 first_fits c h o is =
     let until = h.in_range.report.until in
-    let all = h.in_range.requests.all in
+    let all = few_in_all c.arrivals.now c.storm h.moments h.in_range.requests in
     subst (λ o. IfSome o (λ t. (t.at ≤ 7200000) × (t.request < 1048576))) (sym is)
-    (fits_if c.storm c.requests (first c.storm c.requests) refl until all)
+    (fits_if c.arrivals.now c.storm c.requests (first c.arrivals.now c.storm c.requests) refl until all)
 
 -- ---- keys
 
@@ -161,21 +148,23 @@ module _ (old : Course) (a : Agenda) (was : Stands old None) where
   number : (r : ℕ) (d : Due Stage) → was.due r ≡ Some d → r < 1048576
   number r d at =
       let few = (was.near r d at).number in
-      let all = was.in_range.requests.all in
+      let all = few_in_all old.arrivals.now old.storm was.moments was.in_range.requests in
       omega arith
 
   -- what is due of a request that came is held
   is_held : (r : ℕ) (o : Option (Due Stage)) → was.due r ≡ o → r < old.requests → was.held r ≡ o
   is_held r o at came =
       let here : ltb r old.requests ≡ true = lt-ltb r old.requests came in
-      ap (λ b. cond b (was.held r) (first old.storm r)) (sym here) ∙ (sym (was.others r tt) ∙ at)
+      ap (λ b. cond b (was.held r) (first old.arrivals.now old.storm r)) (sym here) ∙ (sym (was.others r tt) ∙ at)
 
-  is_coming : (r : ℕ) (o : Option (Due Stage)) → was.due r ≡ o → old.requests ≤ r → first old.storm r ≡ o
+  is_coming : (r : ℕ) (o : Option (Due Stage)) → was.due r ≡ o → old.requests ≤ r →
+      first old.arrivals.now old.storm r ≡ o
   is_coming r o at more =
       let here : ltb r old.requests ≡ false = le-ltb r old.requests more in
-      ap (λ b. cond b (was.held r) (first old.storm r)) (sym here) ∙ (sym (was.others r tt) ∙ at)
+      ap (λ b. cond b (was.held r) (first old.arrivals.now old.storm r)) (sym here) ∙ (sym (was.others r tt) ∙ at)
 
-  module _ (next : Turn) (h : Pops (keys_of was.held) (turn_if old.requests (first old.storm old.requests)) next a)
+  module _ (next : Turn) (h : Pops (keys_of was.held) (turn_if old.requests
+      (first old.arrivals.now old.storm old.requests)) next a)
       (d : Due Stage)
       (held_is : was.held next.request ≡ Some d) (key_is : key_of (turn_for next.request d) ≡ h.key) where
     abbrev r : ℕ
@@ -187,7 +176,7 @@ module _ (old : Course) (a : Agenda) (was : Stands old None) where
     r_due : was.due r ≡ Some d
     r_due =
         let here : ltb r old.requests ≡ true = lt-ltb r old.requests r_came in
-        was.others r tt ∙ (ap (λ b. cond b (was.held r) (first old.storm r)) here ∙ held_is)
+        was.others r tt ∙ (ap (λ b. cond b (was.held r) (first old.arrivals.now old.storm r)) here ∙ held_is)
 
     next_is : next ≡ turn_for r d
     next_is = h.is ∙ (ap turn_of (sym key_is) ∙ turn_back (turn_for r d) (number r d r_due))
@@ -202,16 +191,21 @@ module _ (old : Course) (a : Agenda) (was : Stands old None) where
           turns_order r q d e (number r d r_due) few (omega arith)
           )
       | inr k ↦ (
-          let before = comes_before old.storm old.requests q e was.in_range.requests k (is_coming q (Some e) at k) in
-          let n : Due Stage = record { at = comes_at old.storm old.requests; what = begins } in
+          let before = comes_before old.arrivals.now old.storm old.requests q e was.moments was.in_range.requests k
+          (is_coming q (Some e) at k) in
+          let n : Due Stage = record { at = comes_at old.arrivals.now old.storm old.requests; what = begins } in
           let under : IsBeforeAny (Some (turn_for old.requests n)) h.key =
           subst (λ o. IsBeforeAny (turn_if old.requests o) h.key) before.0 h.before in
           let came = r_came in
           let few = (was.near q e at).number in
-          let all = was.in_range.requests.all in
+          let all = few_in_all old.arrivals.now old.storm was.moments was.in_range.requests in
           let order = key_order (turn_for r d) (turn_for old.requests n) (number r d r_due) (omega arith)
           (omega arith) in
-          record { moment = up d.at (comes_at old.storm old.requests) e.at order before.1; number = λ _. omega arith }
+          record {
+            moment = up d.at (comes_at old.arrivals.now old.storm old.requests) e.at order before.1;
+            number = λ
+                _. omega arith;
+          }
           )
     ]
 
@@ -244,7 +238,7 @@ module _ (old : Course) (a : Agenda) (was : Stands old None) where
         placed = subst (λ k. IsPlacedAt k r old.requests) (sym (ap (λ (t : Turn). t.kind) next_is))
             (placed_at (kind_of d.what) r old.requests r_came (was.near r d r_due).placed);
       };
-      others = λ q apart. was.others q tt ∙ ap (λ o. cond (ltb q old.requests) o (first old.storm q))
+      others = λ q apart. was.others q tt ∙ ap (λ o. cond (ltb q old.requests) o (first old.arrivals.now old.storm q))
           (sym (apart_held q apart));
       unheld = λ q more. none_held q more (eqb r q);
       near = λ q e at. (let n = was.near q e at in
@@ -257,6 +251,7 @@ module _ (old : Course) (a : Agenda) (was : Stands old None) where
             drives = n.drives;
           });
       in_range = was.in_range;
+      moments = was.moments;
       comes = was.comes;
       requests = was.requests;
       slots = was.slots;
@@ -278,7 +273,8 @@ module _ (old : Course) (a : Agenda) (was : Stands old None) where
     }
 
   -- what is least due is taken out
-  pub take_out : (o : Option Turn) (next : Turn) → o ≡ turn_if old.requests (first old.storm old.requests) →
+  pub take_out : (o : Option Turn) (next : Turn) → o ≡ turn_if old.requests
+      (first old.arrivals.now old.storm old.requests) →
       Pops (keys_of was.held) o next a →
       StandsFirst (record old { agenda = a }) (Some next)
   take_out o next is pops =
@@ -310,6 +306,7 @@ module _ (old : Course) (a : Agenda) (was : Stands old None) where
             drives = n.drives;
           });
       in_range = was.in_range;
+      moments = was.moments;
       comes = was.comes;
       requests = was.requests;
       slots = was.slots;
@@ -323,24 +320,26 @@ module _ (old : Course) (a : Agenda) (was : Stands old None) where
       window = was.window;
     }
 
-    nothing_due : first old.storm old.requests ≡ None → ComesFirst (keys_of was.held) None → (q : ℕ) (e : Due Stage) →
+    nothing_due : first old.arrivals.now old.storm old.requests ≡ None → ComesFirst (keys_of was.held) None →
+        (q : ℕ) (e : Due Stage) →
         was.due q ≡ Some e → ⊥
     nothing_due none empty q e at = elim (cases_lt q old.requests) [
       | inl k ↦ empty q (key_of (turn_for q e)) (ap (key_if q) (is_held q (Some e) at k))
           (request_back (turn_for q e) (number q e at))
-      | inr k ↦ not_none _ (sym none ∙ (comes_before old.storm old.requests q e was.in_range.requests k
+      | inr k ↦ not_none _ (sym none ∙ (comes_before old.arrivals.now old.storm old.requests q e was.moments
+          was.in_range.requests k
           (is_coming q (Some e) at k)).0)
     ]
 
-    request_first : (n : Due Stage) → first old.storm old.requests ≡ Some n →
+    request_first : (n : Due Stage) → first old.arrivals.now old.storm old.requests ≡ Some n →
         ComesFirst (keys_of was.held) (Some (turn_for old.requests n)) →
         StandsFirst (record old { agenda = a }) (Some (turn_for old.requests n))
     request_first n is before =
         let r = old.requests in
-        let by = comes_by old.storm r n is in
+        let by = comes_by old.arrivals.now old.storm r n is in
         let here : ltb r r ≡ false = le-ltb r r (omega arith) in
         let due_is : was.due r ≡ Some n = was.others r tt
-        ∙ (ap (λ b. cond b (was.held r) (first old.storm r)) here ∙ is) in
+        ∙ (ap (λ b. cond b (was.held r) (first old.arrivals.now old.storm r)) here ∙ is) in
         let what : begins ≡ n.what = ap (λ (d : Due Stage). d.what) (sym by.is) in
         let at_is = ap (λ (d : Due Stage). d.at) by.is in
         record {
@@ -371,6 +370,7 @@ module _ (old : Course) (a : Agenda) (was : Stands old None) where
                   drives = m.drives;
                 });
             in_range = was.in_range;
+            moments = was.moments;
             comes = was.comes;
             requests = was.requests;
             slots = was.slots;
@@ -388,13 +388,18 @@ module _ (old : Course) (a : Agenda) (was : Stands old None) where
                 (before q (key_of (turn_for q e)) (ap (key_if q) (is_held q (Some e) at k))
                 (request_back (turn_for q e) (number q e at)))
             | inr k ↦ (
-                let later = (comes_before old.storm r q e was.in_range.requests k (is_coming q (Some e) at k)).1 in
-                record { moment = same_up n.at (comes_at old.storm r) e.at at_is later; number = λ _. k }
+                let later = (comes_before old.arrivals.now old.storm r q e was.moments was.in_range.requests k
+                (is_coming q (Some e) at k)).1 in
+                record {
+                  moment = same_up n.at (comes_at old.arrivals.now old.storm r) e.at at_is later;
+                  number = λ _.
+                      k;
+                }
                 )
           ];
         }
 
-    take_if : (o : Option (Due Stage)) → first old.storm old.requests ≡ o →
+    take_if : (o : Option (Due Stage)) → first old.arrivals.now old.storm old.requests ≡ o →
         ComesFirst (keys_of was.held) (turn_if old.requests o) →
         StandsFirst (record old { agenda = a }) (turn_if old.requests o)
     unfolding stands_so
@@ -402,12 +407,13 @@ module _ (old : Course) (a : Agenda) (was : Stands old None) where
         record { stands = stands_so; first_is = λ q. none_if (was.due q) (nothing_due is before q) }
     take_if (Some n) is before = request_first n is before
 
-    pub take_none : (o : Option Turn) → o ≡ turn_if old.requests (first old.storm old.requests) →
+    pub take_none : (o : Option Turn) → o ≡ turn_if old.requests (first old.arrivals.now old.storm old.requests) →
         ComesFirst (keys_of was.held) o →
         StandsFirst (record old { agenda = a }) o
     take_none o is before =
         subst (λ x. StandsFirst (record old { agenda = a }) x) (sym is)
-        (take_if (first old.storm old.requests) refl (subst (λ x. ComesFirst (keys_of was.held) x) is before))
+        (take_if (first old.arrivals.now old.storm old.requests) refl (subst (λ x. ComesFirst
+        (keys_of was.held) x) is before))
 
 -- ---- what is put in
 
@@ -424,17 +430,19 @@ module _ (old : Course) (a : Agenda) (t q : ℕ) (next : Turn) (h : StandsAfter 
       let near = was.near next.request out.call out.is_due in
       let by = near.by in
       let few = near.number in
-      let all = was.in_range.requests.all in
+      let all = few_in_all old.arrivals.now old.storm was.moments was.in_range.requests in
       let until = was.in_range.report.until in
       let at = ap (λ (x : Turn). x.at) out.turn_is in
       (omega arith, omega arith)
 
   put_other : (s : ℕ) (b : Bool) → eqb next.request s ≡ b →
-      was.due s ≡ cond (ltb s old.requests) (cond b (Some was.out.call) (was.held s)) (first old.storm s)
+      was.due s ≡ cond (ltb s old.requests) (cond b (Some was.out.call) (was.held s))
+      (first old.arrivals.now old.storm s)
   put_other s true e =
       let same : next.request ≡ s = eqb-true next.request s e in
       let came : ltb s old.requests ≡ true = lt-ltb s old.requests (let c = r_came_too in omega arith) in
-      ap was.due (sym same) ∙ (was.out.is_due ∙ ap (λ b. cond b (Some was.out.call) (first old.storm s)) (sym came))
+      ap was.due (sym same) ∙ (was.out.is_due ∙ ap (λ b. cond b (Some was.out.call)
+      (first old.arrivals.now old.storm s)) (sym came))
   put_other s false e = was.others s (λ same. false≢true (sym e ∙ eq-eqb next.request s (sym same)))
 
   put_unheld : (s : ℕ) → old.requests ≤ s → (b : Bool) → eqb next.request s ≡ b →
@@ -467,6 +475,7 @@ module _ (old : Course) (a : Agenda) (t q : ℕ) (next : Turn) (h : StandsAfter 
           drives = n.drives;
         });
     in_range = was.in_range;
+    moments = was.moments;
     comes = was.comes;
     requests = was.requests;
     slots = was.slots;

@@ -12,7 +12,8 @@ use Rattle.sched_storm_report.specs.Told.{AreTold}
 use Rattle.sched_storm_report.specs.declared.moments.Moment.{Moment}
 use Rattle.sched_storm_report.specs.declared.peer.Peer.{Peer}
 use Rattle.sched_storm_limit.specs.States.{state_of}
-use Rattle.sched_storm.specs.Parameters.{AreInRange, all_requests, comes_at, peer_of}
+use Rattle.sched_storm.specs.Parameters.{AreInRange, peer_of}
+use Rattle.sched_storm.specs.Arrivals.{AreArrivals, all_requests, comes_at}
 use Rattle.sched_storm.specs.Calls.{AreFew}
 use Rattle.sched_storm.specs.Tickets.{asked_of, given_of}
 use Rattle.sched_storm.specs.Populations.{population_of, storm_of}
@@ -32,6 +33,7 @@ use Rattle.sched_storm.specs.declared.course.Course.{Course}
 
 abbrev pub shared_of : Course → Shared
 shared_of c = record {
+  arrivals = c.arrivals.now;
   busy = c.busy;
   calls = c.calls;
   words = words_of c.words;
@@ -68,7 +70,7 @@ pub record IsReady (c : Course) (t r : ℕ) : Type 0 where
   pub at : t ≤ c.storm.until
   pub near : c.storm.until ≤ 7200000
   pub number : r < 1048576
-  pub begun : comes_at c.storm r ≤ t
+  pub begun : comes_at c.arrivals.now c.storm r ≤ t
   pub slots : vec_len c.drivers.slots ≡ c.requests
   pub requests : c.requests ≤ 1048576
   pub calls : c.calls ≤ 4294967296
@@ -101,6 +103,7 @@ pub record HasAnswered (a : Answer Stage Shared Moment) (t r : ℕ) (old new : C
 -- What an event of a request leaves as it was.
 pub record Rests (t r : ℕ) (old new : Course) : Type 0 where
   pub storm : new.storm ≡ old.storm
+  pub arrivals : new.arrivals.now ≡ old.arrivals.now
   pub clients : new.clients ≡ old.clients
   pub agenda : new.agenda ≡ old.agenda
   pub slots : vec_len new.drivers.slots ≡ new.requests
@@ -145,7 +148,8 @@ came _ = 0
 -- a request that comes is counted
 pub record AreCounted (requests : ℕ) (old new : Course) : Type 0 where
   pub requests_are : new.requests ≡ old.requests + requests
-  pub comes : old.comes ≡ comes_at old.storm old.requests → new.comes ≡ comes_at old.storm new.requests
+  pub comes : old.comes ≡ comes_at old.arrivals.now old.storm old.requests →
+      new.comes ≡ comes_at old.arrivals.now old.storm new.requests
 
 abbrev pub IsCounted : Kind → Course → Course → Type 0
 IsCounted kind old new = AreCounted (came kind) old new
@@ -178,8 +182,8 @@ IsOut requests due held (Some turn) = IsTakenOut requests due held turn
 -- What is due of a request comes in its turn.
 pub record IsNear (c : Course) (r : ℕ) (d : Due Stage) : Type 0 where
   pub by : d.at ≤ c.storm.until
-  pub number : r < all_requests c.storm
-  pub begun : comes_at c.storm r ≤ d.at
+  pub number : r < all_requests c.arrivals.now c.storm
+  pub begun : comes_at c.arrivals.now c.storm r ≤ d.at
   pub placed : IsPlacedBy (kind_of d.what) r c.requests
   pub told : c.reporter.tally.from ≤ d.at
   pub drives : Drives (client_of c r).plan (slot_of c r) d.at d.what
@@ -190,21 +194,25 @@ pub record Stands (c : Course) (hand : Option Turn) : Type 0 where
   pub events : List (Event Stage)
   pub due : ℕ → Option (Due Stage)
   pub held : ℕ → Option (Due Stage)
-  pub begun : IsBeginning (played c.storm (plans_of c.clients)) (first c.storm) (start_at c.storm) events due
+  pub begun : IsBeginning (played c.storm (plans_of c.clients)) (first c.arrivals.now c.storm)
+      (start_at c.arrivals.now c.storm) events due
       (shared_of c)
   pub told : (peer : Peer) → peer ≡ peer_of c.storm →
-      AreTold peer (reported c.storm (plans_of c.clients) c.reporter.of (start_at c.storm) events) c.reporter.tally
+      AreTold peer (reported c.storm (plans_of c.clients) c.reporter.of
+      (start_at c.arrivals.now c.storm) events) c.reporter.tally
   pub clients : Meet c.storm c.clients
   pub holds : Holds c.agenda (keys_of held)
   pub out : IsOut c.requests due held hand
-  pub others : (r : ℕ) → IsOther hand r → due r ≡ (if nat_lt r c.requests then held r else first c.storm r)
+  pub others : (r : ℕ) → IsOther hand r → due r ≡ (if nat_lt r c.requests then held r else first c.arrivals.now
+      c.storm r)
   pub unheld : (r : ℕ) → c.requests ≤ r → held r ≡ None
   pub near : (r : ℕ) (d : Due Stage) → due r ≡ Some d → IsNear c r d
   pub in_range : AreInRange c.storm
-  pub comes : c.comes ≡ comes_at c.storm c.requests
-  pub requests : c.requests ≤ all_requests c.storm
+  pub moments : AreArrivals c.arrivals.now
+  pub comes : c.comes ≡ comes_at c.arrivals.now c.storm c.requests
+  pub requests : c.requests ≤ all_requests c.arrivals.now c.storm
   pub slots : vec_len c.drivers.slots ≡ c.requests
-  pub calls : c.calls ≡ calls_of c.storm (plans_of c.clients) events
+  pub calls : c.calls ≡ calls_of c.arrivals.now c.storm (plans_of c.clients) events
   pub few_calls : c.calls ≤ c.storm.calls
   pub busy : AreFew c.busy
   pub asked : asked_of c.drawn ≤ c.requests
@@ -240,9 +248,10 @@ pub record StandsAfter (t q : ℕ) (c : Course) (hand : Option Turn) : Type 0 wh
 -- The course is over: its events are a storm, or its beginning where it was cut.
 pub record IsOver (c : Course) (is_cut : Bool) : Type 0 where
   pub events : List (Event Stage)
-  pub is_storm : IsStorm c.storm (plans_of c.clients) is_cut events
+  pub is_storm : IsStorm c.arrivals.now c.storm (plans_of c.clients) is_cut events
   pub told : (peer : Peer) → peer ≡ peer_of c.storm →
-      AreTold peer (reported c.storm (plans_of c.clients) c.reporter.of (start_at c.storm) events) c.reporter.tally
+      AreTold peer (reported c.storm (plans_of c.clients) c.reporter.of
+      (start_at c.arrivals.now c.storm) events) c.reporter.tally
   pub in_range : AreInRange c.storm
   pub said : c.reporter.tally.said ≤ 1099511627776
   pub window : c.reporter.tally.window ≡ c.storm.window

@@ -2,6 +2,7 @@
 pub mod Rates
 pub mod Populations
 pub mod Parameters
+pub mod Arrivals
 pub mod Calls
 pub mod Tickets
 pub mod Clients

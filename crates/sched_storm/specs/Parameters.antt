@@ -20,13 +20,13 @@ end_of_slow (Some b) = b.span.to
 abbrev pub end_of_trouble : Parameters → ℕ
 end_of_trouble p = max p.outage.to (end_of_slow p.slow)
 
--- how many requests come in all, where `until` allows: those whose own moment lies before the end of the seconds
-abbrev pub all_requests : Parameters → ℕ
-all_requests p = (thousandths_by p.rate 0 (phases_of p.rates) (p.seconds * 1000) + 999) / 1000
+-- how many requests come by the rates, where `until` allows: those whose own moment lies before the end of the seconds
+abbrev pub requests_by_rate : Parameters → ℕ
+requests_by_rate p = (thousandths_by p.rate 0 (phases_of p.rates) (p.seconds * 1000) + 999) / 1000
 
--- the moment at which a request begins its first call: that of the first of those that come together
-abbrev pub comes_at : Parameters → ℕ → ℕ
-comes_at p r = arrives p.rate 0 (phases_of p.rates) (r / p.together * p.together * 1000)
+-- the moment at which a request begins its first call by the rates: that of the first of those that come together
+abbrev pub comes_by_rate : Parameters → ℕ → ℕ
+comes_by_rate p r = arrives p.rate 0 (phases_of p.rates) (r / p.together * p.together * 1000)
 
 pub record RequestsAreInRange (p : Parameters) : Type 0 where
   pub some : 1 ≤ p.rate
@@ -36,7 +36,7 @@ pub record RequestsAreInRange (p : Parameters) : Type 0 where
   pub one : 1 ≤ p.seconds
   pub seconds : p.seconds ≤ 3600
   pub rates : AreRates p.rates
-  pub all : all_requests p ≤ 1048576
+  pub all : requests_by_rate p ≤ 1048576
 
 pub record PeerIsInRange (p : Parameters) : Type 0 where
   pub some : 1 ≤ p.capacity

@@ -24,7 +24,7 @@ use Rattle.sched_storm_limit.specs.Limits as limits
 use Rattle.sched_storm_limit.specs.Limits.{LimitState, state_at_first}
 use Rattle.sched_storm_limit.specs.Ranges.{has_draws}
 use Rattle.sched_storm.specs.Populations.{population_of, storm_of}
-use Rattle.sched_storm.specs.Parameters.{all_requests, comes_at}
+use Rattle.sched_storm.specs.Arrivals.{all_requests, comes_at}
 use Rattle.sched_storm.specs.Calls.{called, busy_after}
 use Rattle.sched_storm.specs.Tickets.{none_drawn, counted, draw_at}
 use Rattle.sched_storm.specs.Drivers.{input_of, with_failure}
@@ -42,9 +42,10 @@ pub data Stage : Type 0 where
   succeeds : Stage
   fails : Failure → List Event → Stage
 
--- what the requests share: what the peer's replicas have taken, how many calls began, the random words to come, the
--- tickets, and the limit with what each request holds of it
+-- what the requests share: the moments at which they come, where these are given; what the peer's replicas have taken,
+-- how many calls began, the random words to come, the tickets, and the limit with what each request holds of it
 pub record Shared : Type 0 where
+  pub arrivals : List ℕ
   pub busy : Busy
   pub calls : ℕ
   pub words : Stream
@@ -56,8 +57,9 @@ abbrev pub words_of : List ℕ → Stream
 words_of state = stream_of (steps_u32 plus_plus) state
 
 -- before the first event
-abbrev pub start_at : Parameters → Shared
-start_at p = record {
+abbrev pub start_at : List ℕ → Parameters → Shared
+start_at ms p = record {
+  arrivals = ms;
   busy = none_busy;
   calls = 0;
   words = words_of (of_seed (splitmix_seed 16 p.words));
@@ -70,8 +72,8 @@ abbrev pub if_by : ℕ → ℕ → Stage → Option (Due Stage)
 if_by until t what = if nat_le t until then Some (record { at = t; what = what }) else None
 
 -- what is due of a request at first
-abbrev pub first : Parameters → ℕ → Option (Due Stage)
-first p r = if nat_lt r (all_requests p) then if_by p.until (comes_at p r) begins else None
+abbrev pub first : List ℕ → Parameters → ℕ → Option (Due Stage)
+first ms p r = if nat_lt r (all_requests ms p) then if_by p.until (comes_at ms p r) begins else None
 
 -- how a call ends, where its request's driver was given these failures
 abbrev pub ending : CallEnd → List Event → Stage
@@ -146,7 +148,7 @@ playing p plan s r t (retries h) = coming p s t h happening.Retry (called p s.ca
 playing p plan s r t succeeds = record {
   next = None;
   shared = record s { limit = limits.succeeding p.draws t r s.limit };
-  told = moment_at t (happening.Won (comes_at p r)) s;
+  told = moment_at t (happening.Won (comes_at s.arrivals p r)) s;
 }
 playing p plan s r t (fails failure h) = failing p plan s r t failure h
 

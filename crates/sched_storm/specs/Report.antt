@@ -1,12 +1,13 @@
 -- What holds of the report of every storm.
-use Rattle.std.specs.Prelude.{◌≡◌, ℕ, ◌+◌, ◌-◌, ◌/◌, ◌≤◌, false, IsTrue, vec_len}
+use Rattle.std.specs.Prelude.{◌≡◌, ℕ, ◌+◌, ◌-◌, ◌/◌, ◌≤◌, false, IsTrue, List, vec_len}
 use Rattle.sched_storm_report.specs.Counts.{no_counts, calls_in, failed_in, ended_in, AddUpTo}
 use Rattle.sched_storm_report.specs.Report.{hundredths_of, recovered_in}
 use Rattle.sched_storm_report.specs.Laws.{AreTimes}
 use Rattle.sched_storm_report.specs.declared.report.Report.{Report}
 use Rattle.sched_storm_report.specs.declared.report.Totals.{Totals}
 use Rattle.sched_storm_limit.specs.Ranges.{is_limited}
-use Rattle.sched_storm.specs.Parameters.{all_requests, end_of_trouble}
+use Rattle.sched_storm.specs.Parameters.{end_of_trouble}
+use Rattle.sched_storm.specs.Arrivals.{all_requests}
 use Rattle.sched_storm.specs.Populations.{draws_of, AllDraw}
 use Rattle.sched_storm.specs.Tickets.{tickets_of, HasUses, AreFew}
 use Rattle.sched_storm.specs.declared.parameters.Parameters.{Parameters}
@@ -36,7 +37,8 @@ pub record AreGranted (p : Parameters) (t : Totals) : Type 0 where
   -- in all they never pass what the budget or the quota allows
   pub limit : AreFew p.draws p.until t.counts.requests t.tickets
 
-pub record AddsUp (p : Parameters) (r : Report) : Type 0 where
+-- where requests come at these moments, or by the rates
+pub record AddsUp (ms : List ℕ) (p : Parameters) (r : Report) : Type 0 where
   -- what the windows count makes up the totals, and they are no more than there are until the end
   pub windows : AddUpTo r.windows.items no_counts r.totals.counts
   pub few_windows : vec_len r.windows ≤ p.until / p.window + 1
@@ -54,7 +56,7 @@ pub record AddsUp (p : Parameters) (r : Report) : Type 0 where
   -- each call ends once, or never in the storm
   pub ended : ended_in r.totals.counts ≤ r.totals.calls
   pub retries : AreGranted p r.totals
-  pub requests : r.totals.counts.requests ≤ all_requests p
+  pub requests : r.totals.counts.requests ≤ all_requests ms p
   pub few : r.totals.calls ≤ p.calls
   -- a storm that is cut has made as many calls as it may
   pub cut : IsTrue r.totals.is_cut → r.totals.calls ≡ p.calls

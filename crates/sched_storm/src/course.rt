@@ -7,7 +7,7 @@ ghost use Rattle.sched_storm.specs.Clients.{plans_of, Meet};
 ghost use Rattle.sched_storm.specs.Plays.{Stage, begins, retries, succeeds, fails};
 ghost use Rattle.sched_storm.specs.Turns.{kind_of};
 ghost use Rattle.sched_storm.specs.Keys.{Holds};
-ghost use Rattle.sched_storm.specs.Parameters.{comes_at};
+ghost use Rattle.sched_storm.specs.Arrivals.{AreArrivals, comes_at};
 ghost use Rattle.sched_storm.specs.Plays.{first};
 ghost use Rattle.sched_storm.specs.Turns.{turn_if};
 ghost use Rattle.sched_storm.specs.Storms.{ReportsOn};
@@ -33,8 +33,10 @@ use std::alloc::Global;
 
 /// A storm that is played: how its peer, its tickets and its requests stand after the events so far.
 #[derive(Drop)]
-pub(crate) struct Course {
+pub(crate) struct Course<'a> {
     pub(crate) storm: Storm,
+    /// The moments at which its requests come; by its rates where there are none.
+    pub(crate) arrivals: &'a [u64],
     pub(crate) clients: Clients,
     words: Xoshiro128PlusPlus,
     /// How many requests came.
@@ -53,29 +55,33 @@ pub(crate) struct Course {
     pub(crate) reporter: Reporter,
 }
 
-impl Course {
+impl<'a> Course<'a> {
     /// Before the first event, of which nothing is due yet. Its report is of one population, or of all.
     pub(crate) fn new(
         alloc: Global,
         storm: Storm,
+        arrivals: &'a [u64],
         clients: Clients,
         agenda: Agenda,
         of: Option<u64>,
-    ) -> Course
+    ) -> Course<'a>
+        requires arrivals { AreArrivals arrivals.now }
         requires nothing { Holds agenda (λ _. None) }
         requires clients { Meet storm clients }
         ensures stands { Stands result None }
         ensures storm { result.storm ≡ storm }
+        ensures arrivals { result.arrivals.now ≡ arrivals.now }
         ensures clients { result.clients ≡ clients }
         ensures of { result.reporter.of ≡ of }
     {
         let parameters = storm.parameters();
         Course {
             storm,
+            arrivals,
             clients,
             words: Xoshiro128PlusPlus::seed_from_u64(parameters.words),
             requests: 0,
-            comes: storm.comes_at(0),
+            comes: storm.comes_at(arrivals, 0),
             calls: 0,
             busy: Busy::NONE,
             drawn: Drawn::NONE,
@@ -95,6 +101,7 @@ impl Course {
         requires { Stands self.old None }
         ensures over { IfOk result (IsOver self.new) }
         ensures storm { self.new.storm ≡ self.old.storm }
+        ensures arrivals { self.new.arrivals.now ≡ self.old.arrivals.now }
         ensures clients { self.new.clients ≡ self.old.clients }
         ensures of { OnOk result (self.new.reporter.of ≡ self.old.reporter.of) }
     {
@@ -145,9 +152,12 @@ impl Course {
     /// The report of the events so far.
     pub(crate) fn into_report(self, is_cut: bool) -> Result<Report, NoMemory>
         requires { IsOver self is_cut }
-        ensures reports { IfOk result (ReportsOn self.storm (plans_of self.clients) self.reporter.of) }
-        ensures adds_up { self.reporter.of ≡ None → IfOk result (AddsUp self.storm) }
-        ensures windows { IfOk result (λ r. vec_len r.windows ≤ self.storm.until / self.storm.window + 1) }
+        ensures reports { IfOk result
+            (ReportsOn self.entry.arrivals.now self.entry.storm (plans_of self.entry.clients) self.entry.reporter.of) }
+        ensures adds_up { self.entry.reporter.of ≡ None →
+            IfOk result (AddsUp self.entry.arrivals.now self.entry.storm) }
+        ensures windows { IfOk result (λ r.
+            vec_len r.windows ≤ self.entry.storm.until / self.entry.storm.window + 1) }
     {
         let Course {
             storm,
@@ -168,6 +178,7 @@ impl Course {
         requires { StandsAfter turn.at turn.request self.old after }
         ensures first { IfOk result (StandsFirst self.new) }
         ensures storm { self.new.storm ≡ self.old.storm }
+        ensures arrivals { self.new.arrivals.now ≡ self.old.arrivals.now }
         ensures clients { self.new.clients ≡ self.old.clients }
         ensures events { self.new.reporter ≡ self.old.reporter }
     {
@@ -186,6 +197,7 @@ impl Course {
         requires { Stands self.old None }
         ensures first { StandsFirst self.new result }
         ensures storm { self.new.storm ≡ self.old.storm }
+        ensures arrivals { self.new.arrivals.now ≡ self.old.arrivals.now }
         ensures clients { self.new.clients ≡ self.old.clients }
         ensures events { self.new.reporter ≡ self.old.reporter }
     {
@@ -198,10 +210,10 @@ impl Course {
 
     // The next request, where one comes until the end.
     fn next_request(&self) -> Option<Turn>
-        requires { self.now.comes ≡ comes_at self.now.storm self.now.requests }
-        ensures { result ≡ turn_if self.now.requests (first self.now.storm self.now.requests) }
+        requires { self.now.comes ≡ comes_at self.now.arrivals.now self.now.storm self.now.requests }
+        ensures { result ≡ turn_if self.now.requests (first self.now.arrivals.now self.now.storm self.now.requests) }
     {
-        if self.requests < self.storm.all_requests()
+        if self.requests < self.storm.all_requests(self.arrivals)
             && self.comes <= self.storm.parameters().until
         {
             Some(Turn {
@@ -221,6 +233,7 @@ impl Course {
             self.old.calls < self.old.storm.calls }
         ensures after { IfOk result (StandsAfter turn.at turn.request self.new) }
         ensures storm { self.new.storm ≡ self.old.storm }
+        ensures arrivals { self.new.arrivals.now ≡ self.old.arrivals.now }
         ensures clients { self.new.clients ≡ self.old.clients }
         ensures of { OnOk result (self.new.reporter.of ≡ self.old.reporter.of) }
         ensures events { OnOk result (self.new.reporter.events ≡ self.old.reporter.events + 1) }
@@ -242,6 +255,7 @@ impl Course {
         ensures rests { OnOk result (Rests turn.at turn.request self.old self.new) }
         ensures counts { OnOk result (IsCounted turn.kind self.old self.new) }
         ensures storm { self.new.storm ≡ self.old.storm }
+        ensures arrivals { self.new.arrivals.now ≡ self.old.arrivals.now }
         ensures clients { self.new.clients ≡ self.old.clients }
     {
         match turn.kind {
@@ -262,13 +276,14 @@ impl Course {
         ensures rests { OnOk result (Rests turn.at turn.request self.old self.new) }
         ensures counts { OnOk result (IsCounted Kind.Begins self.old self.new) }
         ensures storm { self.new.storm ≡ self.old.storm }
+        ensures arrivals { self.new.arrivals.now ≡ self.old.arrivals.now }
         ensures clients { self.new.clients ≡ self.old.clients }
     {
         let client = self.clients.at(self.storm.population_of(turn.request));
         self.drivers.add()?;
         self.drawn = client.storm.count(self.drawn, turn.at);
         self.requests += 1;
-        self.comes = self.storm.comes_at(self.requests);
+        self.comes = self.storm.comes_at(self.arrivals, self.requests);
         let is_admitted = client.storm.admit(&mut self.limit, turn)?;
         if !is_admitted {
             self.reporter
@@ -298,6 +313,7 @@ impl Course {
         ensures rests { OnOk result (Rests turn.at turn.request self.old self.new) }
         ensures counts { OnOk result (IsCounted Kind.Retries self.old self.new) }
         ensures storm { self.new.storm ≡ self.old.storm }
+        ensures arrivals { self.new.arrivals.now ≡ self.old.arrivals.now }
         ensures clients { self.new.clients ≡ self.old.clients }
     {
         let client = self.clients.at(self.storm.population_of(turn.request));
@@ -322,12 +338,13 @@ impl Course {
         ensures rests { OnOk result (Rests turn.at turn.request self.old self.new) }
         ensures counts { OnOk result (IsCounted Kind.Succeeds self.old self.new) }
         ensures storm { self.new.storm ≡ self.old.storm }
+        ensures arrivals { self.new.arrivals.now ≡ self.old.arrivals.now }
         ensures clients { self.new.clients ≡ self.old.clients }
     {
         let client = self.clients.at(self.storm.population_of(turn.request));
         client.storm.tell_succeeded(&mut self.limit, turn)?;
         self.drivers.end(turn.request);
-        let began = self.storm.comes_at(turn.request);
+        let began = self.storm.comes_at(self.arrivals, turn.request);
         self.reporter
             .tell(&self.storm, turn, Happening::Won { began }, self.busy)?;
         Ok(None)
@@ -351,6 +368,7 @@ impl Course {
         ensures rests { OnOk result (Rests turn.at turn.request self.old self.new) }
         ensures counts { OnOk result (IsCounted (Kind.Fails failure) self.old self.new) }
         ensures storm { self.new.storm ≡ self.old.storm }
+        ensures arrivals { self.new.arrivals.now ≡ self.old.arrivals.now }
         ensures clients { self.new.clients ≡ self.old.clients }
     {
         let client = self.clients.at(self.storm.population_of(turn.request));

@@ -12,6 +12,7 @@ mod calls;
 mod clients;
 mod course;
 mod drivers;
+mod given;
 mod limits;
 mod parameters;
 mod plays;
@@ -23,6 +24,7 @@ mod tickets;
 mod turns;
 
 pub use clients::Plans;
+pub use given::are_arrivals;
 pub use parameters::Parameters;
 pub use populations::{MAX_SHARE, Others, Population};
 pub use rates::{MAX_PHASES, Phase, Rates};

@@ -1,5 +1,6 @@
 //! Playing a storm.
-ghost use Rattle.std.specs.Prelude.{◌≡◌, ◌+◌, ◌/◌, ◌≤◌, None, IfOk, vec_len};
+ghost use Rattle.std.specs.Prelude.{◌≡◌, ◌+◌, ◌/◌, ◌≤◌, None, IfOk, vec_len, []};
+ghost use Rattle.sched_storm.specs.Arrivals.{AreArrivals};
 ghost use Rattle.sched_storm.specs.Clients.{plan_at};
 ghost use Rattle.sched_storm.specs.Storms.{Reports, ReportsOn};
 ghost use Rattle.sched_storm.specs.Report.{AddsUp};
@@ -14,30 +15,33 @@ use sched_time::NoMemory;
 use std::alloc::Global;
 
 impl Storm {
-    /// Plays the storm, of requests that all have this plan. Fails only with `NoMemory`.
+    /// Plays the storm, of requests that come by its rates and all have this plan. Fails only with `NoMemory`.
     pub fn play(&self, alloc: Global, plan: SharedPlan) -> Result<Report, NoMemory>
         ensures reports { IfOk result (Reports self.now plan) }
-        ensures adds_up { IfOk result (AddsUp self.now) }
+        ensures adds_up { IfOk result (AddsUp [] self.now) }
     {
         let plans = Plans::all(plan)?;
-        self.play_populations(alloc, plans, None)
+        self.play_populations(alloc, &[], plans, None)
     }
 
-    /// Plays the storm, of requests of which those of each population have its plan, and reports on all requests, or on
-    /// those of one population, from 0. Fails only with `NoMemory`.
+    /// Plays the storm, of requests that come at these moments, or by its rates where there are none. Those of each
+    /// population have its plan. Reports on all requests, or on those of one population, from 0. Fails only with
+    /// `NoMemory`.
     pub fn play_populations(
         &self,
         alloc: Global,
+        arrivals: &[u64],
         plans: Plans,
         of: Option<u64>,
     ) -> Result<Report, NoMemory>
-        ensures reports { IfOk result (ReportsOn self.now (λ k. plan_at k plans) of) }
-        ensures adds_up { of ≡ None → IfOk result (AddsUp self.now) }
+        requires { AreArrivals arrivals.now }
+        ensures reports { IfOk result (ReportsOn arrivals.now self.now (λ k. plan_at k plans) of) }
+        ensures adds_up { of ≡ None → IfOk result (AddsUp arrivals.now self.now) }
         ensures windows { IfOk result (λ r. vec_len r.windows ≤ self.now.until / self.now.window + 1) }
     {
         let clients = Clients::new(alloc, self, plans)?;
         let agenda = Agenda::new(alloc)?;
-        let mut course = Course::new(alloc, *self, clients, agenda, of);
+        let mut course = Course::new(alloc, *self, arrivals, clients, agenda, of);
         let is_cut = course.run(alloc)?;
         course.into_report(is_cut)
     }

@@ -4,7 +4,7 @@ ghost use Rattle.sched_storm_limit.specs.Ranges.{AreDraws, has_draws};
 ghost use Rattle.sched_storm.specs.Rates.{phases_of, arrives, AreRates, IsGreatest};
 ghost use Rattle.sched_storm.specs.Parameters.{AreInRange};
 ghost use Rattle.sched_storm.specs.Parameters.{RequestsAreInRange, PeerIsInRange, ReportIsInRange};
-ghost use Rattle.sched_storm.specs.Parameters.{all_requests, comes_at, peer_of, end_of_trouble};
+ghost use Rattle.sched_storm.specs.Parameters.{requests_by_rate, comes_by_rate, peer_of, end_of_trouble};
 
 use crate::parameters::Parameters;
 use sched_storm_limit::Draws;
@@ -39,23 +39,23 @@ pub const MAX_CALLS: u64 = 4294967296;
 #[derive(Clone, Copy, Debug)]
 pub struct Storm {
     parameters: Parameters,
-    /// How many requests come in all, where `until` allows.
+    /// How many requests come by the rates in all, where `until` allows.
     requests: u64,
 }
 
 impl Model for Storm {
     ghost use Rattle.std.specs.Prelude.{◌≡◌};
     ghost use Rattle.std.proofs.Common.{sym};
-    ghost use Rattle.sched_storm.specs.Parameters.{AreInRange, all_requests};
+    ghost use Rattle.sched_storm.specs.Parameters.{AreInRange, requests_by_rate};
     ghost use Rattle.sched_storm.specs.declared.parameters.Parameters.{Parameters};
 
     ghost Value = { Parameters };
 
     ghost view = { λ s. s.parameters };
 
-    ghost invariant = { λ s. AreInRange s.parameters × (s.requests ≡ all_requests s.parameters) };
+    ghost invariant = { λ s. AreInRange s.parameters × (s.requests ≡ requests_by_rate s.parameters) };
 
-    ghost inverse = { λ p. record { parameters = p; requests = all_requests p } };
+    ghost inverse = { λ p. record { parameters = p; requests = requests_by_rate p } };
 
     ghost inverse_ok = { λ s h. λ i. record { parameters = s.parameters; requests = sym h.1 i } };
 }
@@ -67,7 +67,7 @@ impl Storm {
         ensures value { IfSome result (λ storm. storm ≡ parameters) }
     {
         if are_in_range(&parameters) {
-            let requests = all_requests(&parameters);
+            let requests = requests_by_rate(&parameters);
             Some(Storm {
                 parameters,
                 requests,
@@ -110,10 +110,10 @@ impl Storm {
         &self.parameters.draws
     }
 
-    /// The moment at which a request begins its first call, of requests that are numbered from 0.
-    pub(crate) fn comes_at(&self, request: u64) -> u64
+    /// The moment at which a request begins its first call by the rates, of requests that are numbered from 0.
+    pub(crate) fn comes_by_rate(&self, request: u64) -> u64
         requires { request ≤ 1048576 }
-        ensures value { result ≡ comes_at self.now request }
+        ensures value { result ≡ comes_by_rate self.now request }
         ensures greatest { IsGreatest self.now.rate 0 (phases_of self.now.rates)
             (request / self.now.together * self.now.together * 1000) result }
     {
@@ -150,9 +150,9 @@ impl Storm {
         self.parameters.draws.are_some()
     }
 
-    /// How many requests come in all, where `until` allows.
-    pub(crate) fn all_requests(&self) -> u64
-        ensures value { result ≡ all_requests self.now }
+    /// How many requests come by the rates in all, where `until` allows.
+    pub(crate) fn requests_by_rate(&self) -> u64
+        ensures value { result ≡ requests_by_rate self.now }
         ensures few { result ≤ 1048576 }
         ensures before { (r : ℕ) → (r < result) ↔
             (arrives self.now.rate 0 (phases_of self.now.rates) (r * 1000) < self.now.seconds * 1000) }
@@ -181,15 +181,15 @@ fn are_requests(p: &Parameters) -> bool
         && 1 <= p.seconds
         && p.seconds <= MAX_SECONDS
         && p.rates.are_in_range()
-        && all_requests(p) <= MAX_REQUESTS
+        && requests_by_rate(p) <= MAX_REQUESTS
 }
 
-// How many requests come in all, where `until` allows.
-fn all_requests(p: &Parameters) -> u64
+// How many requests come by the rates in all, where `until` allows.
+fn requests_by_rate(p: &Parameters) -> u64
     requires rate { p.now.rate ≤ 1000000 }
     requires seconds { p.now.seconds ≤ 3600 }
     requires rates { AreRates p.now.rates }
-    ensures { result ≡ all_requests p.now }
+    ensures { result ≡ requests_by_rate p.now }
 {
     (p.rates.thousandths_by(p.rate, p.seconds * 1000) + 999) / 1000
 }

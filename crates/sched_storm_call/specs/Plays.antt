@@ -1,6 +1,8 @@
 -- What the calls that play a storm do and tell.
-use Rattle.std.specs.Prelude.{◌≡◌, ◌⊎◌, ℕ, ◌<◌, ◌≤◌, List, ◌++◌, length, drop, map, Option, Some, None, Result, Ok, Err}
+use Rattle.std.specs.Prelude.{◌≡◌, ◌⊎◌, ℕ, ◌<◌, ◌≤◌, List, [], ◌++◌, length, drop, map, Option, Some, None, Result}
+use Rattle.std.specs.Prelude.{Ok, Err}
 use Rattle.sched_plan.specs.Schedule.{Schedule}
+use Rattle.sched_storm.specs.Arrivals.{AreArrivals}
 use Rattle.sched_storm.specs.Clients.{plan_at}
 use Rattle.sched_storm.specs.Report.{AddsUp}
 use Rattle.sched_storm.specs.Storms.{ReportsOn}
@@ -24,18 +26,19 @@ pub record Told : Type 0 where
   pub count : ℕ
   pub totals : TotalsTold
 
--- the storm is given, with room for all its windows
-pub record HasRoom (g : StormGiven) (t : Told) : Type 0 where
+-- the storm is given, of requests that may come at these moments, with room for all its windows
+pub record HasRoom (ms : List ℕ) (g : StormGiven) (t : Told) : Type 0 where
   pub given : IsGiven g
+  pub arrivals : AreArrivals ms
   pub room : room_given g ≤ length t.windows
 
--- the storm of these parameters is given, of requests of populations that have these plans, and its report, which is on
--- the requests that it says
-pub record IsStormOf (g : StormGiven) (plans : ℕ → Schedule) (r : Report) : Type 0 where
+-- the storm of these parameters is given, of requests of populations that have these plans, which come at these
+-- moments, or by the rates where there are none; and its report, which is on the requests that it says
+pub record IsStormOf (ms : List ℕ) (g : StormGiven) (plans : ℕ → Schedule) (r : Report) : Type 0 where
   pub parameters : Parameters
   pub are : IsOf g parameters
-  pub reports : ReportsOn parameters plans (of_given g.of) r
-  pub adds_up : g.of ≡ 0 → AddsUp parameters r
+  pub reports : ReportsOn ms parameters plans (of_given g.of) r
+  pub adds_up : g.of ≡ 0 → AddsUp ms parameters r
 
 -- there is no memory for the plans, or none for what is made of them
 abbrev pub IsShort : Result (ℕ → Schedule) Status → Type 0
@@ -44,14 +47,15 @@ IsShort (Err s) = s ≡ NoMemory
 
 -- What is played where these are the plans of the populations, or there are none for a reason: the storm, with a report
 -- that adds up where it is on all requests, or none for this reason. Of several reasons it is the first.
-abbrev pub Plays : StormGiven → Told → Result (ℕ → Schedule) Status → Result Report Status → Type 0
-Plays g t given (Ok report) = HasRoom g t × ((plans : ℕ → Schedule) × (given ≡ Ok plans) × IsStormOf g plans report)
-Plays g t given (Err OutOfRange) = ¬ IsGiven g
-Plays g t given (Err NoRoom) = IsGiven g × (length t.windows < room_given g)
-Plays g t given (Err Empty) = HasRoom g t × (given ≡ Err Empty)
-Plays g t given (Err WrongKind) = HasRoom g t × (given ≡ Err WrongKind)
-Plays g t given (Err NoMemory) = HasRoom g t × IsShort given
-Plays g t given (Err _) = ⊥
+abbrev pub Plays : List ℕ → StormGiven → Told → Result (ℕ → Schedule) Status → Result Report Status → Type 0
+Plays ms g t given (Ok report) =
+    HasRoom ms g t × ((plans : ℕ → Schedule) × (given ≡ Ok plans) × IsStormOf ms g plans report)
+Plays ms g t given (Err OutOfRange) = ¬ (IsGiven g × AreArrivals ms)
+Plays ms g t given (Err NoRoom) = IsGiven g × AreArrivals ms × (length t.windows < room_given g)
+Plays ms g t given (Err Empty) = HasRoom ms g t × (given ≡ Err Empty)
+Plays ms g t given (Err WrongKind) = HasRoom ms g t × (given ≡ Err WrongKind)
+Plays ms g t given (Err NoMemory) = HasRoom ms g t × IsShort given
+Plays ms g t given (Err _) = ⊥
 
 -- what C is told of that
 abbrev pub Tells : StormGiven → Told → Result Report Status → ℕ → Told → Type 0
@@ -64,8 +68,8 @@ Tells g old (Err NoRoom) code new = (code ≡ code_of NoRoom) × (new ≡ record
 Tells g old (Err s) code new = (code ≡ code_of s) × (new ≡ old)
 
 -- a storm of these plans is played and told
-abbrev pub PlaysPlans : StormGiven → Result (ℕ → Schedule) Status → Told → ℕ → Told → Type 0
-PlaysPlans g given old code new = (r : Result Report Status) × Plays g old given r × Tells g old r code new
+abbrev pub PlaysPlans : List ℕ → StormGiven → Result (ℕ → Schedule) Status → Told → ℕ → Told → Type 0
+PlaysPlans ms g given old code new = (r : Result Report Status) × Plays ms g old given r × Tells g old r code new
 
 -- all populations have the plan of the policy that a handle holds
 abbrev pub HaveIts : Option Held → Result (ℕ → Schedule) Status → Type 0
@@ -75,7 +79,7 @@ HaveIts held (Err s) = HasNoPolicy held s
 -- a storm is played and told, of requests that all have the policy that is held
 abbrev pub PlaysStorm : StormGiven → Option Held → Told → ℕ → Told → Type 0
 PlaysStorm g held old code new =
-    (given : Result (ℕ → Schedule) Status) × HaveIts held given × PlaysPlans g given old code new
+    (given : Result (ℕ → Schedule) Status) × HaveIts held given × PlaysPlans [] g given old code new
 
 -- what the handles of the populations' policies hold
 pub record Policies : Type 0 where
@@ -111,10 +115,15 @@ abbrev pub HaveTheirs : Policies → Result (ℕ → Schedule) Status → Type 0
 HaveTheirs hs (Ok plans) = (ps : Plans) × ArePlansOf hs ps × (plans ≡ (λ k. plan_at k ps))
 HaveTheirs hs (Err s) = HasNoPolicy hs.first s ⊎ LackOne hs s
 
--- a storm is played and told, of requests of populations of which each has its policy
+-- a storm is played and told, of requests of populations of which each has its policy, which come at these moments, or
+-- by the rates where there are none
+abbrev pub PlaysArrivals : List ℕ → StormGiven → Policies → Told → ℕ → Told → Type 0
+PlaysArrivals ms g hs old code new =
+    (given : Result (ℕ → Schedule) Status) × HaveTheirs hs given × PlaysPlans ms g given old code new
+
+-- the same of requests that come by the rates
 abbrev pub PlaysPopulations : StormGiven → Policies → Told → ℕ → Told → Type 0
-PlaysPopulations g hs old code new =
-    (given : Result (ℕ → Schedule) Status) × HaveTheirs hs given × PlaysPlans g given old code new
+PlaysPopulations g hs old code new = PlaysArrivals [] g hs old code new
 
 -- what the code has of the plans
 abbrev pub plans_of : Result Plans Status → Result (ℕ → Schedule) Status

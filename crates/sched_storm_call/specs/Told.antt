@@ -8,6 +8,7 @@ use Rattle.sched_storm_limit.specs.declared.draws.Draws.TheVariants.{Nothing, Bu
 use Rattle.sched_storm_limit.specs.declared.draws.Limit.TheVariants as limit
 use Rattle.sched_storm_limit.specs.Ranges.{IsLimit}
 use Rattle.sched_ticket_quota.specs.Held.{AreTerms}
+use Rattle.sched_limit.specs.Levels.{AreLevels}
 use Rattle.sched_limit.specs.declared.bucket.Bucket.{Bucket}
 use Rattle.sched_storm.specs.declared.parameters.Parameters.{Parameters}
 use Rattle.sched_storm.specs.declared.populations.Population.{Population}
@@ -60,12 +61,15 @@ AreDrawsOf g (Quota terms) =
     (g.draws_on ≡ 2) × (terms ≡ record { reserve = g.reserve; share = g.share; period = g.period })
 AreDrawsOf g (Limited (limit.Bucket b cost late)) =
     (g.draws_on ≡ 3) × (b ≡ bucket_of g) × (cost ≡ g.cost) × (late ≡ g.late_cost)
-AreDrawsOf g (Limited (limit.InFlight k)) = (g.draws_on ≡ 4) × (k ≡ record { least = g.least; share = g.share })
+AreDrawsOf g (Limited (limit.InFlight k)) =
+    (g.draws_on ≡ 4) × (k ≡ record { least = g.least; share = g.share; most = g.most })
 AreDrawsOf g (Limited (limit.Breaker b)) =
-    (g.draws_on ≡ 5) × (b.failures ≡ g.failures) × (b.probes ≡ g.probes) × (b.deadline ≡ g.deadline)
-    × (b.start ≡ 0) × (b.times ≡ g.open_times) × (b.last ≡ g.open_count - 1)
+    (g.draws_on ≡ 5) × (b.failures ≡ g.failures) × (b.results ≡ g.results) × (b.probes ≡ g.probes)
+    × (b.deadline ≡ g.deadline) × (b.start ≡ 0) × (b.times ≡ g.open_times) × (b.last ≡ g.open_count - 1)
 AreDrawsOf g (Limited (limit.Throttle t)) =
     (g.draws_on ≡ 6) × (t.ratio ≡ g.ratio) × (t.period ≡ g.period) × (t.start ≡ 0)
+AreDrawsOf g (Limited (limit.Adaptive k)) =
+    (g.draws_on ≡ 7) × (k.least ≡ g.least) × (k.most ≡ g.most) × (k.first ≡ g.first) × (k.backoff ≡ g.backoff)
 
 abbrev pub parameters_of : StormGiven → Draws → Parameters
 parameters_of g draws = record {
@@ -110,9 +114,21 @@ pub record IsOnSome (g : StormGiven) : Type 0 where
   pub third : g.of ≡ 3 → 1 ≤ g.third.share
   pub fourth : g.of ≡ 4 → 1 ≤ g.fourth.share
 
+pub record IsFlightGiven (g : StormGiven) : Type 0 where
+  pub least : g.least ≤ 4294967295
+  pub share : g.share ≤ 4294967295
+  pub most : g.most ≤ 4294967295
+
+pub record IsAdaptiveGiven (g : StormGiven) : Type 0 where
+  pub levels : AreLevels g.least g.most g.first
+  pub some : 1 ≤ g.backoff
+  pub below : g.backoff ≤ 999
+
 pub record IsBreakerGiven (g : StormGiven) : Type 0 where
   pub failures : 1 ≤ g.failures
   pub few_failures : g.failures ≤ 4294967295
+  pub few_results : g.results ≤ 32
+  pub of_results : 1 ≤ g.results → g.failures ≤ g.results
   pub probes : 1 ≤ g.probes
   pub few_probes : g.probes ≤ 15
   pub deadline : g.deadline ≤ FAR
@@ -127,12 +143,13 @@ pub record IsThrottleGiven (g : StormGiven) : Type 0 where
 
 -- nothing is given, or a budget, a quota or a limit whose numbers can be those of one
 pub record AreDrawsGiven (g : StormGiven) : Type 0 where
-  pub kinds : g.draws_on ≤ 6
+  pub kinds : g.draws_on ≤ 7
   pub period : g.draws_on ≡ 2 → g.period ≤ FAR
   pub bucket : g.draws_on ≡ 3 → g.bucket_refund ≤ 1
-  pub in_flight : g.draws_on ≡ 4 → (g.least ≤ 4294967295) × (g.share ≤ 4294967295)
+  pub in_flight : g.draws_on ≡ 4 → IsFlightGiven g
   pub breaker : g.draws_on ≡ 5 → IsBreakerGiven g
   pub throttle : g.draws_on ≡ 6 → IsThrottleGiven g
+  pub adaptive : g.draws_on ≡ 7 → IsAdaptiveGiven g
 
 -- a budget, a quota or a bucket that is given is in its range
 pub record AreDrawsInRange (g : StormGiven) : Type 0 where

@@ -1,11 +1,13 @@
 //! Playing a storm.
 ghost use Rattle.std.specs.Prelude.{◌≡◌, ◌≢◌, ◌≤◌, map, None, IfOk, IfErr, Err, vec_len};
+ghost use Rattle.sched_storm.specs.Arrivals.{AreArrivals};
 ghost use Rattle.sched_storm.specs.Clients.{plan_at};
 ghost use Rattle.sched_storm.specs.Report.{AddsUp};
 ghost use Rattle.sched_storm.specs.Storms.{ReportsOn};
 ghost use Rattle.sched_storm_call.specs.Told.{room_of, window_told};
 ghost use Rattle.sched_handle.specs.declared.status.Status.TheVariants as status;
-ghost use Rattle.sched_storm_call.specs.Plays.{PlaysStorm, PlaysPopulations, PlaysPlans, Tells, HaveIts, HaveTheirs};
+ghost use Rattle.sched_storm_call.specs.Plays.{PlaysStorm, PlaysPopulations, PlaysArrivals, PlaysPlans};
+ghost use Rattle.sched_storm_call.specs.Plays.{Tells, HaveIts, HaveTheirs};
 ghost use Rattle.sched_storm_call.specs.Plays.{IsPlanOf, HasNoPlan, IsReason, plans_of};
 
 use crate::records::{
@@ -13,7 +15,7 @@ use crate::records::{
 };
 use sched_handle::{Handle, Status};
 use sched_plan::SharedPlan;
-use sched_storm::{Plans, Report, Storm, Window};
+use sched_storm::{Plans, Report, Storm, Window, are_arrivals};
 use sched_time::NoMemory;
 use std::alloc::Global;
 
@@ -27,11 +29,11 @@ pub fn storm_play(
     totals: &mut SizedTotals,
 ) -> u32
     ensures kept { policy.new.held ≡ policy.old.held }
-    ensures played { storm.now.size ≡ 1144 → totals.old.size ≡ 128 →
+    ensures played { storm.now.size ≡ 1176 → totals.old.size ≡ 128 →
         PlaysStorm storm.now.storm policy.old.held
         (record { windows = windows.old; count = count.old; totals = totals.old.totals }) result
         (record { windows = windows.new; count = count.new; totals = totals.new.totals }) }
-    ensures wrong_storm { storm.now.size ≢ 1144 → Tells storm.now.storm
+    ensures wrong_storm { storm.now.size ≢ 1176 → Tells storm.now.storm
         (record { windows = windows.old; count = count.old; totals = totals.old.totals }) (Err status.WrongSize) result
         (record { windows = windows.new; count = count.new; totals = totals.new.totals }) }
     ensures wrong_totals { totals.old.size ≢ 128 → Tells storm.now.storm
@@ -47,6 +49,7 @@ pub fn storm_play(
         alloc,
         plans,
         &storm.storm,
+        &[],
         windows,
         count,
         &mut totals.totals,
@@ -70,7 +73,7 @@ pub fn storm_play_populations(
     ensures kept_second { second.new.held ≡ second.old.held }
     ensures kept_third { third.new.held ≡ third.old.held }
     ensures kept_fourth { fourth.new.held ≡ fourth.old.held }
-    ensures played { storm.now.size ≡ 1144 → totals.old.size ≡ 128 →
+    ensures played { storm.now.size ≡ 1176 → totals.old.size ≡ 128 →
         PlaysPopulations storm.now.storm (record {
           first = policy.old.held;
           second = second.old.held;
@@ -79,7 +82,7 @@ pub fn storm_play_populations(
         })
         (record { windows = windows.old; count = count.old; totals = totals.old.totals }) result
         (record { windows = windows.new; count = count.new; totals = totals.new.totals }) }
-    ensures wrong_storm { storm.now.size ≢ 1144 → Tells storm.now.storm
+    ensures wrong_storm { storm.now.size ≢ 1176 → Tells storm.now.storm
         (record { windows = windows.old; count = count.old; totals = totals.old.totals }) (Err status.WrongSize) result
         (record { windows = windows.new; count = count.new; totals = totals.new.totals }) }
     ensures wrong_totals { totals.old.size ≢ 128 → Tells storm.now.storm
@@ -95,6 +98,56 @@ pub fn storm_play_populations(
         alloc,
         plans,
         &storm.storm,
+        &[],
+        windows,
+        count,
+        &mut totals.totals,
+    )
+}
+
+/// The same, of requests that come at these moments, or by the rates where there are none.
+pub fn storm_play_arrivals(
+    alloc: Global,
+    policy: &mut Handle,
+    second: &mut Handle,
+    third: &mut Handle,
+    fourth: &mut Handle,
+    storm: &SizedStorm,
+    arrivals: &[u64],
+    windows: &mut [WindowTold],
+    count: &mut usize,
+    totals: &mut SizedTotals,
+) -> u32
+    ensures kept { policy.new.held ≡ policy.old.held }
+    ensures kept_second { second.new.held ≡ second.old.held }
+    ensures kept_third { third.new.held ≡ third.old.held }
+    ensures kept_fourth { fourth.new.held ≡ fourth.old.held }
+    ensures played { storm.now.size ≡ 1176 → totals.old.size ≡ 128 →
+        PlaysArrivals arrivals.now storm.now.storm (record {
+          first = policy.old.held;
+          second = second.old.held;
+          third = third.old.held;
+          fourth = fourth.old.held;
+        })
+        (record { windows = windows.old; count = count.old; totals = totals.old.totals }) result
+        (record { windows = windows.new; count = count.new; totals = totals.new.totals }) }
+    ensures wrong_storm { storm.now.size ≢ 1176 → Tells storm.now.storm
+        (record { windows = windows.old; count = count.old; totals = totals.old.totals }) (Err status.WrongSize) result
+        (record { windows = windows.new; count = count.new; totals = totals.new.totals }) }
+    ensures wrong_totals { totals.old.size ≢ 128 → Tells storm.now.storm
+        (record { windows = windows.old; count = count.old; totals = totals.old.totals }) (Err status.WrongSize) result
+        (record { windows = windows.new; count = count.new; totals = totals.new.totals }) }
+    ensures size { totals.new.size ≡ totals.old.size }
+{
+    if storm.size != STORM_SIZE || totals.size != TOTALS_SIZE {
+        return Status::WrongSize.code();
+    }
+    let plans = their_plans(alloc, policy, second, third, fourth);
+    tell_storm(
+        alloc,
+        plans,
+        &storm.storm,
+        arrivals,
         windows,
         count,
         &mut totals.totals,
@@ -168,18 +221,22 @@ fn tell_storm(
     alloc: Global,
     plans: Result<Plans, Status>,
     given: &StormGiven,
+    arrivals: &[u64],
     windows: &mut [WindowTold],
     count: &mut usize,
     totals: &mut TotalsTold,
 ) -> u32
     requires { IfErr plans IsReason }
-    ensures { PlaysPlans given.now (plans_of plans)
+    ensures { PlaysPlans arrivals.now given.now (plans_of plans)
         (record { windows = windows.old; count = count.old; totals = totals.old }) result
         (record { windows = windows.new; count = count.new; totals = totals.new }) }
 {
     let Some(storm) = given.storm() else {
         return Status::OutOfRange.code();
     };
+    if !are_arrivals(arrivals) {
+        return Status::OutOfRange.code();
+    }
     let room = room_of(&storm);
     if windows.len() < room {
         *count = room;
@@ -189,7 +246,7 @@ fn tell_storm(
         Ok(plans) => plans,
         Err(status) => return status.code(),
     };
-    match play(alloc, plans, &storm, given.of()) {
+    match play(alloc, plans, &storm, arrivals, given.of()) {
         Ok((report, told)) => {
             windows[..told.len()].copy_from_slice(&told);
             *count = told.len();
@@ -205,14 +262,16 @@ fn play(
     alloc: Global,
     plans: Plans,
     storm: &Storm,
+    arrivals: &[u64],
     of: Option<u64>,
 ) -> Result<(Report, Vec<WindowTold>), NoMemory>
-    ensures reports { IfOk result (λ played. ReportsOn storm.now (λ k. plan_at k plans) of played.0) }
-    ensures sums { of ≡ None → IfOk result (λ played. AddsUp storm.now played.0) }
+    requires { AreArrivals arrivals.now }
+    ensures reports { IfOk result (λ played. ReportsOn arrivals.now storm.now (λ k. plan_at k plans) of played.0) }
+    ensures sums { of ≡ None → IfOk result (λ played. AddsUp arrivals.now storm.now played.0) }
     ensures few { IfOk result (λ played. vec_len played.0.windows ≤ room_of storm.now) }
     ensures told { IfOk result (λ played. played.1.items ≡ map window_told played.0.windows.items) }
 {
-    let report = storm.play_populations(alloc, plans, of)?;
+    let report = storm.play_populations(alloc, arrivals, plans, of)?;
     let told = windows_told(alloc, &report.windows)?;
     Ok((report, told))
 }

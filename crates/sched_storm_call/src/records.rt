@@ -1,11 +1,12 @@
 //! What C gives of a storm, and what it is told.
 ghost use Rattle.std.specs.Prelude.{◌≡◌, ◌≤◌, ◌↔◌, IsTrue, IsSome, IfSome};
-ghost use Rattle.sched_storm_call.specs.Told.{IsGiven, HasItsBrownOut, IsBreakerGiven, IsThrottleGiven, AreDrawsGiven};
+ghost use Rattle.sched_storm_call.specs.Told.{IsGiven, HasItsBrownOut, IsFlightGiven, IsAdaptiveGiven, IsBreakerGiven};
+ghost use Rattle.sched_storm_call.specs.Told.{IsThrottleGiven, AreDrawsGiven};
 ghost use Rattle.sched_storm_call.specs.Told.{ArePopulationsGiven, IsOnSome, AreDrawsOf, IsOf, down_of, slow_of};
 ghost use Rattle.sched_storm_call.specs.Told.{population_given, others_of, of_given, parameters_of, room_of};
 ghost use Rattle.sched_storm_call.specs.Told.{window_told, totals_told};
 
-use sched_limit::{Breaker, Bucket, InFlight, Throttle};
+use sched_limit::{Adaptive, Breaker, Bucket, InFlight, Throttle};
 use sched_storm::{
     BrownOut, Draws, Limit, Others, Parameters, Phase, Population, Rates, Span, Storm, Totals,
     Window,
@@ -54,7 +55,11 @@ pub struct StormGiven {
     pub cost: u64,
     pub late_cost: u64,
     pub least: u64,
+    pub most: u64,
+    pub first: u64,
+    pub backoff: u64,
     pub failures: u64,
+    pub results: u64,
     pub probes: u64,
     pub deadline: u64,
     pub ratio: u64,
@@ -79,7 +84,7 @@ pub struct SizedStorm {
 }
 
 /// The size of it.
-pub(crate) const STORM_SIZE: usize = 1144;
+pub(crate) const STORM_SIZE: usize = 1176;
 
 /// A window of a storm.
 #[repr(C)]
@@ -280,6 +285,7 @@ impl StormGiven {
             4 => self.in_flight(),
             5 => self.breaker(),
             6 => self.throttle(),
+            7 => self.adaptive(),
             _ => None,
         }
     }
@@ -309,13 +315,27 @@ impl StormGiven {
 
     fn in_flight(&self) -> Option<Draws>
         requires { self.now.draws_on ≡ 4 }
-        ensures given { IsSome result ↔ ((self.now.least ≤ 4294967295) × (self.now.share ≤ 4294967295)) }
+        ensures given { IsSome result ↔ IsFlightGiven self.now }
         ensures value { IfSome result (AreDrawsOf self.now) }
     {
         let least = word_of(self.least)?;
         let share = word_of(self.share)?;
-        let in_flight = InFlight { least, share };
+        let most = word_of(self.most)?;
+        let in_flight = InFlight { least, share, most };
         Some(Draws::Limited(Limit::InFlight(in_flight)))
+    }
+
+    fn adaptive(&self) -> Option<Draws>
+        requires { self.now.draws_on ≡ 7 }
+        ensures given { IsSome result ↔ IsAdaptiveGiven self.now }
+        ensures value { IfSome result (AreDrawsOf self.now) }
+    {
+        let least = word_of(self.least)?;
+        let most = word_of(self.most)?;
+        let first = word_of(self.first)?;
+        let backoff = word_of(self.backoff)?;
+        let adaptive = Adaptive::new(least, most, first, backoff)?;
+        Some(Draws::Limited(Limit::Adaptive(adaptive)))
     }
 
     fn breaker(&self) -> Option<Draws>
@@ -331,6 +351,10 @@ impl StormGiven {
         let now = Moment::new(0)?;
         let last = self.open_count - 1;
         let breaker = Breaker::new(now, failures, self.probes, deadline, self.open_times, last)?;
+        if self.results == 0 {
+            return Some(Draws::Limited(Limit::Breaker(breaker)));
+        }
+        let breaker = breaker.by_results(word_of(self.results)?)?;
         Some(Draws::Limited(Limit::Breaker(breaker)))
     }
 

@@ -7,7 +7,8 @@ use Rattle.rand_xoshiro.specs.SplitMix64.{splitmix_seed}
 use Rattle.sched_task.specs.Words.{next_four}
 use Rattle.sched_limit.specs.Step.{Rules, asks, nothing, step}
 use Rattle.sched_limit.specs.Turns.{steps}
-use Rattle.sched_limit.specs.Kinds.{bucket_rules, flight_rules, breaker_rules}
+use Rattle.sched_limit.specs.Adaptive.{adaptive_first}
+use Rattle.sched_limit.specs.Kinds.{bucket_rules, flight_rules, adaptive_rules, breaker_rules}
 use Rattle.sched_limit.specs.declared.request.Request.{Request}
 use Rattle.sched_limit.specs.declared.request.Told.{Told}
 use Rattle.sched_limit.specs.declared.request.Told.TheVariants.{Admit, Draw, Failed, Succeeded, Ended}
@@ -31,6 +32,7 @@ pub record LimitState : Type 0 where
 
 abbrev pub first_word : Draws → ℕ
 first_word (Limited (limit.Bucket b cost late)) = b.capacity
+first_word (Limited (limit.Adaptive k)) = adaptive_first k
 first_word _ = 0
 
 -- before the first event: the random words are those of the seed and 1
@@ -78,6 +80,7 @@ on_words t told r w = let drawn = word_for told w in let s = steps t told drawn.
 abbrev pub tells : Limit → Told → Request → Words → Stepped
 tells (limit.Bucket b cost late) told r w = on_word (bucket_rules b) told r w
 tells (limit.InFlight k) told r w = on_word (flight_rules k) told r w
+tells (limit.Adaptive k) told r w = on_word (adaptive_rules k) told r w
 tells (limit.Breaker b) told r w = on_word (breaker_rules b) told r w
 tells (limit.Throttle t) told r w = on_words t told r w
 

@@ -11,6 +11,7 @@ use Rattle.sched_storm_limit.specs.declared.draws.Limit.TheVariants as limit
 abbrev pub IsLimit : Limit → Type 0
 IsLimit (limit.Bucket b cost late) = bucket.AreTerms b × (cost ≤ b.capacity) × (late ≤ b.capacity)
 IsLimit (limit.InFlight k) = Unit {0}
+IsLimit (limit.Adaptive k) = Unit {0}
 IsLimit (limit.Breaker b) = Unit {0}
 IsLimit (limit.Throttle t) = Unit {0}
 

@@ -4,7 +4,7 @@ ghost use Rattle.sched_ticket_quota.specs.Held.{AreTerms};
 ghost use Rattle.sched_storm_limit.specs.Ranges.{IsLimit, AreDraws, has_draws};
 ghost use Rattle.sched_storm_limit.specs.Limits.{cost_of};
 
-use sched_limit::{Breaker, Bucket, InFlight, Throttle};
+use sched_limit::{Adaptive, Breaker, Bucket, InFlight, Throttle};
 use sched_ticket_quota::{MAX_RESERVE, MAX_SHARE, MIN_PERIOD, Terms};
 
 /// A limit of requests and retries.
@@ -18,8 +18,10 @@ pub enum Limit {
         /// What it takes after a call that came late: at most the capacity.
         late: u64,
     },
-    /// A bound on the retries in flight.
+    /// A bound on what is in flight.
     InFlight(InFlight),
+    /// An adaptive limit, at its first level.
+    Adaptive(Adaptive),
     /// A breaker, closed at first.
     Breaker(Breaker),
     /// A throttle that has counted nothing at first.
@@ -68,7 +70,9 @@ impl Limit {
             Limit::Bucket { bucket, cost, late } => {
                 bucket.is_sound() && *cost <= bucket.capacity && *late <= bucket.capacity
             }
-            Limit::InFlight(_) | Limit::Breaker(_) | Limit::Throttle(_) => true,
+            Limit::InFlight(_) | Limit::Adaptive(_) | Limit::Breaker(_) | Limit::Throttle(_) => {
+                true
+            }
         }
     }
 
@@ -78,7 +82,7 @@ impl Limit {
     {
         match self {
             Limit::Bucket { cost, late, .. } => { if is_late { *late } else { *cost } }
-            Limit::InFlight(_) | Limit::Breaker(_) | Limit::Throttle(_) => 0,
+            Limit::InFlight(_) | Limit::Adaptive(_) | Limit::Breaker(_) | Limit::Throttle(_) => 0,
         }
     }
 }

@@ -54,6 +54,7 @@ impl Words {
         let answer = match limit {
             Limit::Bucket { bucket, .. } => tell(bucket, told, 0, request, &mut self.word),
             Limit::InFlight(in_flight) => tell(in_flight, told, 0, request, &mut self.word),
+            Limit::Adaptive(adaptive) => tell(adaptive, told, 0, request, &mut self.word),
             Limit::Breaker(breaker) => tell(breaker, told, 0, request, &mut self.word),
             Limit::Throttle(throttle) => {
                 let random = self.word_for(told);
@@ -82,6 +83,7 @@ fn first_word(draws: &Draws) -> u64
 {
     match draws {
         Draws::Limited(Limit::Bucket { bucket, .. }) => bucket.first(),
+        Draws::Limited(Limit::Adaptive(adaptive)) => adaptive.first(),
         _ => 0,
     }
 }

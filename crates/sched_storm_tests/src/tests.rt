@@ -8,6 +8,7 @@ use std::fmt::Write;
 use std::process::Abort;
 use std::test::Fail;
 
+mod arrivals;
 mod populations;
 mod ranges;
 mod rates;

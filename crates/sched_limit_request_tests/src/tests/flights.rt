@@ -1,11 +1,13 @@
 //! What is in flight, by rows worked by hand.
 
 use super::{Act, acts};
-use sched_limit::{InFlight, Refusal};
+use sched_limit::{InFlight, NO_MOST, Refusal};
 use sched_limit_request::OnLimit;
 use std::process::Abort;
 
 const FULL: Option<Refusal> = Some(Refusal::Full);
+
+const TOO_MANY: Option<Refusal> = Some(Refusal::TooMany);
 
 // With one retry at least, and a fifth: of four requests one retries, and where it ends another may.
 #[test]
@@ -37,6 +39,7 @@ fn shares(rt: HostRuntime) {
     let half = InFlight {
         least: 0,
         share: 500,
+        most: NO_MOST,
     };
     let on = OnLimit::new(rt.alloc(), half).expect(&rt, "there is memory");
     acts(
@@ -63,7 +66,11 @@ fn shares(rt: HostRuntime) {
 // A retry that is cancelled gives its slot back, once.
 #[test]
 fn cancelled(rt: HostRuntime) {
-    let one = InFlight { least: 1, share: 0 };
+    let one = InFlight {
+        least: 1,
+        share: 0,
+        most: NO_MOST,
+    };
     let on = OnLimit::new(rt.alloc(), one).expect(&rt, "there is memory");
     acts(
         &rt,
@@ -79,6 +86,32 @@ fn cancelled(rt: HostRuntime) {
             (0, 0, Act::Cancel),
             (0, 0, Act::End),
             (2, 0, Act::Draw(0, FULL)),
+        ],
+    );
+}
+
+// Two requests at most: one that is refused takes no place, and one that ends makes room.
+#[test]
+fn most(rt: HostRuntime) {
+    let two = InFlight {
+        least: 3,
+        share: 200,
+        most: 2,
+    };
+    let on = OnLimit::new(rt.alloc(), two).expect(&rt, "there is memory");
+    acts(
+        &rt,
+        on,
+        &[
+            (0, 0, Act::Admit(None)),
+            (1, 0, Act::Admit(None)),
+            (2, 0, Act::Admit(TOO_MANY)),
+            (2, 0, Act::End),
+            (3, 0, Act::Admit(TOO_MANY)),
+            (0, 0, Act::End),
+            (2, 0, Act::Admit(None)),
+            (2, 0, Act::Draw(0, None)),
+            (3, 0, Act::Admit(TOO_MANY)),
         ],
     );
 }

@@ -1,7 +1,7 @@
 //! Two limits at once.
 
 use super::at;
-use sched_limit::{Breaker, Bucket, InFlight, Refusal};
+use sched_limit::{Breaker, Bucket, InFlight, NO_MOST, Refusal};
 use sched_limit_request::{Asks, Both, OnLimit};
 use sched_time::Millis;
 use std::process::Abort;
@@ -10,7 +10,11 @@ use std::process::Abort;
 // counted.
 #[test]
 fn neither_is_charged(rt: HostRuntime) {
-    let none = InFlight { least: 0, share: 0 };
+    let none = InFlight {
+        least: 0,
+        share: 0,
+        most: NO_MOST,
+    };
     let mut pair = Both {
         first: OnLimit::new(rt.alloc(), Bucket::aws()).expect(&rt, "there is memory"),
         second: OnLimit::new(rt.alloc(), none).expect(&rt, "there is memory"),
@@ -26,7 +30,11 @@ fn neither_is_charged(rt: HostRuntime) {
 // The slot of a retry that the bucket refuses comes back at once, and no second time as the request ends.
 #[test]
 fn a_slot_comes_back(rt: HostRuntime) {
-    let one = InFlight { least: 1, share: 0 };
+    let one = InFlight {
+        least: 1,
+        share: 0,
+        most: NO_MOST,
+    };
     let mut pair = Both {
         first: OnLimit::new(rt.alloc(), one).expect(&rt, "there is memory"),
         second: OnLimit::new(rt.alloc(), Bucket::aws()).expect(&rt, "there is memory"),
@@ -52,6 +60,7 @@ fn a_breaker_stands_second(rt: HostRuntime) {
     let half = InFlight {
         least: 0,
         share: 500,
+        most: NO_MOST,
     };
     let mut pair = Both {
         first: OnLimit::new(rt.alloc(), half).expect(&rt, "there is memory"),

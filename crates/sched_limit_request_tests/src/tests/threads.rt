@@ -1,7 +1,7 @@
 //! Limits that eight threads call.
 
 use super::at;
-use sched_limit::{Breaker, Bucket, InFlight, Throttle};
+use sched_limit::{Adaptive, Breaker, Bucket, InFlight, NO_MOST, Throttle};
 use sched_limit_request::{Asks, OnLimit, OnThrottle};
 use sched_time::Millis;
 use std::alloc::Global;
@@ -78,6 +78,7 @@ fn flights(rt: HostRuntime) {
     let half = InFlight {
         least: 0,
         share: 500,
+        most: NO_MOST,
     };
     let mut first = OnLimit::new(rt.alloc(), half).expect(&rt, "there is memory");
     let parts = parts(&rt, rt.alloc(), &mut first);
@@ -95,6 +96,46 @@ fn flights(rt: HostRuntime) {
 fn granted_one(on: &mut OnLimit<InFlight>) -> bool {
     on.ended();
     on.admit(at(0), 0).is_ok() && on.draw(at(0), 0, 0).is_ok()
+}
+
+/// Requests that come, fail or succeed, and are over, so many.
+fn come_and_end(mut on: OnLimit<Adaptive>, requests: u64) -> u64 {
+    let mut count: u64 = 0;
+    for place in 0..requests {
+        if on.admit(at(0), 0).is_ok() {
+            count = count.saturating_add(1);
+        }
+        if place % 2 == 0 {
+            on.failed(at(0));
+        } else {
+            on.succeeded(at(0));
+        }
+        on.ended();
+    }
+    count
+}
+
+// Each request is given back: after 80,000 of 8 threads as many are admitted as the level, which stays, admits.
+#[test]
+fn adaptives(rt: HostRuntime) {
+    let three = Adaptive::new(3, 3, 3, 500).expect(&rt, "there is such a limit");
+    let mut first = OnLimit::new(rt.alloc(), three).expect(&rt, "there is memory");
+    let shares = parts(&rt, rt.alloc(), &mut first);
+    let counts = map_vec(
+        &rt,
+        shares,
+        &|on: OnLimit<Adaptive>| come_and_end(on, 10000),
+    );
+    let all = sum(counts.expect(&rt, "there is memory"));
+    assert!(rt; all <= 80000, "{all}");
+    let mut last = parts(&rt, rt.alloc(), &mut first);
+    let mut admitted: u64 = 0;
+    for on in &mut last {
+        if on.admit(at(0), 0).is_ok() {
+            admitted = admitted.saturating_add(1);
+        }
+    }
+    assert!(rt; admitted == 3, "{admitted}");
 }
 
 /// How many asks of so many were admitted at this moment.

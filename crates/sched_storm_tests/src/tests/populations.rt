@@ -44,7 +44,7 @@ fn report_on(
         fourth: second.share()?,
         second,
     };
-    Ok(storm.play_populations(alloc, plans, of)?)
+    Ok(storm.play_populations(alloc, &[], plans, of)?)
 }
 
 // Asserts how the requests of a population end, or those of all.

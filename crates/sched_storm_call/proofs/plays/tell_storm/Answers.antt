@@ -11,20 +11,24 @@ use Rattle.sched_storm_call.proofs.plays.tell_storm.Goals as goal
 pub returns-in_default : goal.returns-in_default
 returns-in_default c = (Err OutOfRange, search rules, search rules)
 
+pub returns-then-not-are_arrivals : goal.returns-then-not-are_arrivals
+returns-then-not-are_arrivals c = (Err OutOfRange, search rules, search rules)
+
 pub returns-then-windows-room : goal.returns-then-windows-room
 returns-then-windows-room c = (Err NoRoom, search rules, search rules)
 
 pub returns-in-Err : goal.returns-in-Err
 returns-in-Err c =
     let t : Told = record { windows = c.args.windows.now; count = c.args.count.now; totals = c.args.totals.now } in
-    let room : HasRoom c.args.given.now t = search rules in
+    let room : HasRoom c.args.arrivals.now c.args.given.now t = search rules in
     let reason : IsReason c.in-Err.status = search rules in
     rw c.code-in-Err.ensures
-    (refused c.args.given.now t (plans_of c.args.plans) c.in-Err.status room (ap plans_of c.in-Err.is) reason)
+    (refused c.args.arrivals.now c.args.given.now t (plans_of c.args.plans) c.in-Err.status room
+    (ap plans_of c.in-Err.is) reason)
 
 pub returns-in-Ok-play : goal.returns-in-Ok-play
 returns-in-Ok-play c =
-    let room : HasRoom c.args.given.now
+    let room : HasRoom c.args.arrivals.now c.args.given.now
     (record { windows = c.args.windows.now; count = c.args.count.now; totals = c.args.totals.now }) = search rules in
     let ws = c.in-Ok-play.report.windows.items in
     let told : c.in-Ok-play.told.items ≡ map window_told ws = c.in-Ok-play.ensures.told in
@@ -54,6 +58,7 @@ returns-in-Ok-play c =
 pub returns-in-Err-play : goal.returns-in-Err-play
 returns-in-Err-play c =
     let t : Told = record { windows = c.args.windows.now; count = c.args.count.now; totals = c.args.totals.now } in
-    let room : HasRoom c.args.given.now t = search rules in
+    let room : HasRoom c.args.arrivals.now c.args.given.now t = search rules in
     rw c.code-in-Err-play.ensures
-    (short c.args.given.now t (plans_of c.args.plans) (λ k. plan_at k c.in-Ok.plans) room (ap plans_of c.in-Ok.is))
+    (short c.args.arrivals.now c.args.given.now t (plans_of c.args.plans) (λ k. plan_at k c.in-Ok.plans) room
+    (ap plans_of c.in-Ok.is))

@@ -29,6 +29,7 @@ returns-clause-answered c = λ h k.
     c.four_words-words.ensures
     answers.planned answers.later c.tell_failed.ensures c.in_ok-is_granted.ensures c.next-after.ensures
     (record {
+      arrivals = refl;
       busy = refl;
       begun = refl;
       words = refl;

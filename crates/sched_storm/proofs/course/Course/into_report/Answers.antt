@@ -21,7 +21,8 @@ returns-clause-adds_up c = λ all.
     let over = c.requires in
     let ms = told_of c.args.self c.args.is_cut over in
     let told = c.in_ok-report.ensures.report ms (over.told c.peer.result c.peer.ensures.value) in
-    adds_up c.args.self.storm (plans_of c.args.self.clients) c.args.is_cut over.events over.in_range over.is_storm
+    adds_up c.args.self.arrivals.now c.args.self.storm (plans_of c.args.self.clients) c.args.is_cut over.events
+    over.in_range over.is_storm
     c.args.self.reporter.of all c.in_ok-report.report
     (report_is c.args.self c.args.is_cut over c.in_ok-report.report c.peer.result c.end_of_trouble.result
     c.peer.ensures.value c.end_of_trouble.ensures told)
@@ -32,7 +33,8 @@ returns-clause-windows c =
     let over = c.requires in
     let ms = told_of c.args.self c.args.is_cut over in
     let told = c.in_ok-report.ensures.report ms (over.told c.peer.result c.peer.ensures.value) in
-    few_windows c.args.self.storm (plans_of c.args.self.clients) c.args.is_cut over.events over.in_range over.is_storm
+    few_windows c.args.self.arrivals.now c.args.self.storm
+    (plans_of c.args.self.clients) c.args.is_cut over.events over.in_range over.is_storm
     c.args.self.reporter.of c.in_ok-report.report
     (report_is c.args.self c.args.is_cut over c.in_ok-report.report c.peer.result c.end_of_trouble.result
     c.peer.ensures.value c.end_of_trouble.ensures told)

@@ -6,6 +6,7 @@ use Rattle.sched_storm.proofs.course.Course.new.Goals as goal
 pub returns-clause-stands : goal.returns-clause-stands
 returns-clause-stands c = stands_at_first _ (record {
   in_range = search rules;
+  moments = c.requires.arrivals;
   words = search rules;
   requests = refl;
   comes = search rules;

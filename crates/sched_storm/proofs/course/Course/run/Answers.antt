@@ -1,8 +1,9 @@
 -- Each turn that is taken out is played, until nothing is due or one call more would be too many.
 use Rattle.std.proofs.Common.{subst, ap, ◌∙◌, arith}
-use Rattle.sched_storm.specs.Parameters.{all_requests}
+use Rattle.sched_storm.specs.Arrivals.{all_requests}
 use Rattle.sched_storm.specs.Course.{StandsFirst}
 use Rattle.sched_storm.proofs.Ready.{ready, is_cut, is_done, less_of, few_said}
+use Rattle.sched_storm.proofs.Moments.{fewer_left}
 use Rattle.sched_storm.proofs.Taken.{none_if}
 use Rattle.sched_storm.specs.declared.parameters.Parameters.{Parameters}
 use Rattle.sched_storm.specs.declared.reporter.Reporter.{Reporter}
@@ -41,5 +42,8 @@ loop-next-smaller c =
     let one = c.in_ok-after.ensures.events in
     let same = ap (λ (r : Reporter). r.events) c.in_ok-next.ensures.events in
     let storm = ap (λ (p : Parameters). p.calls) (c.in_ok-next.ensures.storm ∙ c.in_ok-after.ensures.storm) in
-    let all = ap all_requests (c.in_ok-next.ensures.storm ∙ c.in_ok-after.ensures.storm) in
-    omega arith
+    let kept = c.in_ok-next.ensures.storm ∙ c.in_ok-after.ensures.storm in
+    let moments = c.in_ok-next.ensures.arrivals ∙ c.in_ok-after.ensures.arrivals in
+    let all = ap (λ ms. all_requests ms c.next_after.new.self.storm) moments
+    ∙ ap (λ p. all_requests c.loop-next.self.arrivals.now p) kept in
+    fewer_left _ _ _ _ _ _ storm all (same ∙ one) few

@@ -12,5 +12,5 @@ returns-clause-answered c =
     let u = c.at-client.result.now in
     let of_r = client_is old r c.population_of.result u c.population_of.ensures c.at-client.ensures in
     for_client old _ t r u succeeds _ of_r
-    (won_answered old _ t r u c.requires.ready of_r c.comes_at-began.result c.comes_at-began.ensures.value _
+    (won_answered old _ t r u c.requires.ready of_r c.comes_at-began.result c.comes_at-began.ensures _
     c.in_ok-tell_succeeded.ensures refl refl c.in_ok-tell.ensures.told)

@@ -1,5 +1,5 @@
 -- Each population has the plan.
-use Rattle.std.proofs.Common.{◌≡◌, ℕ, zero, suc, None, IfOk, refl, subst, ap, ◌∙◌}
+use Rattle.std.proofs.Common.{◌≡◌, ℕ, zero, suc, [], None, IfOk, refl, subst, ap, ◌∙◌}
 use Rattle.sched_plan.specs.Schedule.{Schedule}
 use Rattle.sched_storm.specs.Clients.{plan_at}
 use Rattle.sched_storm.specs.Storms.{ReportsOn}
@@ -16,5 +16,5 @@ pub returns-clause-reports : goal.returns-clause-reports
 returns-clause-reports c =
     let are : (λ k. plan_at k c.in_ok-plans.plans) ≡ (λ k. c.args.plan) =
     λ i. λ k. (ap (plan_at k) c.in_ok-plans.ensures ∙ one_plan c.args.plan k) i in
-    subst (λ ps. IfOk c.play_populations.result (ReportsOn c.args.self.now ps None)) are
+    subst (λ ps. IfOk c.play_populations.result (ReportsOn [] c.args.self.now ps None)) are
     c.play_populations.ensures.reports

@@ -1,0 +1,6 @@
+-- An adaptive limit that is made has the terms that were given.
+use Rattle.std.proofs.Common.{inl, inr, refl}
+use Rattle.hikebox_c.proofs.limits.adaptive.Goals as goal
+
+pub returns-in-Some : goal.returns-in-Some
+returns-in-Some c = inl (c.in-Some.adaptive, c.in-Some.ensures.some, c.adaptive.ensures)
