@@ -54,6 +54,7 @@ const char *hikebox_status_text(unsigned status) {
     case 64: return "the breaker's probes are out";
     case 65: return "the throttle refuses";
     case 66: return "the call is out of turn";
+    case 70: return "the call would wait too long";
     default: return "no such status";
     }
 }

@@ -39,13 +39,14 @@
  * handle holds, and no result, unless the call's comment says otherwise. Each refusal has one status. If several apply,
  * the call returns the first one in its own list. It returns no status that its list does not name.
  *
- * STRUCTS. hikebox_course, hikebox_usage, hikebox_bucket, hikebox_breaker, hikebox_next, hikebox_storm and
- * hikebox_totals begin with `size`, the number of bytes that they have in the header that the program was compiled
- * with. The initializers HIKEBOX_COURSE, HIKEBOX_USAGE, HIKEBOX_BUCKET_GRPC, HIKEBOX_BUCKET_AWS, HIKEBOX_BREAKER,
- * HIKEBOX_NEXT, HIKEBOX_STORM and HIKEBOX_TOTALS set it. A later minor version may add members at the end of these
- * structs. It accepts each size that an earlier version of its major version had, and reads and writes only the members
- * that the size covers. It refuses every other size with HIKEBOX_WRONG_SIZE, including that of a later version, and
- * then reads and writes no other member. All other structs keep their size and members within a major version.
+ * STRUCTS. hikebox_course, hikebox_usage, hikebox_bucket, hikebox_adaptive, hikebox_breaker, hikebox_state,
+ * hikebox_next, hikebox_storm and hikebox_totals begin with `size`, the number of bytes that they have in the header
+ * that the program was compiled with. The initializers HIKEBOX_COURSE, HIKEBOX_USAGE, HIKEBOX_BUCKET_GRPC,
+ * HIKEBOX_BUCKET_AWS, HIKEBOX_ADAPTIVE, HIKEBOX_BREAKER, HIKEBOX_STATE, HIKEBOX_NEXT, HIKEBOX_STORM and HIKEBOX_TOTALS
+ * set it. A later minor version may add members at the end of these structs. It accepts each size that an earlier
+ * version of its major version had, and reads and writes only the members that the size covers. It refuses every other
+ * size with HIKEBOX_WRONG_SIZE, including that of a later version, and then reads and writes no other member. All other
+ * structs keep their size and members within a major version.
  *
  * WHAT THE PROGRAM OWES. The library does not check these:
  *  - Every pointer is to valid memory of its type, and not NULL, even if a length is 0; no two of a call's
@@ -194,7 +195,7 @@ enum {
 
     /* A draw would take the bucket's level below its floor. */
     HIKEBOX_LEVEL_LOW = 60,
-    /* As many requests are in flight as a limit can count: 2^32 - 1. */
+    /* As many requests are in flight as the limit admits. */
     HIKEBOX_REQUESTS_FULL = 61,
     /* As many retries are in flight as the requests in flight allow. */
     HIKEBOX_RETRIES_FULL = 62,
@@ -205,7 +206,10 @@ enum {
     /* The throttle refuses: too few of the latest requests were accepted. */
     HIKEBOX_THROTTLED = 65,
     /* A request is under way and another asks to be admitted, or none is and one asks for a retry. */
-    HIKEBOX_OUT_OF_TURN = 66
+    HIKEBOX_OUT_OF_TURN = 66,
+
+    /* By its pace, the call would wait too long. */
+    HIKEBOX_TOO_SOON = 70
 };
 
 /* Returns what a status means in a few words, such as "there is no ticket", or "no such status" for another number. The
@@ -235,6 +239,9 @@ typedef struct {
 typedef struct {
     void *held;
 } hikebox_limit;
+typedef struct {
+    void *held;
+} hikebox_pace;
 
 /* A handle that holds nothing. */
 #define HIKEBOX_INIT                                                                                                   \
@@ -710,29 +717,61 @@ typedef struct {
 /* Makes a bucket. HIKEBOX_WRONG_SIZE; _FULL; _OUT_OF_RANGE; _NO_MEMORY. */
 HIKEBOX_CHECKED hikebox_status hikebox_bucket_new(const hikebox_bucket *bucket, hikebox_limit *limit);
 
+/* The `most` of a bound that sets none: as many requests in flight as can be counted. */
+#define HIKEBOX_NO_MOST UINT32_C(4294967295)
+
 /*
- * Makes a bound on the retries in flight: the greater of `least`, and `share` thousandths of the requests in flight.
- * For Envoy's retry_budget, `least` is `min_retry_concurrency` (3 by default), and `share` is ten times
- * `budget_percent` (200 by default). A retry is in flight from its draw to the request's next draw or its end, or until
- * it is cancelled. HIKEBOX_FULL; _NO_MEMORY.
+ * Makes a bound on what is in flight. Requests are at most `most`, and else HIKEBOX_NO_MOST; retries are at most the
+ * greater of `least`, and `share` thousandths of the requests in flight. For Envoy's retry_budget, `least` is
+ * `min_retry_concurrency` (3 by default), and `share` is ten times `budget_percent` (200 by default). A request is in
+ * flight from its admission to its end. A retry is in flight from its draw to the request's next draw or its end, or
+ * until it is cancelled. HIKEBOX_FULL; _NO_MEMORY.
  */
-HIKEBOX_CHECKED hikebox_status hikebox_in_flight_new(uint32_t least, uint32_t share, hikebox_limit *limit);
+HIKEBOX_CHECKED hikebox_status hikebox_in_flight_new(uint32_t least, uint32_t share, uint32_t most,
+                                                     hikebox_limit *limit);
+
+/* An adaptive limit. It finds by itself how many requests at once its peer bears. */
+typedef struct {
+    /* The size of this struct. */
+    size_t size;
+    /* The least and the most requests in flight that it admits, and how many at first: 1 <= least <= first <= most <=
+     * 65,535. */
+    uint64_t least;
+    uint64_t most;
+    uint64_t first;
+    /* How many thousandths of its level a failure leaves, 1 to 999. */
+    uint64_t backoff;
+} hikebox_adaptive;
+
+/* From 1 to 200 requests, at first 20. A failure leaves nine tenths. */
+#define HIKEBOX_ADAPTIVE                                                                                               \
+    { sizeof(hikebox_adaptive), 1, 200, 20, 900 }
+
+/*
+ * Makes an adaptive limit. It admits as many requests at once as its level, in thousandths, which is at first `first`.
+ * A failure multiplies the level by `backoff`, down to `least`. A success while at least half of the level is in use
+ * adds to it, one request for as many successes as it admits, up to `most`. It grants each retry. HIKEBOX_WRONG_SIZE;
+ * _FULL; _OUT_OF_RANGE; _NO_MEMORY.
+ */
+HIKEBOX_CHECKED hikebox_status hikebox_adaptive_new(const hikebox_adaptive *adaptive, hikebox_limit *limit);
 
 /* A breaker, without its open times. */
 typedef struct {
     /* The size of this struct. */
     size_t size;
-    /* How many failures in a row open it, 1 to 2^32 - 1. */
+    /* How many failures open it, 1 to 2^32 - 1: in a row, or among its last results. */
     uint64_t failures;
     /* How many probes a half open breaker admits, and how many successes close it: 1 to 15. */
     uint64_t probes;
     /* If all probes are out, how many milliseconds after the last one a half open breaker begins anew. */
     uint64_t deadline;
+    /* Among how many of its last results the failures count: from `failures` to 32. 0: they count in a row. */
+    uint64_t results;
 } hikebox_breaker;
 
 /* Opens after five failures in a row, with one probe and a deadline of 30 seconds. */
 #define HIKEBOX_BREAKER                                                                                                \
-    { sizeof(hikebox_breaker), 5, 1, 30000 }
+    { sizeof(hikebox_breaker), 5, 1, 30000, 0 }
 
 /*
  * Makes a breaker at the moment `now`, which is closed. It is open for the first of these `count` times, in
@@ -773,8 +812,8 @@ HIKEBOX_CHECKED hikebox_status hikebox_limit_split(hikebox_limit *limit, hikebox
 
 /*
  * Asks before the first run of a request. HIKEBOX_TOO_LARGE, of the moment; _EMPTY; _WRONG_KIND; _OUT_OF_TURN: the
- * handle's request before has not ended; of what is in flight _REQUESTS_FULL; of a breaker _BREAKER_OPEN and _PROBING;
- * of a throttle _THROTTLED; _RACES_LOST: 64 other calls came first.
+ * handle's request before has not ended; of what is in flight and of an adaptive limit _REQUESTS_FULL; of a breaker
+ * _BREAKER_OPEN and _PROBING; of a throttle _THROTTLED; _RACES_LOST: 64 other calls came first.
  */
 HIKEBOX_CHECKED hikebox_status hikebox_limit_admit(hikebox_limit *limit, uint64_t now, uint32_t random,
                                                    uint64_t *number);
@@ -804,6 +843,56 @@ hikebox_status hikebox_limit_ended(hikebox_limit *limit);
 /* Ends the request, if one is under way, and frees the handle. The limit lives as long as it has a handle.
  * HIKEBOX_EMPTY; _WRONG_KIND. */
 hikebox_status hikebox_limit_free(hikebox_limit *limit);
+
+/* What a limit is: its kind, and of a breaker also its state. */
+typedef enum {
+    /* A bucket: `first` is its level, and `second` its capacity. */
+    HIKEBOX_STATE_BUCKET = 1,
+    /* A bound on what is in flight: `first` is the requests, `second` the retries, and `third` the most requests. */
+    HIKEBOX_STATE_IN_FLIGHT = 2,
+    /* A breaker that is closed: `first` is the failures in a row, or among its last results. */
+    HIKEBOX_STATE_CLOSED = 3,
+    /* A breaker that is open: `until` is the moment until which it is, and `first` which trip it is, from 1 on. It is
+     * open until a request asks at that moment or later. */
+    HIKEBOX_STATE_OPEN = 4,
+    /* A breaker that is half open: `first` is the probes that it admitted, and `second` those that won. */
+    HIKEBOX_STATE_HALF_OPEN = 5,
+    /* A throttle: `first` is the requests, and `second` the accepts, of the present window and the one before. */
+    HIKEBOX_STATE_THROTTLE = 6,
+    /* An adaptive limit: `first` is the requests in flight, and `second` its level, in thousandths of one. */
+    HIKEBOX_STATE_ADAPTIVE = 7
+} hikebox_state_kind;
+
+/* A limit's state. */
+typedef struct {
+    /* The size of this struct. */
+    size_t size;
+    /* A hikebox_state_kind, which says what the numbers are. Those that it does not name are 0. */
+    uint64_t kind;
+    uint64_t first;
+    uint64_t second;
+    uint64_t third;
+    uint64_t until;
+} hikebox_state;
+
+/* A state to be written. */
+#define HIKEBOX_STATE                                                                                                  \
+    { sizeof(hikebox_state), 0, 0, 0, 0, 0 }
+
+/* Reads the state of one limit of the handle: `which` counts from 0, in the order in which they are asked. Only a
+ * throttle needs the moment. Nothing changes. HIKEBOX_WRONG_SIZE; _TOO_LARGE; _EMPTY; _WRONG_KIND; _OUT_OF_RANGE: the
+ * handle has no such limit. */
+HIKEBOX_CHECKED hikebox_status hikebox_limit_state(hikebox_limit *limit, uint32_t which, uint64_t now,
+                                                   hikebox_state *state);
+
+/* Opens each breaker of the handle by hand: it is open until the moment `until`, and this is its first trip. Results of
+ * runs that were admitted before change nothing. HIKEBOX_TOO_LARGE, of either moment; _EMPTY; _WRONG_KIND, also if no
+ * limit of the handle is a breaker. */
+hikebox_status hikebox_breaker_open(hikebox_limit *limit, uint64_t now, uint64_t until);
+
+/* Closes each breaker of the handle by hand: it has counted no failure. Results of runs that were admitted before
+ * change nothing. HIKEBOX_TOO_LARGE; _EMPTY; _WRONG_KIND, also if no limit of the handle is a breaker. */
+hikebox_status hikebox_breaker_close(hikebox_limit *limit, uint64_t now);
 
 /* The words that a look saw, of the limits of a handle in the order in which they are asked. */
 typedef struct {
@@ -915,6 +1004,105 @@ HIKEBOX_CHECKED hikebox_status hikebox_bucket_step(const hikebox_bucket *bucket,
 HIKEBOX_CHECKED hikebox_status hikebox_breaker_step(const hikebox_breaker *breaker, const uint64_t *times, size_t count,
                                                     const hikebox_told *told, hikebox_kept *kept,
                                                     hikebox_request *request, uint64_t *number);
+
+/* ---- Pace -------------------------------------------------------------------------------------------------------- */
+
+/*
+ * A pace keeps calls to a rate that a peer allows, such as ten a second and twenty at once. Before each run, first or
+ * retry, a call takes its place, is told the moment at which it may begin, and waits for that. There is no queue and no
+ * thread. Each thread takes with a handle of its own, which hikebox_pace_split gives it. This is the generic cell rate
+ * algorithm of ITU-T I.371.
+ *
+ *     status = hikebox_pace_take(&pace, now(), 1, &at);
+ *     if (status == HIKEBOX_OK) {
+ *         if (wait_until(at))
+ *             run();
+ *         else
+ *             hikebox_pace_give_back(&pace, &given);
+ *     }
+ *
+ * All takes with any handles act as one sequence. Of the takes that were granted and not given back, those that begin
+ * in any l milliseconds have a cost of at most burst + (1000 l - 1) / each, where the quotient is rounded down. That
+ * holds for any number of threads, whatever their clocks say: a thread whose clock is behind, or goes back, uses no
+ * time that others have used. Where the clock of one is ahead, the others wait for what it took. The moments are those
+ * that are told: a call that begins later than at its own may begin close to the next one.
+ *
+ * A pace begins at the moment 0 of its clock, and all at once may begin at its first moments. Its clock stands still
+ * from 2^51 - 1 ms on, which is more than 71,000 years: later moments count as that one.
+ */
+
+/* Makes a pace of one call each `each` microseconds (1 to 2^40) and up to `burst` calls at once (1 to 2^20), where no
+ * call waits longer than `longest` milliseconds (at most 2^37). HIKEBOX_FULL; _OUT_OF_RANGE; _NO_MEMORY. */
+HIKEBOX_CHECKED hikebox_status hikebox_pace_new(uint64_t each, uint64_t burst, uint64_t longest, hikebox_pace *pace);
+
+/* Puts another handle of the same pace into `part`, which has taken nothing. A handle that was made is split up to 2^42
+ * times, one that was split off it fewer than 2^20 times, and one that was split off that never. HIKEBOX_FULL; _EMPTY;
+ * _WRONG_KIND; _NO_MEMORY; _TOO_MANY_PASSES. */
+HIKEBOX_CHECKED hikebox_status hikebox_pace_split(hikebox_pace *pace, hikebox_pace *part);
+
+/*
+ * Takes the place of a call of this cost, 1 to the burst, and writes to `at` the moment at which it may begin: `now`
+ * itself wherever the rate and the burst allow it, and at most `longest` milliseconds later. If the call would wait
+ * longer it is refused, and `at` is the moment at which it would be granted if nobody takes until then, and not a
+ * millisecond before. Whatever is returned but _TOO_LARGE, _EMPTY and _WRONG_KIND, the take before it can't be given
+ * back any more. HIKEBOX_TOO_LARGE, of the moment; _EMPTY; _WRONG_KIND; _OUT_OF_RANGE, of the cost; _TOO_SOON;
+ * _RACES_LOST: 64 other calls came first.
+ */
+HIKEBOX_CHECKED hikebox_status hikebox_pace_take(hikebox_pace *pace, uint64_t now, uint64_t cost, uint64_t *at);
+
+/* Gives the last take of this handle back, for a call that is cancelled while it waits, and writes to `given` whether
+ * it has come back. It has not if a take was granted after it that stands: it then stays taken, and the bound holds.
+ * What was refused, or given back already, can't be given back. `given` must hold a bool before the call.
+ * HIKEBOX_EMPTY; _WRONG_KIND. */
+hikebox_status hikebox_pace_give_back(hikebox_pace *pace, bool *given);
+
+/* Writes the moment at which a call of cost 1 would begin that takes now, however long it would wait. Nothing changes.
+ * HIKEBOX_TOO_LARGE, of the moment; _EMPTY; _WRONG_KIND. */
+hikebox_status hikebox_pace_seen(hikebox_pace *pace, uint64_t now, uint64_t *at);
+
+/* Frees the handle. What it took stays taken. The pace lives as long as it has a handle. HIKEBOX_EMPTY; _WRONG_KIND. */
+hikebox_status hikebox_pace_free(hikebox_pace *pace);
+
+/*
+ * Processes share a pace by a store that keeps one word of it, as for a bucket above: each take, or each one that is
+ * given back, is one step of the store.
+ *
+ *     hikebox_rate rate = {100000, 20, 5000};
+ *     hikebox_mark mark = {0};
+ *     lock_and_read(&kept);
+ *     status = hikebox_pace_step(&rate, now(), 1, &kept, &mark, &at);
+ *     write_and_unlock(&kept);
+ *
+ * However the steps of all processes follow one another, they act as one sequence of takes on one pace, and the bound
+ * above holds if each process gives back by the mark that its own last take left, and by no other. What a process took
+ * that is killed stays taken. The moments of all processes count from one start.
+ */
+
+/* The terms of a pace, as hikebox_pace_new takes them. */
+typedef struct {
+    uint64_t each;
+    uint64_t burst;
+    uint64_t longest;
+} hikebox_rate;
+
+/* What gives the last take of a process back. All are 0 before its first take. */
+typedef struct {
+    /* Whether it was granted, and is not given back. */
+    bool granted;
+    /* Its cost, and the microseconds from moment 0 up to which the takes until then use the rate up. */
+    uint64_t cost;
+    uint64_t due;
+} hikebox_mark;
+
+/* Takes the place of a call, as hikebox_pace_take does. `kept` then has what the store must keep, and `mark` what gives
+ * the take back, also if it is refused by _TOO_SOON, or for its cost. HIKEBOX_OUT_OF_RANGE, of the rate; _TOO_LARGE, of
+ * the moment; _OUT_OF_RANGE, of the cost; _TOO_SOON. */
+HIKEBOX_CHECKED hikebox_status hikebox_pace_step(const hikebox_rate *rate, uint64_t now, uint64_t cost,
+                                                 hikebox_kept *kept, hikebox_mark *mark, uint64_t *at);
+
+/* Gives the last take of the process back, as hikebox_pace_give_back does. `given` must hold a bool before the call.
+ * HIKEBOX_OUT_OF_RANGE, of the rate. */
+hikebox_status hikebox_pace_step_back(const hikebox_rate *rate, hikebox_kept *kept, hikebox_mark *mark, bool *given);
 
 /* ---- Retries ----------------------------------------------------------------------------------------------------- */
 
@@ -1058,12 +1246,13 @@ enum {
     HIKEBOX_ON_BUDGET = 1,
     /* A quota of `reserve`, `share` and `period`. */
     HIKEBOX_ON_QUOTA = 2,
-    /* A limit, which a request asks before its first call too: a bucket, a bound on retries in flight, a breaker or a
-     * throttle. */
+    /* A limit, which a request asks before its first call too: a bucket, a bound on what is in flight, a breaker, a
+     * throttle or an adaptive limit. */
     HIKEBOX_ON_BUCKET = 3,
     HIKEBOX_ON_IN_FLIGHT = 4,
     HIKEBOX_ON_BREAKER = 5,
-    HIKEBOX_ON_THROTTLE = 6
+    HIKEBOX_ON_THROTTLE = 6,
+    HIKEBOX_ON_ADAPTIVE = 7
 };
 
 /* A phase of a storm's rate: from the end of the phase before it, or from 0, until this moment, so many requests a
@@ -1121,7 +1310,7 @@ typedef struct {
     uint64_t calls;
     /* The seed of the random words. */
     uint64_t words;
-    /* What retries draw on: HIKEBOX_ON_NOTHING to HIKEBOX_ON_THROTTLE. */
+    /* What retries draw on: HIKEBOX_ON_NOTHING to HIKEBOX_ON_ADAPTIVE. */
     uint64_t draws_on;
     /* The limit of a budget: at most HIKEBOX_MAX_TICKETS. */
     uint64_t limit;
@@ -1138,10 +1327,15 @@ typedef struct {
     uint64_t bucket_refund;
     uint64_t cost;
     uint64_t late_cost;
-    /* The least number of retries in flight, as hikebox_in_flight_new takes it with `share`. */
+    /* The least number of retries in flight and the most requests, as hikebox_in_flight_new takes them with `share`; or
+     * the terms of an adaptive limit, as hikebox_adaptive has them. */
     uint64_t least;
+    uint64_t most;
+    uint64_t first;
+    uint64_t backoff;
     /* The terms of a breaker, as hikebox_breaker has them. */
     uint64_t failures;
+    uint64_t results;
     uint64_t probes;
     uint64_t deadline;
     /* The ratio of a throttle, as hikebox_throttle_new takes it with `period`. */
@@ -1171,8 +1365,8 @@ typedef struct {
 #define HIKEBOX_STORM                                                                                                  \
     {                                                                                                                  \
         sizeof(hikebox_storm), 800, 1, 60, 1000, 500, 5000, 10000, 20000, 0, 0, 0, 1000, 120000, 16777216, 0,          \
-            HIKEBOX_ON_NOTHING, 0, 0, 0, 1, 0, 0, 0, 0, 0, 0, 0, 0, 0, 0, 0, 0, 0, { 0 }, 1, 0, 0, { { 0, 0 } },       \
-            { 0, 0, 0 }, { 0, 0, 0 }, { 0, 0, 0 }, 0                                                                   \
+            HIKEBOX_ON_NOTHING, 0, 0, 0, 1, 0, 0, 0, 0, 0, 0, 0, 0, HIKEBOX_NO_MOST, 0, 0, 0, 0, 0, 0, 0, 0, { 0 }, 1, \
+            0, 0, { { 0, 0 } }, { 0, 0, 0 }, { 0, 0, 0 }, { 0, 0, 0 }, 0                                               \
     }
 /* clang-format on */
 
@@ -1251,6 +1445,20 @@ HIKEBOX_CHECKED hikebox_status hikebox_storm_play_populations(hikebox_policy *po
                                                               hikebox_policy *third, hikebox_policy *fourth,
                                                               const hikebox_storm *storm, hikebox_window *windows,
                                                               size_t capacity, size_t *count, hikebox_totals *totals);
+
+/* The same, of requests that come at moments of their own: `arrivals` has `arrivals_count` of them, in milliseconds, at
+ * most 1,048,576, none before that in front of it and none after 7,200,000. Each is the moment of one request, in the
+ * place of the storm's `rate`, `together`, `seconds` and phases, which must be in their ranges all the same. If
+ * `arrivals_count` is 0 the requests come by these, and `arrivals` may be any pointer that is not null. A request whose
+ * moment is after `until` is none of the storm's. The call reads the moments while it runs, and keeps none.
+ * HIKEBOX_WRONG_SIZE, of the storm or the totals; _OUT_OF_RANGE, of a parameter or a moment, or of too many; _NO_ROOM,
+ * and then `count` is the room that is needed; _EMPTY, of `policy`; _WRONG_KIND, of any of the four; _NO_MEMORY, at any
+ * point. */
+HIKEBOX_CHECKED hikebox_status hikebox_storm_play_arrivals(hikebox_policy *policy, hikebox_policy *second,
+                                                           hikebox_policy *third, hikebox_policy *fourth,
+                                                           const hikebox_storm *storm, const uint64_t *arrivals,
+                                                           size_t arrivals_count, hikebox_window *windows,
+                                                           size_t capacity, size_t *count, hikebox_totals *totals);
 
 #ifdef __cplusplus
 }

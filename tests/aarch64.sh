@@ -47,7 +47,7 @@ tests_program() {
 }
 
 builds_c() {
-  local sources=("$top/tests/library.c" "$top/tests/policies.c" "$top/tests/leases.c" "$top/tests/structs.c" "$top/tests/limits.c" "$top/tests/looks.c")
+  local sources=("$top/tests/library.c" "$top/tests/policies.c" "$top/tests/leases.c" "$top/tests/structs.c" "$top/tests/limits.c" "$top/tests/looks.c" "$top/tests/states.c" "$top/tests/paces.c")
   cc "${flags[@]}" -o "$work/x86_64" "${sources[@]}" "$dist/libhikebox.a"
   "$cross-gcc" "${flags[@]}" -o "$work/linked" "${sources[@]}" "$dist/aarch64/libhikebox.a"
   ln -s "$dist/aarch64/libhikebox.so" "$work/libhikebox.so.1"
@@ -132,14 +132,14 @@ fetched() {
 # The groups of tests with musl, linked into a static program, and loaded by musl's loader: those without threads, since a
 # program of musl with threads crashes under qemu 7.2, and one without this library hangs there.
 tests_musl() {
-  local groups words kind sources=("$top/tests/library.c" "$top/tests/policies.c" "$top/tests/leases.c" "$top/tests/structs.c" "$top/tests/limits.c" "$top/tests/looks.c")
+  local groups words kind sources=("$top/tests/library.c" "$top/tests/policies.c" "$top/tests/leases.c" "$top/tests/structs.c" "$top/tests/limits.c" "$top/tests/looks.c" "$top/tests/states.c" "$top/tests/paces.c")
   local compiler=("$cross-gcc" -specs "$work/musl.specs" "${flags[@]}")
   sed "s#/usr/#$root/usr/#g" "$root/usr/lib/aarch64-linux-musl/musl-gcc.specs" >"$work/musl.specs"
   "${compiler[@]}" -static -o "$work/musl_linked" "${sources[@]}" "$dist/aarch64/libhikebox.a"
   # (the library names glibc's libc.so.6, which musl's loader takes as itself, and which no linker for musl finds)
   "${compiler[@]}" -o "$work/musl_loaded" "${sources[@]}" "-L$dist/aarch64" "-Wl,-rpath,$work" -lhikebox \
     -Wl,--allow-shlib-undefined
-  mapfile -t groups < <("$work/x86_64" groups | grep -vxE 'shares|leased|limits')
+  mapfile -t groups < <("$work/x86_64" groups | grep -vxE 'shares|leased|limits|paces')
   for kind in linked loaded; do
     for words in "${groups[@]}" calls; do
       # shellcheck disable=SC2086

@@ -27,8 +27,10 @@ STRUCTS = {
     "next": "Next",
     "run": "Run",
     "bucket": "BucketTerms",
+    "adaptive": "AdaptiveTerms",
     "breaker": "BreakerTerms",
     "seen": "Seen",
+    "state": "State",
     "usage": "Used",
     "phase": "Phase",
     "population": "Population",
@@ -63,7 +65,7 @@ def rust_type(declared):
 def constants_of_header(header):
     """The numbers of the enums and of the limits."""
     enums = re.findall(r"\b(HIKEBOX_\w+) = (\d+)", header)
-    limits = re.findall(r"#define (HIKEBOX_\w+) (?:UINT64_C\()?(\d+)", header)
+    limits = re.findall(r"#define (HIKEBOX_\w+) (?:UINT(?:32|64)_C\()?(\d+)", header)
     most = [(name, 2**64 - 1) for name in re.findall(r"#define (HIKEBOX_\w+) UINT64_MAX", header)]
     return {name: int(number) for name, number in enums + limits + most}
 

@@ -1,6 +1,7 @@
 #!/usr/bin/env python3
 """Looks at `zsched storm`: storms that were worked out by hand, the numbers of docs/STORMS.md, and 500 random storms,
-each byte for byte as tests/storms.py plays it by the rules alone. A half of them have several populations.
+each byte for byte as tests/storms.py plays it by the rules alone; and 150 more under each of three kinds of limits. A
+half of them have several populations.
 
     tests/check_storms.py [COUNT [SEED]]
 
@@ -56,8 +57,25 @@ SMALL_NUMBERS: List[Tuple[Dict[str, Any], Tuple[Optional[int], ...]]] = [
     ({"limit": "grpc:100/100"}, (4000, 800, 0, 4849, 49, 20_000)),
     ({"limit": "aws"}, (4000, 800, 0, 4900, 100, 20_000)),
     ({"limit": "inflight:3/200"}, (4003, 797, 0, 4824, 24, 20_000)),
+    ({"limit": "inflight:3/200/40"}, (4003, 797, 0, 4824, 24, 20_000)),
+    ({"limit": "inflight:3/1000/40"}, (4036, 748, 16, 4462, 410, 21_000)),
+    ({"limit": "adaptive:1/200/20/900"}, (3568, 1230, 2, 3626, 56, 26_000)),
+    ({"limit": "adaptive:5/100/50/500"}, (3997, 800, 3, 4057, 57, 21_000)),
     ({"limit": "breaker:5/1/1000"}, (2397, 2403, 0, 2404, 4, 41_000)),
+    ({"limit": "breaker:5/10/1/1000"}, (2397, 2403, 0, 2404, 4, 41_000)),
+    ({"limit": "breaker:16/32/3/1000"}, (2391, 2409, 0, 2416, 15, 41_000)),
     ({"limit": "throttle:2000/60000"}, (2839, 1944, 17, 4926, 1586, None)),
+]
+#: The same in a brown-out in the place of the outage.
+SLOW_NUMBERS: List[Tuple[Dict[str, Any], Tuple[Optional[int], ...]]] = [
+    ({}, (888, 0, 3912, 36_280, 0, None)),
+    ({"quota": "1/100/1000"}, (1915, 2885, 0, 5092, 292, 47_000)),
+    ({"limit": "inflight:3/200/40"}, (3705, 1095, 0, 4639, 63, 25_000)),
+    ({"limit": "inflight:3/1000/40"}, (4215, 585, 0, 4539, 324, 20_000)),
+    ({"limit": "adaptive:1/200/20/900"}, (4492, 308, 0, 4522, 30, 20_000)),
+    ({"limit": "adaptive:5/100/50/500"}, (4259, 541, 0, 4484, 225, 20_000)),
+    ({"limit": "breaker:5/10/1/1000"}, (2356, 2444, 0, 2404, 4, 42_000)),
+    ({"limit": "breaker:16/32/3/1000"}, (2345, 2455, 0, 2415, 15, 42_000)),
 ]
 
 #: The numbers that another program by the same rules gave.
@@ -78,6 +96,7 @@ KNOWN: List[Tuple[Any, Dict[str, Any], Dict[str, Any]]] = [
     (ONE, HALF_DOWN, {"won": 10_113, "calls": 87_200, "recovered": None}),
     (ONE, {**HALF_DOWN, **TENTH}, {"won": 44_450, "denied": 3550, "recovered": 20_000}),
     *((FULL, {**SMALL, **limit}, dict(zip(SMALL_TOTALS, numbers))) for limit, numbers in SMALL_NUMBERS),
+    *((FULL, {**SMALL, **BROWN_OUT, **limit}, dict(zip(SMALL_TOTALS, numbers))) for limit, numbers in SLOW_NUMBERS),
 ]
 #: Where no number is known: that it comes back.
 COMES_BACK = [(NO_RETRY, BROWN_OUT), (THREE, {**BROWN_OUT, **TENTH})]
@@ -96,6 +115,10 @@ def played(program: List[str], plan: Any, options: Dict[str, Any], form: str = "
         others = [f"{words}={file_of(f'{at}.json', own)}" for at, (words, own) in enumerate(given.pop("beside", []))]
         if "open" in given:
             given["open"] = file_of("open.json", given["open"])
+        if "arrivals" in given:
+            lines = Path(folder) / "moments.txt"
+            lines.write_text("".join(f"{moment}\n" for moment in given["arrivals"]))
+            given["arrivals"] = lines
         words = [word for name, value in given.items() for word in (f"--{name}", str(value))]
         words += [word for other in others for word in ("--beside", other)]
         command = [*program, *words, form, file_of("plan.json", plan)]
@@ -215,8 +238,22 @@ BAD = [
     "--limit bucket:9/1/10/1/1/1",
     "--limit bucket:9/1/1/1/1/1+twice",
     "--limit inflight:4294967296/1",
+    "--limit inflight:1/1/4294967296",
+    "--limit inflight:1/1/1/1",
+    "--limit inflight:1/1/",
+    "--limit adaptive:1/10/2",
+    "--limit adaptive:0/10/2/900",
+    "--limit adaptive:3/10/2/900",
+    "--limit adaptive:1/10/11/900",
+    "--limit adaptive:1/65536/2/900",
+    "--limit adaptive:1/10/2/0",
+    "--limit adaptive:1/10/2/1000",
     "--limit breaker:0/1/1",
     "--limit breaker:1/16/1",
+    "--limit breaker:0/1/1/1",
+    "--limit breaker:3/2/1/1",
+    "--limit breaker:1/33/1/1",
+    "--limit breaker:1/1/16/1",
     "--limit throttle:999/1",
     "--limit throttle:1000/0",
     "--limit aws --open other.json",
@@ -259,6 +296,15 @@ BAD = [
     "--sweep rate=1,2 --plain",
     "--sweep rate=1,2 --compare other.json",
     "--rate 1 --rate 2",
+    "--arrivals moments.txt --rate 5",
+    "--arrivals moments.txt --rates 0..1@1",
+    "--arrivals moments.txt --together 2",
+    "--arrivals moments.txt --seconds 2",
+    "--arrivals moments.txt --arrivals moments.txt",
+    "--arrivals moments.txt --sweep rate=1,2",
+    "--arrivals moments.txt --sweep clients=1,2",
+    "--arrivals moments.txt --sweep together=1,2",
+    "--arrivals moments.txt --until 65537 --window 1",
     "--beside 30",
     "--beside 30=",
     "--beside =other.json",
@@ -287,6 +333,56 @@ def looks_at_words(program: List[str]) -> List[str]:
     return wrong
 
 
+#: Files of moments that are refused, and why.
+UNFIT: List[Tuple[bytes, str]] = [
+    (b"", "expected 1 to 1048576 lines, got none"),
+    (b"\n", "line 1: expected milliseconds from 0 to 7200000, got ''"),
+    (b"5\n4\n", "line 2: expected milliseconds from 5 to 7200000, got '4'"),
+    (b"5\n\n6\n", "line 2: expected milliseconds from 5 to 7200000, got ''"),
+    (b"0\n0\n-1", "line 3: expected milliseconds from 0 to 7200000, got '-1'"),
+    (b"1.5\n", "line 1: expected milliseconds from 0 to 7200000, got '1.5'"),
+    (b"12 \n", "line 1: expected milliseconds from 0 to 7200000, got '12 '"),
+    (b"7200000\n7200001\n", "line 2: expected milliseconds from 7200000 to 7200000, got '7200001'"),
+    (b"1\n" + b"9" * 100, f"line 2: expected milliseconds from 1 to 7200000, got '{'9' * 32}'"),
+    (b"1\n\xff\n", "line 2: expected milliseconds from 1 to 7200000, got no text"),
+    (b"3\n" * 1_048_577, "line 1048577: expected at most 1048576 lines, got one more"),
+]
+
+
+def looks_at_files(program: List[str]) -> List[str]:
+    """What is wrong with how files of moments are read: the most lines that may be are played, and others refused."""
+    wrong = []
+    with tempfile.TemporaryDirectory() as folder:
+        (Path(folder) / "a.json").write_text('{"recurs":0}')
+        moments = Path(folder) / "moments.txt"
+        command = [*program, "--arrivals", "moments.txt"]
+
+        def done(*words: str) -> Tuple[int, str, str]:
+            run = subprocess.run([*command, *words, "a.json"], capture_output=True, text=True, cwd=folder)
+            return run.returncode, run.stdout, run.stderr
+
+        for text, reason in UNFIT:
+            moments.write_bytes(text)
+            if done() != (3, "", f"zsched: number out of range\nmoments.txt: {reason}\n"):
+                wrong.append(f"{text[:20]!r}: {done()}, wanted {reason}")
+        moments.write_bytes(b"0\n" * 1_048_576)
+        status, output, _ = done("--capacity", "1000000", "--queue", "1048576", "--json", "--outage", "0..0")
+        if status != 0 or json.loads(output)["totals"]["requests"] != 1_048_576:
+            wrong.append(f"the most lines: status {status}: {output[:200]}")
+        moments.write_bytes(b"6000000")
+        if done("--window", "1") != (3, "", WIDE):
+            wrong.append(f"a storm with too many windows: {done('--window', '1')}")
+        moments.unlink()
+        status, output, errors = done()
+        if (status, output) != (4, "") or not errors.startswith("zsched: read failed\nmoments.txt: "):
+            wrong.append(f"no file: {status} {output} {errors}")
+    return wrong
+
+
+WIDE = """\
+zsched: number out of range
+--until: 60 s after the last moment are more than 65536 times '--window <M>'
+"""
 #: The windows of a storm, without bars, and with bars in lines that are 80 and 72 columns wide.
 PLAIN = """\
   from  requests  won  retries  succeeded  refused  shed  late  waiting
@@ -346,7 +442,7 @@ slowest ms               -             -            11             -
 recovered ms         never         never             -         never
 """
 #: Limits under each of which two plans are played, with a plan of open times: the breaker is open for 300 ms each time.
-LIMITS = ["grpc:100/100", "breaker:5/1/1000", "inflight:3/200", "throttle:2000/60000"]
+LIMITS = ["grpc:100/100", "breaker:5/1/1000", "inflight:3/200", "adaptive:1/200/20/900", "throttle:2000/60000"]
 OPEN = '{"spaced":300}'
 
 
@@ -401,6 +497,7 @@ SWEPT = {"rate": 100, "capacity": 120, "seconds": 5, "outage": "1000..2000"}
 SWEEPS: List[Tuple[str, Dict[str, Any], List[Tuple[str, Dict[str, Any]]]]] = [
     ("rate=50,100", {}, [("50", {"rate": 50}), ("100", {"rate": 100})]),
     ("rate=50,100", {"rates": "500..1500@130"}, [("50", {"rate": 50}), ("100", {"rate": 100})]),
+    ("capacity=90,101", {"arrivals": list(range(0, 900, 9))}, [("90", {"capacity": 90}), ("101", {"capacity": 101})]),
     ("clients=10,200", {}, [("10", {"rate": 10, "together": 10}), ("200", {"rate": 200, "together": 200})]),
     ("together=1,50", {}, [("1", {"together": 1}), ("50", {"together": 50})]),
     ("capacity=90..101/3", {}, [("90", {"capacity": 90}), ("96", {"capacity": 96}), ("101", {"capacity": 101})]),
@@ -440,15 +537,19 @@ def looks_at_sweeps(program: List[str]) -> List[str]:
     """What is wrong with storms along a parameter, each of which the rules alone play too."""
     wrong = []
     for sweep, more, storms_of in SWEEPS:
-        singles = [told(SLOWLY, THREE, {**SWEPT, **more, **options})["totals"] for _, options in storms_of]
+        swept = {**SWEPT, **more}
+        if "arrivals" in more:
+            swept = {name: value for name, value in swept.items() if name not in ("rate", "seconds")}
+        singles = [told(SLOWLY, THREE, {**swept, **options})["totals"] for _, options in storms_of]
         name, values = sweep.partition("=")[0], [value for value, _ in storms_of]
         numbers = ",".join(json.dumps(totals, separators=(",", ":")) for totals in singles)
-        as_json = f'{{"parameter":"{name}","values":[{",".join(values)}],"totals":[{numbers}]}}\n'
+        said = f',"arrivals":{len(more["arrivals"])}' if "arrivals" in more else ""
+        as_json = f'{{"parameter":"{name}","values":[{",".join(values)}],"totals":[{numbers}]{said}}}\n'
         lines = [",".join([name, *singles[0]])]
         lines += [",".join([value, *map(_cell, totals.values())]) for value, totals in zip(values, singles)]
         as_csv = "".join(f"{line}\n" for line in lines)
         for form, wanted in (("--json", as_json), ("--csv", as_csv)):
-            got = played(program, THREE, {**SWEPT, **more, "sweep": sweep}, form)
+            got = played(program, THREE, {**swept, "sweep": sweep}, form)
             if got != (0, wanted, ""):
                 wrong.append(f"{sweep} {form}: {got}, wanted {wanted}")
     table = played(program, THREE, {**SWEPT, "sweep": "outage=0..1000/3"}, "--width=80")
@@ -461,9 +562,9 @@ def _cell(number: Any) -> str:
     return "" if number is None else str(number).lower()
 
 
-def some_storm(rng: random.Random) -> Tuple[Any, Dict[str, Any]]:
-    """A random policy with the options of a storm. One that looks back far, which the definitions play slowly, is
-    cut early."""
+def some_storm(rng: random.Random, kind: Optional[str] = None) -> Tuple[Any, Dict[str, Any]]:
+    """A random policy with the options of a storm, under a limit of this kind where one is named. One that looks back
+    far, which the definitions play slowly, is cut early."""
     if rng.random() < 0.6:
         delay = rng.choice(
             [{"spaced": rng.randrange(1, 400)}, {"exponential": [rng.randrange(1, 100), 2]}, BACK_OFF, {"linear": 30}]
@@ -502,18 +603,30 @@ def some_storm(rng: random.Random) -> Tuple[Any, Dict[str, Any]]:
         options["until"] = rng.choice([0, 1, 400, 1000 * seconds, 5000])
     if rng.random() < 0.7:
         options["words"] = rng.choice([0, 1, rng.randrange(2**64)])
-    limit = rng.choice(["budget", "quota", "limit", "limit", "limit", None])
+    limit = "limit" if kind else rng.choice(["budget", "quota", "limit", "limit", "limit", None])
     if limit == "budget":
         options[limit] = rng.choice([0, 1, 30, 2**32])
     if limit == "quota":
         options[limit] = f"{rng.choice([0, 1, 10])}/{rng.choice([0, 1, 100, 1500])}/{rng.choice([100, 101, 1000])}"
     if limit == "limit":
-        options[limit] = some_limit(rng)
+        options[limit] = some_limit(rng, kind)
         if options[limit].startswith("breaker") and rng.random() < 0.7:
             options["open"] = rng.choice(
                 [{"spaced": 40}, {"exponential": [100, 2]}, {"meet": [{"recurs": 3}, {"linear": 30}]}]
             )
     return plan, options
+
+
+def some_arrivals(rng: random.Random, options: Dict[str, Any]) -> Dict[str, Any]:
+    """The same options, with random moments in the place of the rate."""
+    moment = rng.choice([0, 0, 1, 1000])
+    step = rng.choice([1, 3, 25, 300])
+    moments = []
+    for _ in range(rng.choice([1, 2, 30, 400])):
+        moments.append(moment)
+        moment += rng.choice([0, 0, 1, rng.randrange(step), step])
+    kept = {name: value for name, value in options.items() if name not in ("rate", "rates", "together", "seconds")}
+    return {"arrivals": moments, **kept}
 
 
 def some_populations(rng: random.Random, is_brief: bool) -> List[Tuple[str, Any]]:
@@ -547,22 +660,32 @@ def some_rates(rng: random.Random, rate: int, seconds: int) -> str:
     return ",".join(words)
 
 
-def some_limit(rng: random.Random) -> str:
+#: The kinds of limits, of which random storms have each, and some more those whose words have more numbers.
+KINDS = ["bucket", "grpc", "aws", "inflight", "breaker", "throttle"]
+MORE_KINDS = ["inflight with a most", "adaptive", "breaker by results"]
+
+
+def some_limit(rng: random.Random, kind: Optional[str] = None) -> str:
     """A random limit."""
-    kind = rng.choice(["bucket", "grpc", "aws", "inflight", "breaker", "throttle"])
+    kind = kind or rng.choice(KINDS)
     if kind == "aws":
         return kind
     if kind == "bucket":
         capacity = rng.choice([0, 1, 50, 1000, 10_000])
         numbers = [capacity, *(rng.randint(0, capacity) for _ in range(5))]
         return f"bucket:{'/'.join(map(str, numbers))}{rng.choice(['', '+refund'])}"
+    least, first, most = sorted(rng.choice([1, 2, 5, 20, 100, 65_535]) for _ in range(3))
+    results = rng.randint(1, 32)
     numbers = {
         "grpc": [rng.choice([1, 4, 10, 100]), rng.choice([0, 1, 100, 1000])],
         "inflight": [rng.choice([0, 1, 3, 30]), rng.choice([0, 20, 200, 1000, 5000])],
         "breaker": [rng.choice([1, 2, 5, 20]), rng.choice([1, 2, 15]), rng.choice([0, 1, 50, 1000])],
         "throttle": [rng.choice([1000, 1100, 2000, 5000]), rng.choice([1, 100, 1000, 60_000])],
+        "inflight with a most": [rng.choice([0, 1, 3]), rng.choice([0, 200, 1000]), rng.choice([0, 1, 2, 10, 40, 300])],
+        "adaptive": [least, most, first, rng.choice([1, 500, 900, 999])],
+        "breaker by results": [rng.randint(1, results), results, rng.choice([1, 2, 15]), rng.choice([0, 50, 1000])],
     }[kind]
-    return f"{kind}:{'/'.join(map(str, numbers))}"
+    return f"{kind.split()[0]}:{'/'.join(map(str, numbers))}"
 
 
 def _span(rng: random.Random, seconds: int) -> str:
@@ -571,9 +694,12 @@ def _span(rng: random.Random, seconds: int) -> str:
 
 
 def differs(seed: str) -> Optional[str]:
-    """How the two programs differ on the storm of this seed."""
+    """How the two programs differ on the storm of this seed. Its requests come by moments where the seed says so."""
     rng = random.Random(seed)
-    plan, options = some_storm(rng)
+    moments = seed.endswith("by moments")
+    plan, options = some_storm(rng, "" if moments else seed.partition(":")[2])
+    if moments:
+        options = some_arrivals(rng, options)
     if rng.random() < 0.5:
         options["beside"] = some_populations(rng, options["calls"] <= 40)
     for form in ("--json", "--csv"):
@@ -585,6 +711,7 @@ def differs(seed: str) -> Optional[str]:
 
 def main() -> int:
     count = int(sys.argv[1]) if len(sys.argv) > 1 else 500
+    more = count * 3 // 10
     seed = sys.argv[2] if len(sys.argv) > 2 else "7"
     knows = subprocess.run([ZSCHED, "storm", "--help"], capture_output=True).returncode == 0
     programs = [SLOWLY, [ZSCHED, "storm"]] if knows else [SLOWLY]
@@ -592,14 +719,19 @@ def main() -> int:
     wrong += looks_at_numbers(programs[-1])
     if knows:
         wrong += looks_at_words(programs[-1]) + looks_at_lines(programs[-1]) + looks_at_limits(programs[-1])
-        wrong += looks_at_sweeps(programs[-1])
+        wrong += looks_at_sweeps(programs[-1]) + looks_at_files(programs[-1])
+        seeds = [f"{seed}.{number}" for number in range(count)]
+        seeds += [f"{seed}.{number} by moments" for number in range(count * 3 // 5)]
+        seeds += [f"{seed}.{number}:{kind}" for kind in MORE_KINDS for number in range(more)]
         with Pool() as pool:
-            wrong += filter(None, pool.imap_unordered(differs, [f"{seed}.{number}" for number in range(count)]))
+            wrong += filter(None, pool.imap_unordered(differs, seeds))
     for line in wrong[:20]:
         print(f"tests/check_storms.py: {line[:2000]}", file=sys.stderr)
     if not wrong:
         compared = (
-            f"{count} random storms are played alike" if knows else "zsched knows no storms, and was not looked at"
+            f"{count + more * len(MORE_KINDS)} random storms and {count * 3 // 5} by moments are played alike"
+            if knows
+            else "zsched knows no storms, and was not looked at"
         )
         print(
             f"tests/check_storms.py: {len(WORKED) + len(BESIDE)} storms by hand and "

@@ -35,8 +35,12 @@ int limits(void);
 void draws(hikebox_limit *limit, uint64_t now, uint64_t cost, hikebox_status wanted, uint64_t says);
 void admits(hikebox_limit *limit, uint64_t now, hikebox_status wanted, uint64_t says);
 
-// Those of looks.c, which limits() makes.
+// Those of looks.c and of states.c, which limits() makes.
 void limits_looked_at(void);
+void limits_seen(void);
+
+// Those of paces.c.
+int paces(void);
 
 // Those of structs.c.
 int sizes(void);

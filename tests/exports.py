@@ -30,7 +30,9 @@ RATTLE = {
     "&mut [WindowTold]": ["hikebox_window *", "size_t"],
     "&mut SizedTotals": ["hikebox_totals *"],
     "&BucketGiven": ["const hikebox_bucket *"],
+    "&AdaptiveGiven": ["const hikebox_adaptive *"],
     "&BreakerGiven": ["const hikebox_breaker *"],
+    "&mut StateTold": ["hikebox_state *"],
     "&Asking": ["const hikebox_asking *"],
     "&mut Stored": ["hikebox_stored *"],
     "&mut Range": ["hikebox_range *"],
@@ -41,6 +43,8 @@ RATTLE = {
     "&ToldGiven": ["const hikebox_told *"],
     "&mut KeptGiven": ["hikebox_kept *"],
     "&mut HeldGiven": ["hikebox_request *"],
+    "&RateGiven": ["const hikebox_rate *"],
+    "&mut MarkGiven": ["hikebox_mark *"],
     "u64": ["uint64_t"],
     "u32": ["uint32_t"],
     "bool": ["bool"],
@@ -60,7 +64,9 @@ STRUCTS = {
     "WindowTold": "hikebox_window",
     "SizedTotals": "hikebox_totals",
     "BucketGiven": "hikebox_bucket",
+    "AdaptiveGiven": "hikebox_adaptive",
     "BreakerGiven": "hikebox_breaker",
+    "StateTold": "hikebox_state",
     "Asking": "hikebox_asking",
     "Stored": "hikebox_stored",
     "Range": "hikebox_range",
@@ -69,6 +75,8 @@ STRUCTS = {
     "ToldGiven": "hikebox_told",
     "KeptGiven": "hikebox_kept",
     "HeldGiven": "hikebox_request",
+    "RateGiven": "hikebox_rate",
+    "MarkGiven": "hikebox_mark",
     "Words": "hikebox_seen",
 }
 #: The crate whose calls are exported as they are.
@@ -100,7 +108,7 @@ def declared():
         for parameter in parameters.split(","):
             kind, _, array = re.fullmatch(r"\s*(.*?[\s*])(\w+)(\[\d+\])?\s*", parameter, re.S).groups()
             kind = " ".join((kind + ("*" if array else "")).replace("*", " * ").split())
-            types.append(re.sub(r"hikebox_(policy|pass|retry|leased|limit) \*", "handle *", kind))
+            types.append(re.sub(r"hikebox_(policy|pass|retry|leased|limit|pace) \*", "handle *", kind))
         calls[name] = types
     return calls
 

@@ -4,6 +4,7 @@ from __future__ import annotations
 
 import base64
 import contextlib
+import gzip
 import json
 import os
 import re
@@ -12,7 +13,7 @@ import subprocess
 import sys
 import time
 from pathlib import Path
-from typing import Dict, Iterator
+from typing import Dict, Iterator, List
 
 import pytest
 
@@ -32,6 +33,8 @@ return width === widthOf(document.getElementById('played'));
 """
 #: The sizes of a laptop, a tablet and a phone.
 SIZES = [(1280, 720), (820, 1180), (390, 844)]
+#: Keeps the browser's dialog of files shut.
+INTERCEPTED = {"cmd": "Page.setInterceptFileChooserDialog", "params": {"enabled": True}}
 #: Where screenshots are left, if anywhere.
 SHOTS = os.environ.get("HIKEBOX_SHOTS")
 
@@ -131,6 +134,21 @@ def becomes_another(browser: Browser, figure: str, before: str) -> None:
 
 def text_of(browser: Browser, identity: str) -> str:
     return str(browser.run("return document.getElementById(arguments[0]).textContent", identity))
+
+
+#: The rows of the totals, each with its texts.
+ROWS = """
+return [...document.querySelectorAll("#totals tbody tr")].map((row) =>
+  [...row.cells].map((cell) => cell.textContent.replaceAll("\\u00a0", " ")));
+"""
+
+
+def comes_to_total(browser: Browser, name: str, cells: List[str]) -> None:
+    """Waits until a row of the totals has these cells."""
+    ends = time.monotonic() + 120
+    while [name, *cells] not in browser.run(ROWS):
+        assert time.monotonic() < ends, (name, cells, browser.run(ROWS))
+        time.sleep(0.1)
 
 
 #: Puts a text into a box, as if it was typed at once.
@@ -286,7 +304,7 @@ def test_all_of_it_by_the_keyboard(browser: Browser, lab: Lab) -> None:
     browser.wait("return document.getElementById('a-limit-fault').textContent.includes('RESERVE/SHARE%/PERIOD')")
     browser.keys("a", held=CONTROL)
     browser.keys("100")
-    browser.wait("return document.getElementById('a-lines').textContent.includes('100 tickets given')")
+    comes_to_total(browser, "tickets for retries", ["100", "900"])
     # one call of it
     browser.run("document.querySelector('#side-a summary').focus()")
     browser.keys(" ")
@@ -659,6 +677,240 @@ def test_clients_beside_by_the_keyboard_the_link_and_the_copies(browser: Browser
     assert browser.complaints() == []
 
 
+@pytest.mark.parametrize("dark", [False, True], ids=["light", "dark"])
+@pytest.mark.parametrize("width, height", SIZES)
+def test_totals_are_a_table_of_a_beside_b(browser: Browser, lab: Lab, width: int, height: int, dark: bool) -> None:
+    browser.open("about:blank")
+    browser.resize(width, height)
+    browser.is_dark(dark)
+    browser.open(f"{lab.address}#story=beside&b-limit=")
+    browser.wait(PLAYED)
+    rows = browser.run(ROWS)
+    names = [row[0] for row in rows]
+    assert names[:3] == ["succeeded", "recovery", "calls per request"] and names.count("succeeded") == 3
+    heads = [row[0] for row in rows if len(row) == 1]
+    assert heads == ["Own clients, 70 % of the requests", "Clients beside, 30 % of the requests"]
+    assert rows[0] == ["succeeded", "83.3 %", "18.4 %"] and ["tickets for retries", "900", "–"] in rows
+    # each fact stands once in a group
+    groups = [names[: names.index(heads[0])], names[names.index(heads[0]) : names.index(heads[1])]]
+    assert all(len(set(group)) == len(group) for group in groups)
+    # who can't see it hears its name, and of each cell the row and the column
+    (table,) = browser.elements("#totals")
+    assert browser.label(table) == "Totals"
+    assert browser.run("return [...document.querySelectorAll('#totals thead th')].map((head) => head.scope)") == [
+        "col",
+        "col",
+    ]
+    scopes = browser.run("return [...document.querySelectorAll('#totals tbody tr')].map((row) => row.cells[0].scope)")
+    assert scopes == ["rowgroup" if len(row) == 1 else "row" for row in rows]
+    # no cell lies upon another one, or is cut
+    wrong = browser.run(
+        """
+        const cells = [...document.querySelectorAll("#totals th, #totals td")];
+        const boxes = cells.map((cell) => {
+          const inside = document.createRange();
+          inside.selectNodeContents(cell);
+          return [cell, cell.getBoundingClientRect(), inside.getBoundingClientRect()];
+        });
+        const crosses = (one, other) => one.left < other.right - 1 && other.left < one.right - 1
+          && one.top < other.bottom - 1 && other.top < one.bottom - 1;
+        const isCut = (cell, text) => cell.scrollWidth > cell.clientWidth + 1 || text.right > innerWidth;
+        return boxes.filter(([cell, , text], at) => isCut(cell, text)
+          || boxes.some(([, , other], index) => index !== at && crosses(text, other))).map(([cell]) => cell.innerText);
+        """
+    )
+    assert wrong == []
+    ratio, text = browser.run(CONTRAST)
+    assert ratio >= 4.5, text
+    browser.run("document.getElementById('totals').scrollIntoView({ block: 'end' })")
+    shot(browser, f"totals-{'dark' if dark else 'light'}-{width}")
+
+
+def logged(folder: Path, *counts: int) -> Path:
+    """A log of the combined format with so many requests in each second, and three lines that are none."""
+    lines = []
+    for second, count in enumerate(counts):
+        time = f"29/Nov/2026:17:{30 + second // 60}:{second % 60:02} +0000"
+        lines += [f'192.0.2.1 - - [{time}] "GET / HTTP/1.1" 200 5 "-" "-" 0.250'] * count
+    file = folder / "access.log"
+    file.write_text("\n".join([*lines, "spoilt", "", "spoilt"]) + "\n")
+    return file
+
+
+#: 30 s of 100 requests a second, then 10 s of 400 and 20 s of 100 again.
+COUNTS = [100] * 30 + [400] * 10 + [100] * 20
+TAKEN = [
+    "The common or the combined format: took 9,000 lines, skipped 3 (1 empty, 2 not of the format)",
+    "From 2026-11-29 17:30:00 UTC on, 60 s; the busiest second is 2026-11-29 17:30:30, with 400 requests",
+    "Half took at most 250 ms, 99 in 100 at most 250 ms, the slowest 250 ms",
+    "Played: 60 s from 2026-11-29 17:30:00 UTC on, as 3 spans with an even pace in each: 9,000 requests (the log has "
+    "9,000), at most 400 in a second",
+    "Assumed: patience 250 ms (the slowest answer)",
+    "Assumed: capacity 400 calls a second (the most that was answered in a second; the peer may be able to do more)",
+]
+#: What is told of the log.
+LINES = """
+return [...document.querySelectorAll("#log-lines li")].map((line) => line.textContent.replaceAll("\u00a0", " "));
+"""
+
+
+@pytest.mark.parametrize("dark", [False, True], ids=["light", "dark"])
+@pytest.mark.parametrize("width, height", SIZES)
+def test_a_log_that_is_dropped_is_played(
+    browser: Browser, lab: Lab, tmp_path: Path, width: int, height: int, dark: bool
+) -> None:
+    browser.resize(width, height)
+    browser.is_dark(dark)
+    browser.wait(DRAWN)
+    browser.drop(logged(tmp_path, *COUNTS))
+    comes_to(browser, "of 9,000 requests")
+    assert browser.run(LINES) == TAKEN
+    texts = browser.run("return [...document.querySelectorAll('#logged text')].map((text) => text.textContent)")
+    assert {"requests of the log", "as they are played", "requests/s", "400"} <= set(texts)
+    values = "return ['seconds', 'patience', 'capacity'].map((id) => document.getElementById(id).value)"
+    assert browser.run(values) == ["60", "250", "400"]
+    # its curve is under the picture, and the sliders of the rates are away
+    under = (
+        "const [above, below] = ['played', 'logged'].map((id) => document.getElementById(id).getBoundingClientRect());"
+        "return below.height > 0 && below.top >= above.bottom && below.right <= innerWidth"
+    )
+    assert browser.run(under)
+    hidden = "return ['rate', 'rates0', 'rates1', 'rates2', 'together'].map((id) => byId(id).offsetParent)"
+    assert browser.run(hidden) == [None] * 5
+    ratio, text = browser.run(CONTRAST)
+    assert ratio >= 4.5, text
+    assert browser.run(CROSSING) == []
+    assert browser.run("return document.documentElement.scrollWidth <= innerWidth")
+    if width == 1280:
+        assert browser.run("return document.documentElement.scrollHeight <= innerHeight")
+    asked = browser.requests()
+    assert all(address.startswith((lab.address, "data:", "about:")) for address in asked), asked
+    assert browser.complaints() == []
+    shot(browser, f"log-{'dark' if dark else 'light'}-{width}")
+
+
+@pytest.mark.parametrize("width, height", SIZES)
+def test_a_log_by_the_keyboard_and_back_to_the_rates(browser: Browser, tmp_path: Path, width: int, height: int) -> None:
+    browser.resize(width, height)
+    browser.wait(DRAWN)
+    types(browser, "patience", "700")
+    browser.tab_to("log-file")
+    # (the dialog itself is the browser's)
+    browser.run(
+        "document.getElementById('log-file').addEventListener('click', (event) => { window.opened = event.isTrusted; })"
+    )
+    browser.call("POST", "/goog/cdp/execute", INTERCEPTED)
+    browser.keys(" ")
+    browser.wait("return window.opened")
+    browser.choose("log-file", logged(tmp_path, *COUNTS))
+    comes_to(browser, "of 9,000 requests")
+    assert browser.run(LINES) == TAKEN
+    assert text_of(browser, "log-told") == "The requests are those of access.log."
+    # its busiest ten seconds
+    browser.tab_to("seconds")
+    browser.keys("a", held=CONTROL)
+    browser.keys("10")
+    comes_to(browser, "of 4,000 requests")
+    assert browser.run(LINES)[3].startswith("Played: 10 s from 2026-11-29 17:30:30 UTC on, as 1 span")
+    types(browser, "seconds", "60")
+    comes_to(browser, "of 9,000 requests")
+    # the link has the spans, and needs no log
+    browser.wait("return location.hash.includes('rates=0-30000-100_40000-60000-100')")
+    link = browser.address
+    (back,) = browser.elements("#log-back")
+    assert browser.label(back) == "Back to rates"
+    browser.run("document.getElementById('log-back').focus()")
+    browser.keys(" ")
+    comes_to(browser, "of 48,000 requests")
+    assert text_of(browser, "log-told") == "The requests come by rates."
+    kept = (
+        "return ['rate', 'seconds', 'patience', 'capacity', 'log-file'].map((id) => document.getElementById(id).value)"
+    )
+    assert browser.run(kept) == ["800", "60", "700", "1000", ""]
+    assert browser.run(LINES) == [] and not browser.run("return document.querySelector('#logged svg')")
+    assert browser.run("return document.getElementById('log-back').hidden")
+    assert browser.run("return document.activeElement.id") == "log-file"
+    browser.open("about:blank")
+    browser.open(link)
+    browser.wait(PLAYED)
+    comes_to(browser, "of 9,000 requests")
+    assert browser.run(LINES) == ["2 spans of requests come at a rate of their own."]
+    assert "--rates 0..30000@100,40000..60000@100" in browser.run("return programs[0].command")
+    browser.tab_to("log-back")
+    browser.keys(" ")
+    comes_to(browser, "of 48,000 requests")
+    assert browser.complaints() == []
+
+
+def test_a_file_that_is_no_log_is_told_at_the_picture(browser: Browser, tmp_path: Path) -> None:
+    file, wanted = (
+        tmp_path / "no.log",
+        "expected lines of an access log (nginx's or Apache's, JSON lines, or CSV), got ",
+    )
+    for body, said in [
+        (b"", f"{wanted}no line."),
+        (b"no log\n" * 2000, f"{wanted}1000 lines of no known format."),
+        (b"x" * (1 << 20), f"{wanted}lines that are none: 1 longer than 65536 bytes."),
+        (gzip.compress(b"1795973400,x\n")[:-1], "expected whole gzip data: it ends too soon."),
+    ]:
+        file.write_bytes(body)
+        browser.drop(file)
+        browser.wait(f"return document.getElementById('log-said').textContent === {json.dumps(f'no.log: {said}')}")
+    assert brief(browser) == NEVER and browser.run(LINES) == []
+    # a file that is too large is not read at all
+    browser.run("known.most_log = 5")
+    file.write_bytes(b"1795973400,x\n")
+    browser.drop(file)
+    said = "no.log: expected at most 5 bytes, got 13: hikebox storm --log takes larger ones."
+    browser.wait(f"return document.getElementById('log-said').textContent === '{said}'")
+    browser.run("known.most_log = 500")
+    browser.drop(file, logged(tmp_path, 5))
+    browser.wait("return document.getElementById('log-said').textContent === 'Expected one access log, got 2 files.'")
+    # a file that is gone, and a folder
+    browser.run(
+        "const real = ask; window.sent = false;"
+        "ask = (name, ...rest) => { window.sent ||= name.startsWith('log?'); return real(name, ...rest); }"
+    )
+    browser.drop(tmp_path)
+    browser.wait("return document.getElementById('log-said').textContent.includes(': the browser can\\'t read it')")
+    assert not browser.run("return window.sent")
+    browser.drop(file)
+    comes_to(browser, "of 1 request succeeded")
+    assert text_of(browser, "log-said") == ""
+    # a story has its own requests
+    browser.run("document.querySelector('[value=jitter]').click()")
+    comes_to(browser, "of 10,000 requests")
+    assert browser.run(LINES) == []
+
+
+def test_a_log_that_is_read_for_long_shows_that_and_another_one_breaks_it_off(
+    browser: Browser, lab: Lab, tmp_path: Path
+) -> None:
+    long = tmp_path / "long.gz"
+    long.write_bytes(gzip.compress(b"\n" * (64 << 20)) * 15)
+    browser.drop(long)
+    browser.wait("return !document.getElementById('busy').hidden")
+    assert text_of(browser, "busy-said") == "Reading long.gz; another log breaks it off."
+    at_work = lab.at_work()
+    browser.drop(logged(tmp_path, *COUNTS))
+    comes_to(browser, "of 9,000 requests")
+    browser.wait("return document.getElementById('busy').hidden")
+    assert text_of(browser, "log-said") == ""
+    ends = time.monotonic() + 120
+    while at_work in lab.players():
+        assert time.monotonic() < ends, "the process that read the long log is still there"
+        time.sleep(0.1)
+
+
+def test_a_text_that_is_dropped_is_no_log(browser: Browser) -> None:
+    data = {"items": [{"mimeType": "text/plain", "data": "recurs(1)"}], "dragOperationsMask": 1}
+    for kind in ("dragEnter", "dragOver", "drop"):
+        params = {"type": kind, "x": 700, "y": 500, "data": data}
+        browser.call("POST", "/goog/cdp/execute", {"cmd": "Input.dispatchDragEvent", "params": params})
+    assert not browser.run("return document.body.classList.contains('dropping')")
+    assert text_of(browser, "log-said") == "" and brief(browser) == NEVER
+
+
 def test_a_link_of_another_run_opens_with_what_it_carries(window: Browser) -> None:
     other = Lab("http://127.0.0.1:1/another/#story=jitter&a=recurs%281%29&queue=7&b=%7B%22recurs%22%3A2%7D&b-limit=5")
     try:
@@ -737,12 +989,15 @@ def test_texts_can_be_read(browser: Browser, dark: bool, width: int, height: int
 
 
 def test_each_control_has_a_name_of_its_own(browser: Browser) -> None:
-    labels = [browser.label(element) for element in browser.elements("input, select, textarea, button, summary")]
+    labels = [
+        browser.label(element) for element in browser.elements("input, select, textarea, button:not([hidden]), summary")
+    ]
     assert len(labels) > 40 and "" not in labels
     assert [label for label in labels if "Policy, as an expression" in label or "Limit" in label]
     regions = [browser.label(element) for element in browser.elements("main section")]
     assert regions == [
         "The storm",
+        "Or play the requests of an access log",
         "Policy A",
         "Policy B",
         "Clients beside",

@@ -23,6 +23,7 @@
 //   shares                            threads retry by one policy, each with a share of it, and free it; others draw of one
 //                                     quota, in windows that are apart
 //   limits                            limits worked out by hand, each refusal, two at once, and eight threads that count
+//   paces                             paces worked out by hand, each refusal, a store's word, and four threads that take
 //   storms                            storms worked out by hand, and each refusal
 //   runs                              whole runs in one call, worked out by hand, and each refusal
 //   draw THREADS TICKETS              threads draw all tickets of a budget, and each is drawn once
@@ -281,7 +282,7 @@ static int handles(void) {
     wants(hikebox_pass_split(&quota, &other_quota), HIKEBOX_OK);
     wants(hikebox_retry_new(&policy, &quota, HIKEBOX_NO_DEADLINE, &quota_machine), HIKEBOX_OK);
     hikebox_limit limit = HIKEBOX_INIT, other_limit = HIKEBOX_INIT;
-    wants(hikebox_in_flight_new(3, 200, &limit), HIKEBOX_OK);
+    wants(hikebox_in_flight_new(3, 200, HIKEBOX_NO_MOST, &limit), HIKEBOX_OK);
     wants(hikebox_limit_split(&limit, &other_limit), HIKEBOX_OK);
     void *kinds[] = {&policy, &pass, &quota, &machine, &limit, &part};
     enum {
@@ -366,7 +367,7 @@ static int handles(void) {
         wants(hikebox_pass_split(&other_quota, handle), HIKEBOX_FULL);
         wants(hikebox_retry_new(&other_policy, &other_quota, HIKEBOX_NO_DEADLINE, handle), HIKEBOX_FULL);
         wants(retry_on_nothing(&other_policy, HIKEBOX_NO_DEADLINE, handle), HIKEBOX_FULL);
-        wants(hikebox_in_flight_new(3, 200, handle), HIKEBOX_FULL);
+        wants(hikebox_in_flight_new(3, 200, HIKEBOX_NO_MOST, handle), HIKEBOX_FULL);
         wants(hikebox_limit_split(&other_limit, handle), HIKEBOX_FULL);
         holds(place.line == 0 && place.column == 0);
     }
@@ -1361,9 +1362,28 @@ static void limits_out_of_range(hikebox_policy *policy) {
     refuses(late_cost, 11);
     storm.draws_on = HIKEBOX_ON_IN_FLIGHT;
     refuses(least, UINT64_C(1) << 32);
+    refuses(most, UINT64_C(1) << 32);
+    storm.draws_on = HIKEBOX_ON_ADAPTIVE;
+    storm.least = 2;
+    storm.first = 3;
+    storm.most = 4;
+    storm.backoff = 500;
+    refuses(least, 0);
+    refuses(least, 4);
+    refuses(first, 1);
+    refuses(first, 5);
+    refuses(most, 2);
+    refuses(most, 65536);
+    refuses(backoff, 0);
+    refuses(backoff, 1000);
+    refuses(backoff, (UINT64_C(1) << 32) + 500);
     storm.draws_on = HIKEBOX_ON_BREAKER;
     storm.failures = storm.probes = storm.open_count = 1;
     refuses(failures, 0);
+    refuses(results, 33);
+    storm.failures = 3;
+    refuses(results, 2);
+    storm.failures = 1;
     refuses(probes, 0);
     refuses(probes, 16);
     refuses(open_count, 0);
@@ -1394,7 +1414,7 @@ static void parameters_out_of_range(hikebox_policy *policy) {
     refuses(until, 7200001);
     refuses(calls, 0);
     refuses(calls, UINT64_C(4294967297));
-    refuses(draws_on, 7);
+    refuses(draws_on, 8);
     refuses(replicas, 0);
     refuses(replicas, 5);
     refuses(down, 2);
@@ -1467,6 +1487,46 @@ static void storms_refused(void) {
     wants(hikebox_budget_fixed(1, &pass), HIKEBOX_OK);
     wants(hikebox_storm_play((hikebox_policy *)&pass, &storm, windows_told, 121, &count, &totals), HIKEBOX_WRONG_KIND);
     wants(hikebox_pass_free(&pass), HIKEBOX_OK);
+}
+
+// Requests at moments of their own: by hand, as by rates where there are none, and moments that are refused.
+static void requests_at_moments(void) {
+    hikebox_policy four[4] = {HIKEBOX_INIT, HIKEBOX_INIT, HIKEBOX_INIT, HIKEBOX_INIT};
+    hikebox_storm storm = HIKEBOX_STORM;
+    hikebox_totals totals = HIKEBOX_TOTALS, by_rates = HIKEBOX_TOTALS;
+    size_t count = 99;
+    uint64_t moments[] = {0, 0, 5, 5, 100};
+    wants(read_policy("{\"recurs\":0}", four), HIKEBOX_OK);
+#define plays_moments(moments, length)                                                                                 \
+    hikebox_storm_play_arrivals(four, four + 1, four + 2, four + 3, &storm, moments, length, windows_told, 128,        \
+                                &count, &totals)
+    // the peer does a call a millisecond: the second of two waits for the first, and those in the outage are lost
+    storm.outage_from = 5;
+    storm.outage_to = 100;
+    wants(plays_moments(moments, 5), HIKEBOX_OK);
+    holds(count == 1 && totals.requests == 5 && totals.won == 3 && totals.lost == 2 && totals.slowest == 2);
+    storm.until = 99;
+    wants(plays_moments(moments, 5), HIKEBOX_OK);
+    holds(totals.requests == 4 && totals.won == 2);
+    storm.until = 60000;
+    wants(plays_moments(moments, 0), HIKEBOX_OK);
+    wants(hikebox_storm_play(four, &storm, windows_told, 128, &count, &by_rates), HIKEBOX_OK);
+    holds(memcmp(&by_rates, &totals, sizeof totals) == 0 && totals.requests == 48000);
+    moments[2] = 101;
+    wants(plays_moments(moments, 5), HIKEBOX_OUT_OF_RANGE);
+    wants(plays_moments(moments, 3), HIKEBOX_OK);
+    moments[2] = 7200000;
+    wants(plays_moments(moments, 3), HIKEBOX_OK);
+    moments[2] = 7200001;
+    wants(plays_moments(moments, 3), HIKEBOX_OUT_OF_RANGE);
+    static uint64_t many[1048577];
+    storm.capacity = storm.calls = 1;
+    wants(plays_moments(many, 1048577), HIKEBOX_OUT_OF_RANGE);
+    wants(plays_moments(many, 1048576), HIKEBOX_OK);
+    holds(totals.cut && totals.calls == 1);
+    wants(hikebox_policy_free(four), HIKEBOX_OK);
+    wants(plays_moments(moments, 2), HIKEBOX_EMPTY);
+#undef plays_moments
 }
 
 // The same of populations: each handle that is wrong in turn. All keep what they hold.
@@ -1544,6 +1604,28 @@ static void populations(void) {
     holds(windows_told[0].late == 26 && windows_told[0].waiting == 0);
 }
 
+// Ten requests at one moment, of which so many are admitted as a limit has room for. The others are denied.
+static void at_one_moment(void) {
+    hikebox_storm storm = HIKEBOX_STORM;
+    storm.rate = storm.together = 10;
+    storm.seconds = 1;
+    storm.capacity = 1000000;
+    storm.outage_from = storm.outage_to = 0;
+    storm.draws_on = HIKEBOX_ON_IN_FLIGHT;
+    hikebox_totals totals = plays("{\"spaced\":1}", &storm, 1);
+    holds(totals.won == 10 && totals.denied == 0);
+    storm.most = 4;
+    totals = plays("{\"spaced\":1}", &storm, 1);
+    holds(totals.won == 4 && totals.denied == 6 && totals.calls == 4);
+    storm.draws_on = HIKEBOX_ON_ADAPTIVE;
+    storm.least = 1;
+    storm.most = 10;
+    storm.first = 3;
+    storm.backoff = 900;
+    totals = plays("{\"spaced\":1}", &storm, 1);
+    holds(totals.won == 3 && totals.denied == 7 && totals.calls == 3);
+}
+
 static int storms(void) {
     static const char eight[] = "{\"meet\":[{\"recurs\":8},{\"cap\":[10000,{\"exponential\":[100,2]}]}]}";
     hikebox_storm one = HIKEBOX_STORM;
@@ -1606,8 +1688,10 @@ static int storms(void) {
     totals = plays("\"forever\"", &cut, 1);
     holds(totals.cut && totals.calls == 5 && totals.open == 1);
     populations();
+    at_one_moment();
     storms_out_of_range();
     storms_refused();
+    requests_at_moments();
     populations_refused();
     return wrong;
 }
@@ -1694,6 +1778,24 @@ static void lease_once(void) {
     again(hikebox_leased_free(&leased));
 }
 
+// A pace from its beginning to its end. A split that is refused takes no part.
+static void pace_once(void) {
+    hikebox_pace pace = HIKEBOX_INIT, part = HIKEBOX_INIT;
+    uint64_t at = 7;
+    bool given = false;
+    again(hikebox_pace_new(1000, 1, 5, &pace));
+    again(hikebox_pace_take(&pace, 2, 1, &at));
+    holds(at == 2);
+    again(hikebox_pace_split(&pace, &part));
+    again(hikebox_pace_take(&part, 2, 1, &at));
+    holds(at == 3);
+    again(hikebox_pace_give_back(&part, &given));
+    again(hikebox_pace_seen(&pace, 2, &at));
+    holds(given && at == 3);
+    again(hikebox_pace_free(&part));
+    again(hikebox_pace_free(&pace));
+}
+
 static int calls(void) {
     hikebox_policy policy = HIKEBOX_INIT, second = HIKEBOX_INIT, both = HIKEBOX_INIT, none = HIKEBOX_INIT;
     const hikebox_course course = {sizeof course, 4, 0, 0};
@@ -1710,6 +1812,7 @@ static int calls(void) {
     char text[128];
     size_t length, count;
     static const char json[] = "{\"gather\":[\"list\",{\"meet\":[{\"recurs\":2},{\"spaced\":10}]}]}";
+    static const uint64_t moments[] = {0, 500, 1000, 1500};
     again(say_fault("{\"first\":{\"recurs\":-1}}", text, sizeof text, &length));
     holds(length == 80 && memcmp(text, "first: expected {\"recurs\":N}, N from 0 to", 41) == 0);
     again(say_fault(json, text, sizeof text, &length));
@@ -1723,6 +1826,9 @@ static int calls(void) {
     holds(totals.requests == 4 && totals.lost == 4 && totals.calls == 12);
     storm.second = (hikebox_population){50, 500, 0};
     again(hikebox_storm_play_populations(&policy, &second, &both, &none, &storm, windows_told, 128, &length, &totals));
+    holds(totals.requests == 4 && totals.lost == 4 && totals.calls == 12);
+    again(hikebox_storm_play_arrivals(&policy, &second, &both, &none, &storm, moments, 4, windows_told, 128, &length,
+                                      &totals));
     holds(totals.requests == 4 && totals.lost == 4 && totals.calls == 12);
     again(make_node("cap", &number, 1, &policy, &none, &both));
     again(hikebox_policy_free(&both));
@@ -1763,6 +1869,7 @@ static int calls(void) {
     again(hikebox_pass_close(&quota, &other));
     holds(number == 1 && other == 1);
     lease_once();
+    pace_once();
     again(hikebox_quota_new(0, 1, 0, 100, false, &quota));
     again(hikebox_retry_new(&policy, &quota, HIKEBOX_NO_DEADLINE, &machine));
     again(hikebox_retry_free(&machine));
@@ -1803,7 +1910,7 @@ static const struct {
     {"version", version}, {"handles", handles}, {"budgets", budgets}, {"deadlines", deadlines}, {"quotas", quotas},
     {"leases", leases},   {"leased", leased},   {"faults", faults},   {"nodes", nodes},         {"policies", policies},
     {"courses", courses}, {"storms", storms},   {"lasting", lasting}, {"shares", shares},       {"sizes", sizes},
-    {"reads", reads},     {"runs", runs},       {"limits", limits},
+    {"reads", reads},     {"runs", runs},       {"limits", limits},   {"paces", paces},
 };
 
 int main(int count, char **words) {

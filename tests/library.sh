@@ -24,9 +24,9 @@ zsched=$dist/zsched
 python3 "$top/tests/exports.py" || failed=1
 "$top/bin/bindings" --check || failed=1
 flags=(-std=gnu11 -Wall -Wextra -Werror -O1 "-I$dist" -pthread)
-cc "${flags[@]}" -o "$work/linked" "$top/tests/library.c" "$top/tests/policies.c" "$top/tests/leases.c" "$top/tests/structs.c" "$top/tests/limits.c" "$top/tests/looks.c" "$dist/libhikebox.a"
+cc "${flags[@]}" -o "$work/linked" "$top/tests/library.c" "$top/tests/policies.c" "$top/tests/leases.c" "$top/tests/structs.c" "$top/tests/limits.c" "$top/tests/looks.c" "$top/tests/states.c" "$top/tests/paces.c" "$dist/libhikebox.a"
 "$top/bin/install" --prefix "$work/home/.local" >"$work/out"
-cc "${flags[@]}" -o "$work/loaded" "$top/tests/library.c" "$top/tests/policies.c" "$top/tests/leases.c" "$top/tests/structs.c" "$top/tests/limits.c" "$top/tests/looks.c" "-L$dist" "-Wl,-rpath,$work/home/.local/lib" -lhikebox
+cc "${flags[@]}" -o "$work/loaded" "$top/tests/library.c" "$top/tests/policies.c" "$top/tests/leases.c" "$top/tests/structs.c" "$top/tests/limits.c" "$top/tests/looks.c" "$top/tests/states.c" "$top/tests/paces.c" "-L$dist" "-Wl,-rpath,$work/home/.local/lib" -lhikebox
 cc "${flags[@]}" -o "$work/retry" "$top/examples/c/retry.c" "$dist/libhikebox.a"
 for standard in c++98 c++20; do
   c++ "-std=$standard" -Wall -Wextra -pedantic -Werror -Wno-long-long "-I$dist" -o "$work/header" "$top/tests/header.cc" \

@@ -62,7 +62,7 @@ static void flights(void) {
     for (int at = 0; at < 10; at++) {
         limits[at] = (hikebox_limit)HIKEBOX_INIT;
         if (at == 0)
-            wants(hikebox_in_flight_new(1, 200, &limits[0]), HIKEBOX_OK);
+            wants(hikebox_in_flight_new(1, 200, HIKEBOX_NO_MOST, &limits[0]), HIKEBOX_OK);
         else
             wants(hikebox_limit_split(&limits[0], &limits[at]), HIKEBOX_OK);
     }
@@ -80,6 +80,94 @@ static void flights(void) {
     wants(hikebox_limit_free(&limits[0]), HIKEBOX_OK);
     for (int at = 2; at < 10; at++)
         wants(hikebox_limit_free(&limits[at]), HIKEBOX_OK);
+}
+
+// Two requests at once: one that is refused takes no place, and one that is over makes room, once.
+static void at_once(void) {
+    hikebox_limit first = HIKEBOX_INIT, second = HIKEBOX_INIT, third = HIKEBOX_INIT;
+    wants(hikebox_in_flight_new(3, 200, 2, &first), HIKEBOX_OK);
+    wants(hikebox_limit_split(&first, &second), HIKEBOX_OK);
+    wants(hikebox_limit_split(&first, &third), HIKEBOX_OK);
+    admits(&first, 0, HIKEBOX_OK, 0);
+    admits(&second, 0, HIKEBOX_OK, 0);
+    admits(&third, 0, HIKEBOX_REQUESTS_FULL, 0);
+    wants(hikebox_limit_ended(&third), HIKEBOX_OK);
+    admits(&third, 0, HIKEBOX_REQUESTS_FULL, 0);
+    wants(hikebox_limit_ended(&first), HIKEBOX_OK);
+    wants(hikebox_limit_ended(&first), HIKEBOX_OK);
+    admits(&third, 0, HIKEBOX_OK, 0);
+    draws(&third, 0, 0, HIKEBOX_OK, 0);
+    admits(&first, 0, HIKEBOX_REQUESTS_FULL, 0);
+    wants(hikebox_limit_free(&first), HIKEBOX_OK);
+    wants(hikebox_limit_free(&second), HIKEBOX_OK);
+    wants(hikebox_limit_free(&third), HIKEBOX_OK);
+}
+
+// From 1 to 10 requests at once, at first 2: the levels are 2,500, 2,250, 2,694 and 3,065.
+static void adaptives(void) {
+    hikebox_adaptive terms = HIKEBOX_ADAPTIVE;
+    hikebox_limit first = HIKEBOX_INIT, second = HIKEBOX_INIT, third = HIKEBOX_INIT, fourth = HIKEBOX_INIT;
+    bool quiet = true;
+    holds(terms.least == 1 && terms.most == 200 && terms.first == 20 && terms.backoff == 900);
+    terms.most = 10;
+    terms.first = 2;
+    wants(hikebox_adaptive_new(&terms, &first), HIKEBOX_OK);
+    wants(hikebox_limit_split(&first, &second), HIKEBOX_OK);
+    wants(hikebox_limit_split(&first, &third), HIKEBOX_OK);
+    wants(hikebox_limit_split(&first, &fourth), HIKEBOX_OK);
+    wants(hikebox_limit_look(&first, &(hikebox_seen){0, 0, 0, 0}, &quiet), HIKEBOX_OK);
+    holds(!quiet);
+    admits(&first, 0, HIKEBOX_OK, 0);
+    admits(&second, 0, HIKEBOX_OK, 0);
+    admits(&third, 0, HIKEBOX_REQUESTS_FULL, 0);
+    wants(hikebox_limit_succeeded(&first, 0), HIKEBOX_OK);
+    wants(hikebox_limit_ended(&first), HIKEBOX_OK);
+    wants(hikebox_limit_failed(&second, 0), HIKEBOX_OK);
+    draws(&second, 0, 0, HIKEBOX_OK, 0);
+    wants(hikebox_limit_ended(&second), HIKEBOX_OK);
+    wants(hikebox_limit_ended(&second), HIKEBOX_OK);
+    admits(&first, 0, HIKEBOX_OK, 0);
+    admits(&second, 0, HIKEBOX_OK, 0);
+    admits(&third, 0, HIKEBOX_REQUESTS_FULL, 0);
+    wants(hikebox_limit_succeeded(&second, 0), HIKEBOX_OK);
+    wants(hikebox_limit_succeeded(&first, 0), HIKEBOX_OK);
+    admits(&third, 0, HIKEBOX_OK, 0);
+    admits(&fourth, 0, HIKEBOX_REQUESTS_FULL, 0);
+    wants(hikebox_limit_free(&first), HIKEBOX_OK);
+    wants(hikebox_limit_free(&second), HIKEBOX_OK);
+    wants(hikebox_limit_free(&third), HIKEBOX_OK);
+    wants(hikebox_limit_free(&fourth), HIKEBOX_OK);
+}
+
+// Each number of an adaptive limit at its border.
+static void adaptive_borders(void) {
+    static const hikebox_adaptive made[] = {{sizeof *made, 1, 1, 1, 1}, {sizeof *made, 65535, 65535, 65535, 999}};
+    static const hikebox_adaptive refused[] = {
+        {sizeof *made, 0, 10, 2, 900},
+        {sizeof *made, 3, 10, 2, 900},
+        {sizeof *made, 1, 10, 11, 900},
+        {sizeof *made, 1, 65536, 2, 900},
+        {sizeof *made, 1, 10, 2, 0},
+        {sizeof *made, 1, 10, 2, 1000},
+        {sizeof *made, 1, UINT64_MAX, 2, 900},
+        {sizeof *made, 1, 10, 2, (UINT64_C(1) << 32) + 900},
+        {sizeof *made, UINT64_C(1) << 32, 10, 2, 900},
+        {sizeof *made, 1, 10, UINT64_C(1) << 32, 900},
+    };
+    hikebox_adaptive terms = HIKEBOX_ADAPTIVE;
+    hikebox_limit limit = HIKEBOX_INIT;
+    for (size_t at = 0; at < sizeof made / sizeof *made; at++) {
+        wants(hikebox_adaptive_new(&made[at], &limit), HIKEBOX_OK);
+        wants(hikebox_adaptive_new(&made[at], &limit), HIKEBOX_FULL);
+        wants(hikebox_limit_free(&limit), HIKEBOX_OK);
+    }
+    for (size_t at = 0; at < sizeof refused / sizeof *refused; at++)
+        wants(hikebox_adaptive_new(&refused[at], &limit), HIKEBOX_OUT_OF_RANGE);
+    terms.size--;
+    wants(hikebox_adaptive_new(&terms, &limit), HIKEBOX_WRONG_SIZE);
+    terms.size += 2;
+    wants(hikebox_adaptive_new(&terms, &limit), HIKEBOX_WRONG_SIZE);
+    holds(!limit.held);
 }
 
 // After two failures it is open for 100 ms, and for 200 ms where the probe fails.
@@ -130,9 +218,9 @@ static void throttles(void) {
 
 // Both admit, or neither is charged: the request that the breaker refuses is not in flight.
 static void pairs(void) {
-    hikebox_breaker terms = {sizeof terms, 1, 1, 1000};
+    hikebox_breaker terms = {sizeof terms, 1, 1, 1000, 0};
     hikebox_limit both = HIKEBOX_INIT, breaker = HIKEBOX_INIT, alone = HIKEBOX_INIT, empty = HIKEBOX_INIT;
-    wants(hikebox_in_flight_new(0, 500, &both), HIKEBOX_OK);
+    wants(hikebox_in_flight_new(0, 500, HIKEBOX_NO_MOST, &both), HIKEBOX_OK);
     wants(hikebox_limit_split(&both, &alone), HIKEBOX_OK);
     wants(hikebox_breaker_new(0, &terms, open_times, 1, &breaker), HIKEBOX_OK);
     wants(hikebox_limit_both(&both, &empty), HIKEBOX_EMPTY);
@@ -155,12 +243,12 @@ static void pairs(void) {
 
 // Up to four are joined, in any order. What the first three granted comes back where the fourth refuses.
 static void four(void) {
-    hikebox_breaker terms = {sizeof terms, 1, 1, 1000};
+    hikebox_breaker terms = {sizeof terms, 1, 1, 1000, 0};
     hikebox_bucket token = {sizeof token, 1000, 0, 0, 0, false};
     hikebox_limit first = HIKEBOX_INIT, flights = HIKEBOX_INIT, second = HIKEBOX_INIT, breaker = HIKEBOX_INIT;
     hikebox_limit alone[3] = {HIKEBOX_INIT, HIKEBOX_INIT, HIKEBOX_INIT}, opens = HIKEBOX_INIT;
     wants(hikebox_bucket_new(&token, &first), HIKEBOX_OK);
-    wants(hikebox_in_flight_new(1, 0, &flights), HIKEBOX_OK);
+    wants(hikebox_in_flight_new(1, 0, HIKEBOX_NO_MOST, &flights), HIKEBOX_OK);
     wants(hikebox_bucket_new(&token, &second), HIKEBOX_OK);
     wants(hikebox_breaker_new(0, &terms, open_times, 1, &breaker), HIKEBOX_OK);
     wants(hikebox_limit_split(&first, &alone[0]), HIKEBOX_OK);
@@ -210,7 +298,7 @@ static void steps_bucket(hikebox_request *request, uint32_t call, uint64_t cost,
 }
 
 static void steps_breaker(hikebox_request *request, uint32_t call, uint64_t now, hikebox_status wanted, uint64_t says) {
-    hikebox_breaker terms = {sizeof terms, 2, 1, 1000};
+    hikebox_breaker terms = {sizeof terms, 2, 1, 1000, 0};
     hikebox_told told = {call, now, 0};
     uint64_t number = 77;
     wants(hikebox_breaker_step(&terms, open_times, 3, &told, &store, request, &number), wanted);
@@ -342,7 +430,7 @@ static void refusals(void) {
     wants(hikebox_limit_split(&empty, &limit), HIKEBOX_EMPTY);
     wants(hikebox_throttle_new(0, 1000, 1, &limit), HIKEBOX_OK);
     wants(hikebox_throttle_new(0, 999, 1, &limit), HIKEBOX_FULL);
-    wants(hikebox_in_flight_new(0, 0, &limit), HIKEBOX_FULL);
+    wants(hikebox_in_flight_new(0, 0, HIKEBOX_NO_MOST, &limit), HIKEBOX_FULL);
     wants(hikebox_limit_split(&empty, &limit), HIKEBOX_FULL);
     draws(&limit, 0, 0, HIKEBOX_OUT_OF_TURN, 0);
     admits(&limit, 0, HIKEBOX_OK, 0);
@@ -404,13 +492,13 @@ static uint64_t race(hikebox_limit *limit, uint64_t now) {
 // one probe, and that draws once; and a throttle counts each request once.
 static void races(void) {
     hikebox_bucket terms = {sizeof terms, 100000, 0, 0, 0, false};
-    hikebox_breaker one = {sizeof one, 1, 1, 1000000};
+    hikebox_breaker one = {sizeof one, 1, 1, 1000000, 0};
     hikebox_limit limit = HIKEBOX_INIT, beside = HIKEBOX_INIT;
     wants(hikebox_bucket_new(&terms, &limit), HIKEBOX_OK);
     holds(race(&limit, 0) == 100000);
     wants(hikebox_limit_free(&limit), HIKEBOX_OK);
 
-    wants(hikebox_in_flight_new(0, 500, &limit), HIKEBOX_OK);
+    wants(hikebox_in_flight_new(0, 500, HIKEBOX_NO_MOST, &limit), HIKEBOX_OK);
     holds(race(&limit, 0) <= (uint64_t)THREADS * TIMES);
     wants(hikebox_limit_split(&limit, &beside), HIKEBOX_OK);
     admits(&limit, 0, HIKEBOX_OK, 0);
@@ -440,6 +528,9 @@ static void races(void) {
 int limits(void) {
     buckets();
     flights();
+    at_once();
+    adaptives();
+    adaptive_borders();
     breakers();
     throttles();
     pairs();
@@ -449,6 +540,7 @@ int limits(void) {
     steps_refused();
     refusals();
     limits_looked_at();
+    limits_seen();
     races();
     return wrong;
 }

@@ -30,7 +30,7 @@ static void succeeds(hikebox_limit *limit, hikebox_seen seen) {
 // What a look saw admits a request in the generation in which the breaker was then: once it was open, that request's
 // success neither closes it nor takes its probe. Several are quiet where each of them is.
 void limits_looked_at(void) {
-    hikebox_breaker terms = {sizeof terms, 1, 1, 1000};
+    hikebox_breaker terms = {sizeof terms, 1, 1, 1000, 0};
     hikebox_bucket aws = HIKEBOX_BUCKET_AWS;
     hikebox_limit limit = HIKEBOX_INIT, other = HIKEBOX_INIT, bucket = HIKEBOX_INIT, spare = HIKEBOX_INIT;
     wants(hikebox_breaker_new(0, &terms, open_times, 1, &limit), HIKEBOX_OK);
@@ -64,7 +64,7 @@ void limits_looked_at(void) {
     draws(&spare, 0, 500000, HIKEBOX_LEVEL_LOW, 496000);
     wants(hikebox_limit_free(&spare), HIKEBOX_OK);
     wants(hikebox_limit_free(&bucket), HIKEBOX_OK);
-    wants(hikebox_in_flight_new(1, 0, &limit), HIKEBOX_OK);
+    wants(hikebox_in_flight_new(1, 0, HIKEBOX_NO_MOST, &limit), HIKEBOX_OK);
     holds(look(&limit, false).first == 7);
     begins(&limit, closed, false);
     wants(hikebox_limit_free(&limit), HIKEBOX_OK);

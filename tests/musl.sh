@@ -15,7 +15,7 @@ wrong() {
 }
 
 flags=(-std=gnu11 -Wall -Wextra -Werror -O1 "-I$dist" -pthread)
-tests=("$top/tests/library.c" "$top/tests/policies.c" "$top/tests/leases.c" "$top/tests/structs.c" "$top/tests/limits.c" "$top/tests/looks.c")
+tests=("$top/tests/library.c" "$top/tests/policies.c" "$top/tests/leases.c" "$top/tests/structs.c" "$top/tests/limits.c" "$top/tests/looks.c" "$top/tests/states.c" "$top/tests/paces.c")
 cc "${flags[@]}" -o "$work/glibc" "${tests[@]}" "$dist/libhikebox.a"
 musl-gcc "${flags[@]}" -static -o "$work/linked" "${tests[@]}" "$dist/libhikebox.a"
 ln -s "$dist/libhikebox.so" "$work/libhikebox.so.1"

@@ -21,9 +21,9 @@ chmod +x "$work/home/bin/hikebox"
 )
 
 # The library.
-cc -std=gnu11 -Wall -Wextra -O1 "-I$dist" -pthread -o "$work/linked" "$top/tests/library.c" "$top/tests/policies.c" "$top/tests/leases.c" "$top/tests/structs.c" "$top/tests/limits.c" "$top/tests/looks.c" "$dist/libhikebox.a"
+cc -std=gnu11 -Wall -Wextra -O1 "-I$dist" -pthread -o "$work/linked" "$top/tests/library.c" "$top/tests/policies.c" "$top/tests/leases.c" "$top/tests/structs.c" "$top/tests/limits.c" "$top/tests/looks.c" "$top/tests/states.c" "$top/tests/paces.c" "$dist/libhikebox.a"
 ln -s "$dist/libhikebox.so" "$work/libhikebox.so.1"
-cc -std=gnu11 -Wall -Wextra -O1 "-I$dist" -pthread -o "$work/loaded" "$top/tests/library.c" "$top/tests/policies.c" "$top/tests/leases.c" "$top/tests/structs.c" "$top/tests/limits.c" "$top/tests/looks.c" \
+cc -std=gnu11 -Wall -Wextra -O1 "-I$dist" -pthread -o "$work/loaded" "$top/tests/library.c" "$top/tests/policies.c" "$top/tests/leases.c" "$top/tests/structs.c" "$top/tests/limits.c" "$top/tests/looks.c" "$top/tests/states.c" "$top/tests/paces.c" \
   "-L$dist" "-Wl,-rpath,$work" -lhikebox
 groups=$("$work/linked" groups)
 for program in linked loaded; do

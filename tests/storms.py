@@ -28,6 +28,8 @@ seeded = runpy.run_path(str(TOP / "python" / "src" / "hikebox" / "cli" / "seeded
 CALL = 100_000
 REFUSED, SHED, LATE, SUCCEEDED = 1, 2, 3, 0
 MAX_TICKETS = 2**32
+#: The last moment that may be played.
+MAX_UNTIL = 7_200_000
 
 
 class Population(NamedTuple):
@@ -51,6 +53,8 @@ class Storm:
     rates: List[Tuple[int, int, int]] = field(default_factory=list)
     together: int = 1
     seconds: int = 60
+    #: The moment of each request, in the place of the four before.
+    arrivals: List[int] = field(default_factory=list)
     capacity: int = 1000
     patience: int = 500
     queue: int = 5000
@@ -95,7 +99,11 @@ class Storm:
     @property
     def last(self) -> int:
         """The last moment that is played."""
-        return self.seconds * 1000 + 60_000 if self.until is None else self.until
+        if self.until is not None:
+            return self.until
+        if self.arrivals:
+            return min(self.arrivals[-1] + 60_000, MAX_UNTIL)
+        return self.seconds * 1000 + 60_000
 
     def rate_at(self, moment: int) -> int:
         """The requests a second in the millisecond from a moment on."""
@@ -103,7 +111,11 @@ class Storm:
 
     def moments(self) -> Iterator[int]:
         """The moment at which each request of the storm begins, millisecond by millisecond: a request comes in that in
-        which its thousandths begin, and those that come together with the first of them."""
+        which its thousandths begin, and those that come together with the first of them. Moments that are given are
+        those of the requests."""
+        if self.arrivals:
+            yield from self.arrivals
+            return
         request = came = begins = 0
         for moment in range(self.seconds * 1000):
             comes = self.rate_at(moment)
@@ -197,8 +209,8 @@ class Tickets:
 
 
 class Limit:
-    """What asks are granted, by a request's number: a bucket, what is in flight, a breaker or a throttle. None admits
-    and grants all."""
+    """What asks are granted, by a request's number: a bucket, what is in flight, an adaptive limit, a breaker or a
+    throttle. None admits and grants all."""
 
     def admit(self, moment: int, request: int) -> bool:
         return True
@@ -242,14 +254,18 @@ class Bucket(Limit):
 
 
 class InFlight(Limit):
-    """As many retries at once as a share of the requests at once, or a least number."""
+    """As many retries at once as a share of the requests at once, or a least number; and requests up to a most, where
+    there is one."""
 
     def __init__(self, numbers: List[int], _refunds: bool) -> None:
-        self.least, self.share = numbers
+        self.least, self.share, *most = numbers
+        self.most = most[0] if most else None
         self.requests: Set[int] = set()
         self.slots: Set[int] = set()
 
     def admit(self, moment: int, request: int) -> bool:
+        if len(self.requests) == self.most:
+            return False
         self.requests.add(request)
         return True
 
@@ -265,19 +281,50 @@ class InFlight(Limit):
         self.requests.discard(request)
 
 
+class Adaptive(Limit):
+    """As many requests at once as a level, in thousandths, which successes raise and failures lower."""
+
+    def __init__(self, numbers: List[int], _refunds: bool) -> None:
+        self.least, self.most, first, self.backoff = numbers
+        self.level = 1000 * first
+        self.inside: Set[int] = set()
+
+    def admit(self, moment: int, request: int) -> bool:
+        if 1000 * (len(self.inside) + 1) > self.level:
+            return False
+        self.inside.add(request)
+        return True
+
+    def fail(self, moment: int, request: int) -> None:
+        self.level = max(1000 * self.least, self.level * self.backoff // 1000)
+
+    def succeed(self, moment: int, request: int) -> None:
+        if 2000 * len(self.inside) >= self.level:
+            self.level = min(1000 * self.most, self.level + max(1, 1_000_000 // self.level))
+
+    def end(self, request: int) -> None:
+        self.inside.discard(request)
+
+
 class Breaker(Limit):
-    """Open after so many failures in a row, for the first of its open times, then half open for some probes."""
+    """Open after so many failures in a row, or among so many results, for the first of its open times, then half open
+    for some probes."""
 
     def __init__(self, numbers: List[int], times: List[int]) -> None:
-        self.failures, self.probes, self.deadline = numbers
+        self.failures, *of, self.probes, self.deadline = numbers
+        #: How many results are kept: as many as the failures that open it, where no number is given.
+        self.kept = of[0] if of else self.failures
+        #: Of each result since it closed whether it is a failure, the latest ones.
+        self.results: List[bool] = []
         self.times = times
         self.state, self.generation = "closed", 0
-        self.count = self.until = self.trip = self.admitted = self.won = self.since = 0
+        self.until = self.trip = self.admitted = self.won = self.since = 0
         self.runs: Dict[int, int] = {}
 
     def _turn(self, state: str) -> None:
         self.state = state
         self.generation += 1
+        self.results = []
 
     def _probe(self, moment: int) -> None:
         self._turn("half open")
@@ -320,20 +367,23 @@ class Breaker(Limit):
         if self.state == "half open":
             self._open(moment, self.trip + 1)
         elif self.state == "closed":
-            self.count += 1
-            if self.count == self.failures:
+            self._keep(True)
+            if sum(self.results) == self.failures:
                 self._open(moment, 1)
 
     def succeed(self, moment: int, request: int) -> None:
         if self.runs[request] != self.generation:
             return
         if self.state == "closed":
-            self.count = 0
+            self._keep(False)
         elif self.state == "half open":
             self.won += 1
             if self.won == self.probes:
                 self._turn("closed")
-                self.count = self.trip = 0
+                self.trip = 0
+
+    def _keep(self, has_failed: bool) -> None:
+        self.results = [*self.results, has_failed][-self.kept :]
 
 
 class Throttle(Limit):
@@ -377,7 +427,7 @@ def limit_of(storm: Storm) -> Limit:
         return Breaker(numbers, open_times(storm.open_plan))
     if kind == "throttle":
         return Throttle(numbers, seeded((storm.words + 1) % 2**64))
-    return {"bucket": Bucket, "inflight": InFlight}[kind](numbers, refunds)
+    return {"bucket": Bucket, "inflight": InFlight, "adaptive": Adaptive}[kind](numbers, refunds)
 
 
 def open_times(plan: Any) -> List[int]:
@@ -623,10 +673,14 @@ def report(storm: Storm) -> Tuple[List[Dict[str, int]], Dict[str, Any]]:
     return rows, totals
 
 
-def json_text(rows: List[Dict[str, int]], totals: Dict[str, Any], parts: Sequence[Part] = ()) -> str:
+def json_text(
+    rows: List[Dict[str, int]], totals: Dict[str, Any], parts: Sequence[Part] = (), arrivals: Sequence[int] = ()
+) -> str:
     value = _json_value(rows, totals)
     if parts:
         value["populations"] = [{"share": part.share, **_json_value(part.rows, part.totals)} for part in parts]
+    if arrivals:
+        value["arrivals"] = len(arrivals)
     return json.dumps(value, separators=(",", ":")) + "\n"
 
 
@@ -668,6 +722,10 @@ def _plan(path: str) -> Any:
     return json.loads(Path(path).read_text())
 
 
+def _arrivals(path: str) -> List[int]:
+    return [int(line) for line in Path(path).read_text().splitlines()]
+
+
 def _beside(text: str) -> Population:
     words, _, path = text.partition("=")
     words, _, limited = words.partition("+")
@@ -690,7 +748,15 @@ NUMBERS = (
     "words",
     "budget",
 )
-READERS = {"rates": _rates, "outage": _span, "slow": _slow, "quota": _quota, "limit": _limit, "open": _plan}
+READERS = {
+    "rates": _rates,
+    "arrivals": _arrivals,
+    "outage": _span,
+    "slow": _slow,
+    "quota": _quota,
+    "limit": _limit,
+    "open": _plan,
+}
 
 
 def main() -> int:
@@ -707,11 +773,12 @@ def main() -> int:
     plan = json.loads(sys.stdin.read() if given.file == "-" else Path(given.file).read_text())
     named = {name: getattr(given, name) for name in (*NUMBERS, *READERS, "beside")}
     named["open_plan"] = named.pop("open")
-    rows, totals, parts = reports(Storm(plan, **{name: value for name, value in named.items() if value is not None}))
+    storm = Storm(plan, **{name: value for name, value in named.items() if value is not None})
+    rows, totals, parts = reports(storm)
     if given.csv:
         sys.stdout.write(csv_text(rows))
     elif given.json:
-        sys.stdout.write(json_text(rows, totals, parts))
+        sys.stdout.write(json_text(rows, totals, parts, storm.arrivals))
     else:
         for name, value in totals.items():
             print(f"{name} {value}")

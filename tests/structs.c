@@ -146,8 +146,9 @@ static void steps(void) {
 // The sizes of version 1.0.0, which each later 1.x accepts.
 int sizes(void) {
     holds(sizeof(hikebox_course) == 32 && sizeof(hikebox_usage) == 48 && sizeof(hikebox_next) == 48);
-    holds(sizeof(hikebox_storm) == 1144 && sizeof(hikebox_totals) == 128);
-    holds(sizeof(hikebox_bucket) == 48 && sizeof(hikebox_breaker) == 32);
+    holds(sizeof(hikebox_storm) == 1176 && sizeof(hikebox_totals) == 128);
+    holds(sizeof(hikebox_bucket) == 48 && sizeof(hikebox_breaker) == 40 && sizeof(hikebox_adaptive) == 40);
+    holds(sizeof(hikebox_state) == 48);
     holds(sizeof(hikebox_kept) == 16 && sizeof(hikebox_request) == 32 && sizeof(hikebox_told) == 24);
     polls();
     looks();

@@ -127,6 +127,19 @@ class Browser:
         finger = {"type": "pointer", "id": "finger", "parameters": {"pointerType": "touch"}, "actions": pressed}
         self.call("POST", "/actions", {"actions": [finger]})
 
+    def drop(self, *files: Path) -> None:
+        """Drops files on the middle of the page, as a person drags them there."""
+        x, y = self.run("return [Math.floor(innerWidth / 2), Math.floor(innerHeight / 2)]")
+        data = {"items": [], "files": [str(file) for file in files], "dragOperationsMask": 1}
+        for kind in ("dragEnter", "dragOver", "drop"):
+            params = {"type": kind, "x": x, "y": y, "data": data}
+            self.call("POST", "/goog/cdp/execute", {"cmd": "Input.dispatchDragEvent", "params": params})
+
+    def choose(self, identity: str, file: Path) -> None:
+        """Chooses a file in the box of this name, as the browser's own dialog does."""
+        (element,) = self.elements(f"#{identity}")
+        self.call("POST", f"/element/{element}/value", {"text": str(file)})
+
     def tap_until(self, element: str, script: str) -> None:
         """Taps until the script gives something: if the machine is busy meanwhile, a tap becomes a long one."""
         ends = time.monotonic() + 120

@@ -28,7 +28,7 @@ tries() {
     cd "$fresh"
     unset HIKEBOX_LIBRARY PYTHONPATH
     venv/bin/python -W error "$top/python/tests/smoke.py" "$fresh/venv"
-    for file in man/man1/hikebox.1 bash-completion/completions/hikebox zsh/site-functions/_hikebox; do
+    for file in man/man1/hikebox.1 bash-completion/completions/hikebox zsh/site-functions/_hikebox hikebox/grafana.json; do
       [ -s "venv/share/$file" ] || fails "$python has no share/$file"
     done
     [ "$(venv/bin/hikebox plan --steps 1 'spaced(1)')" = '0: 0 next 1000' ] || fails "hikebox plan of $python"

@@ -46,7 +46,7 @@ tests_dll() {
 
 builds() {
   local sources=() name flags=(-std=gnu11 -Wall -Wextra -Werror -O1 "-I$dist" -pthread -static)
-  for name in library policies leases structs limits looks; do sources+=("$top/tests/$name.c"); done
+  for name in library policies leases structs limits looks states paces; do sources+=("$top/tests/$name.c"); done
   "$cross-gcc-posix" "${flags[@]}" -o "$work/linked.exe" "${sources[@]}" "$files/libhikebox.a"
   "$cross-gcc-posix" "${flags[@]}" -DHIKEBOX_DLL -o "$work/loaded.exe" "${sources[@]}" "$files/hikebox.lib"
   cp "$files/hikebox.dll" "$work"

@@ -20,6 +20,34 @@ class Case(NamedTuple):
 # The peer does a call a millisecond where nothing else is said.
 WORKED = [
     Case(
+        "requests at moments that are given: two at each of two moments wait for each other",
+        {"recurs": 0},
+        {"arrivals": [0, 0, 5, 5, 100], "outage": NONE},
+        [[0, 5, 5, 0, 5, 0, 0, 0, 0]],
+        {"requests": 5, "won": 5, "calls": 5, "p50": 1, "p99": 2, "slowest": 2, "recovered": 0},
+    ),
+    Case(
+        "of requests at moments that are given those in the outage are lost",
+        {"recurs": 0},
+        {"arrivals": [0, 0, 5, 5, 100], "outage": "5..100", "window": 50},
+        [[0, 4, 2, 0, 2, 2, 0, 0, 0], [50, 0, 0, 0, 0, 0, 0, 0, 0], [100, 1, 1, 0, 1, 0, 0, 0, 0]],
+        {"requests": 5, "won": 3, "lost": 2, "most_calls": 4, "most_from": 0, "recovered": 100},
+    ),
+    Case(
+        "a request whose moment is after the end is none of the storm's",
+        {"recurs": 0},
+        {"arrivals": [0, 400, 401], "until": 400, "outage": NONE},
+        [[0, 2, 1, 0, 1, 0, 0, 0, 0]],
+        {"requests": 2, "won": 1, "open": 1, "calls": 2},
+    ),
+    Case(
+        "a storm by moments is played until 60 s after the last of them: a retry at 60,001 ms is, one at 61,001 is not",
+        {"meet": [{"recurs": 1}, {"spaced": 60_001}]},
+        {"arrivals": [0, 1000], "outage": "0..3600000", "window": 3_600_000},
+        [[0, 2, 0, 1, 0, 3, 0, 0, 0]],
+        {"requests": 2, "lost": 1, "open": 1, "calls": 3},
+    ),
+    Case(
         "one request",
         {"recurs": 3},
         {"rate": 1, "seconds": 1, "outage": NONE},
