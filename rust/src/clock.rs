@@ -1,6 +1,7 @@
 //! The clock that this crate goes by, and moments of the engine.
 
 use crate::engine::MAX_NUMBER;
+use crate::system::MadeOnce;
 use std::time::{Duration, Instant};
 pub use time::Moment;
 
@@ -183,6 +184,15 @@ mod time {
         }
     }
 }
+
+/// Moment 0 of all limits that calls ask, so that two at once have one clock, and of all paces. It lies a day before the
+/// first of them is made: a runtime of tokio's may have stopped its clock before that.
+pub(crate) fn beginning() -> Moment {
+    static BEGAN: MadeOnce<Moment> = MadeOnce::new();
+    BEGAN.get(|| Moment::of(Instant::now()).before(A_DAY))
+}
+
+const A_DAY: Duration = Duration::from_secs(86_400);
 
 /// Whole milliseconds of a moment, rounded down; past the engine's last moment it is that.
 #[inline]

@@ -21,9 +21,14 @@
 //! - [`Retrying`] adds which errors are retried, the numbers by which the schedule tests them, a deadline for the call
 //!   with all its runs, and a function that is called before each retry.
 //! - You can also retry a call by a method on it: see [`BlockingRetryable`] and [`Retryable`].
+//! - A [`Pace`] tells each call when it may begin, so that a peer gets so many in a time, and so many at once. With the
+//!   feature `tower`, `PaceLayer` is a layer by which requests wait for that.
+//! - A [`PerKey`] has a limit for each key, such as a host or a tenant.
 //! - [`repeat`] runs a call again after each success, and [`poll_until`] until you accept its value. [`Repeating`] adds
 //!   a deadline, and a clock and a sleep of your own.
 //! - With the feature `tokio`, `retry_async` retries futures. [`Retrying::sleep`] takes the sleep of any runtime.
+//! - [`Retrying::attempt_timeout`] ends a run of a future that takes too long, and [`Retrying::hedge_after`] has another
+//!   one begin beside it.
 //! - With the feature `tower`, `RetryLayer` is a layer that retries a service's requests, under any limit.
 //! - With the feature `leased`, all processes of a machine can share a `Leased` or a `LeasedQuota`, which count in a
 //!   folder. A store of your own implements [`Tickets`].
@@ -48,6 +53,7 @@ mod leased;
 mod limits;
 #[cfg(feature = "prometheus")]
 mod metrics;
+mod paces;
 mod policy;
 mod random;
 mod retry;
@@ -61,6 +67,7 @@ pub use leased::{Leased, LeasedQuota, StoreError};
 pub use limits::*;
 #[cfg(feature = "prometheus")]
 pub use metrics::register_metrics;
+pub use paces::*;
 pub use policy::{Fold, Line, Policy, PolicyError, PolicyFault, Schedule, Test, Waits};
 pub use retry::*;
 pub use storms::*;

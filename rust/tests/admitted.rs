@@ -30,7 +30,7 @@ fn tokens(capacity: f64) -> CallLimit {
 
 /// One retry for every two calls in flight.
 fn halves() -> CallLimit {
-    CallLimit::new(InFlight { least: 0, share: 0.5 }).unwrap()
+    CallLimit::new(InFlight { least: 0, share: 0.5, most: None }).unwrap()
 }
 
 /// A call that fails so often, and then says how often it failed.

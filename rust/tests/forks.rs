@@ -1,7 +1,10 @@
 //! Forked children: random words, budgets and quotas of their own, and no lock that another thread held at the fork.
 #![cfg(all(unix, feature = "leased"))]
 
-use hikebox::{both, retry, Breaker, Bucket, Budget, CallLimit, Pass, Policy, Quota, QuotaPass, RetryError, Retrying};
+use hikebox::{
+    both, retry, Breaker, Bucket, Budget, CallLimit, LimitError, LimitState, Pace, Pass, PerKey, Policy, Quota,
+    QuotaPass, Rate, RetryError, Retrying,
+};
 use std::cell::RefCell;
 use std::io::{Read, Write};
 use std::os::unix::net::UnixStream;
@@ -206,6 +209,82 @@ fn a_request_begins_anew_in_a_child() {
         format!("{} {}", request.draw().is_ok(), request.draw().is_ok())
     });
     assert_eq!(child, "true false");
+}
+
+/// Hours until a call would begin, to the nearest one.
+fn hours(pace: &Pace) -> u64 {
+    (pace.seen().as_secs() + 1800) / 3600
+}
+
+/// The child's pace is a fresh one, and turns of the parent's are nothing there.
+#[test]
+fn a_pace_begins_anew_in_a_child() {
+    let pace = Pace::new(Rate::new(1, Duration::from_secs(3600))).unwrap();
+    pace.take().unwrap().begin();
+    let (used, dropped) = (pace.take().unwrap(), pace.take().unwrap());
+    let child = in_child(move || {
+        let fresh = hours(&pace);
+        pace.take().unwrap().begin();
+        let own = pace.take().unwrap();
+        used.begin();
+        drop(dropped);
+        let taken = hours(&pace);
+        drop(own);
+        let grandchild = in_child(|| hours(&pace).to_string());
+        format!("{fresh} {taken} {} {grandchild}", hours(&pace))
+    });
+    assert_eq!(child, "0 2 1 0");
+}
+
+#[test]
+fn a_turn_stays_the_parents_whatever_its_child_does() {
+    let pace = Pace::new(Rate::new(1, Duration::from_secs(3600))).unwrap();
+    let turn = pace.take().unwrap();
+    assert_eq!(in_child(|| format!("{:?}", pace.take().map(|turn| turn.left().is_zero()))), "Ok(true)");
+    assert_eq!(hours(&pace), 1);
+    drop(turn);
+    assert_eq!(hours(&pace), 0);
+}
+
+/// A breaker that its parent opened by hand is closed in the child, which opens its own alone.
+#[test]
+fn a_child_opens_its_own_breaker() {
+    let breaker = || CallLimit::new(Breaker::consecutive(4, r#"{"spaced":30000}"#.parse().unwrap()));
+    let limits = PerKey::new(move |_: &u8| breaker());
+    let limit = limits.of(&1).unwrap();
+    limit.open(Duration::from_secs(3600)).unwrap();
+    let is_closed = |limit: &CallLimit| matches!(limit.seen()[..], [LimitState::Closed { failures: 0 }]);
+    let child = in_child(|| {
+        let fresh = (is_closed(&limit), limits.len(), is_closed(&limits.of(&1).unwrap()));
+        limit.open(Duration::from_secs(3600)).unwrap();
+        let opened = is_closed(&limit);
+        limit.close().unwrap();
+        format!("{fresh:?} {opened} {}", is_closed(&limit))
+    });
+    assert_eq!(child, "(true, 0, true) false true");
+    assert!(!is_closed(&limit));
+}
+
+#[test]
+fn a_child_takes_turns_and_limits_by_key_whatever_other_threads_did_at_the_fork() {
+    let pace = Pace::new(Rate::new(1, Duration::from_secs(3600))).unwrap();
+    let budgets = PerKey::new(|_: &u64| Budget::new(1)).keeping(2);
+    let takes = |key: u64| -> Result<bool, LimitError> {
+        drop(pace.take());
+        Ok(budgets.of(&(key % 5))?.pass()?.draw().is_ok())
+    };
+    let is_over = AtomicBool::new(false);
+    thread::scope(|scope| {
+        for _ in 0..3 {
+            scope.spawn(|| {
+                (0..).take_while(|_| !is_over.load(Ordering::Relaxed)).for_each(|key| assert!(takes(key).is_ok()))
+            });
+        }
+        let in_child = |_: &u64| in_child(|| format!("{:?} {}", takes(9), hours(&pace))) == "Ok(true) 0";
+        let children = (0..200).take_while(in_child).count();
+        is_over.store(true, Ordering::Relaxed);
+        assert_eq!(children, 200);
+    });
 }
 
 #[test]

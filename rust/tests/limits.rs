@@ -133,7 +133,7 @@ fn a_throttle_refuses_first_runs() {
 
 #[test]
 fn both_or_neither() {
-    let flights = CallLimit::new(InFlight { least: 0, share: 0.5 }).unwrap();
+    let flights = CallLimit::new(InFlight { least: 0, share: 0.5, most: None }).unwrap();
     let breaker = CallLimit::new(Breaker::consecutive(1, policy(r#"{"spaced":30000}"#))).unwrap();
     let limit = both(&flights, &breaker).unwrap();
     let mut request = admitted(&limit);
@@ -152,7 +152,7 @@ fn both_or_neither() {
 fn four_or_none() {
     let token = || CallLimit::new(Bucket { capacity: 1.0, cost: 1.0, ..Bucket::default() }).unwrap();
     let (first, second) = (token(), token());
-    let flights = CallLimit::new(InFlight { least: 1, share: 0.0 }).unwrap();
+    let flights = CallLimit::new(InFlight { least: 1, share: 0.0, most: None }).unwrap();
     let breaker = CallLimit::new(Breaker::consecutive(1, policy(r#"{"spaced":30000}"#))).unwrap();
     let limit = both(&both(&first, &flights).unwrap(), &both(&second, &breaker).unwrap()).unwrap();
     let mut request = admitted(&limit);
@@ -261,7 +261,7 @@ async fn futures_are_asked_too() {
     use hikebox::retry_async;
 
     let bucket = CallLimit::new(Bucket { capacity: 1.0, cost: 1.0, ..Bucket::default() }).unwrap();
-    let flights = CallLimit::new(InFlight { least: 1, share: 0.0 }).unwrap();
+    let flights = CallLimit::new(InFlight { least: 1, share: 0.0, most: None }).unwrap();
     let limit = both(&bucket, &flights).unwrap();
     let waits = policy(r#"{"spaced":60000}"#);
     let call = retry_async(&waits, &limit, || async { Err::<(), _>("busy") });
@@ -302,14 +302,14 @@ fn eight_threads_draw_each_token_once() {
 #[test]
 fn eight_threads_draw_each_token_of_three_limits_once() {
     let bucket = CallLimit::new(Bucket { capacity: 50_000.0, cost: 1.0, ..Bucket::default() }).unwrap();
-    let flights = CallLimit::new(InFlight { least: 8, share: 1.0 }).unwrap();
+    let flights = CallLimit::new(InFlight { least: 8, share: 1.0, most: None }).unwrap();
     let breaker = CallLimit::new(Breaker::consecutive(1, policy(r#"{"spaced":1}"#))).unwrap();
     assert_eq!(race(&both(&both(&bucket, &flights).unwrap(), &breaker).unwrap(), 10_000), 50_000);
 }
 
 #[test]
 fn eight_threads_give_each_slot_back() {
-    let limit = CallLimit::new(InFlight { least: 0, share: 0.5 }).unwrap();
+    let limit = CallLimit::new(InFlight { least: 0, share: 0.5, most: None }).unwrap();
     assert!(race(&limit, 10_000) <= 80_000);
     let mut alone = admitted(&limit);
     assert_eq!(refused(&mut alone), Some(RetriesFull));
@@ -349,8 +349,8 @@ fn terms_out_of_range() {
     is_refused(Bucket { debit: 500.001, ..Bucket::aws() }, &of_capacity("debit"));
     is_refused(Bucket { credit: 501.0, ..Bucket::aws() }, &of_capacity("credit"));
     is_refused(Bucket { capacity: 4.0, ..Bucket::aws() }, &of_capacity("cost")); // a retry takes five tokens
-    is_refused(InFlight { least: 0, share: 1.5 }, "share: expected 0, or from 0.001 to 1");
-    is_refused(InFlight { least: 0, share: 1.0001 }, "share: expected 0, or from 0.001 to 1");
+    is_refused(InFlight { least: 0, share: 1.5, most: None }, "share: expected 0, or from 0.001 to 1");
+    is_refused(InFlight { least: 0, share: 1.0001, most: None }, "share: expected 0, or from 0.001 to 1");
     is_refused(Breaker::consecutive(0, policy("\"forever\"")), "failures: expected 1 to 4294967295");
     let never = policy(r#"{"recurs":0}"#);
     is_refused(Breaker::consecutive(1, never), "open_for: expected a policy that goes on at least once");
@@ -376,7 +376,7 @@ fn terms_between_zero_and_a_thousandth() {
     };
     out(Bucket { cost: 0.0004, ..Bucket::aws() }.into());
     out(Bucket { debit: 0.0004, ..Bucket::aws() }.into());
-    out(InFlight { least: 0, share: 0.0004 }.into());
+    out(InFlight { least: 0, share: 0.0004, most: None }.into());
     assert!(CallLimit::new(Bucket { cost: 0.001, ..Bucket::aws() }).is_ok());
-    assert!(CallLimit::new(InFlight { least: 0, share: 0.001 }).is_ok());
+    assert!(CallLimit::new(InFlight { least: 0, share: 0.001, most: None }).is_ok());
 }

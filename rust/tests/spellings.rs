@@ -340,7 +340,7 @@ mod advised_5 {
         use hikebox::{CallLimit, InFlight, Policy, Schedule};
         use std::time::Duration;
         let policy = Policy::new(&(Schedule::recurs(8) & Schedule::exponential(Duration::from_millis(100), 2).cap(Duration::from_secs(10)).jittered(0.0..1.0)))?;
-        let limit = CallLimit::new(InFlight { least: 1, share: 0.05 })?;
+        let limit = CallLimit::new(InFlight { least: 1, share: 0.05, most: None })?;
         assert_eq!(hikebox::retry(&policy, &limit, || Ok::<_, std::io::Error>(7))?, 7);
         Ok(())
     }
@@ -351,7 +351,7 @@ mod advised_6 {
         use hikebox::{CallLimit, InFlight, Policy, Schedule};
         use std::time::Duration;
         let policy = Policy::new(&(Schedule::recurs(8) & Schedule::exponential(Duration::from_millis(100), 2).cap(Duration::from_secs(10)).jittered(0.0..1.0)))?;
-        let limit = CallLimit::new(InFlight { least: 10, share: 0.2 })?;
+        let limit = CallLimit::new(InFlight { least: 10, share: 0.2, most: None })?;
         assert_eq!(hikebox::retry(&policy, &limit, || Ok::<_, std::io::Error>(7))?, 7);
         Ok(())
     }
@@ -362,7 +362,7 @@ mod advised_7 {
         use hikebox::{Breaker, CallLimit, Policy, Schedule};
         use std::time::Duration;
         let policy = Policy::new(&(Schedule::recurs(8) & Schedule::exponential(Duration::from_millis(100), 2).cap(Duration::from_secs(10)).jittered(0.0..1.0)))?;
-        let limit = CallLimit::new(Breaker { failures: 5, open_for: Policy::new(&Schedule::spaced(Duration::from_secs(1)))?, probes: 1, probe_deadline: Duration::from_secs(1) })?;
+        let limit = CallLimit::new(Breaker { failures: 5, results: None, open_for: Policy::new(&Schedule::spaced(Duration::from_secs(1)))?, probes: 1, probe_deadline: Duration::from_secs(1) })?;
         assert_eq!(hikebox::retry(&policy, &limit, || Ok::<_, std::io::Error>(7))?, 7);
         Ok(())
     }
@@ -373,7 +373,7 @@ mod advised_8 {
         use hikebox::{Breaker, CallLimit, Policy, Schedule};
         use std::time::Duration;
         let policy = Policy::new(&(Schedule::recurs(8) & Schedule::exponential(Duration::from_millis(100), 2).cap(Duration::from_secs(10)).jittered(0.0..1.0)))?;
-        let limit = CallLimit::new(Breaker { failures: 20, open_for: Policy::new(&Schedule::spaced(Duration::from_secs(30)))?, probes: 1, probe_deadline: Duration::from_secs(1) })?;
+        let limit = CallLimit::new(Breaker { failures: 20, results: None, open_for: Policy::new(&Schedule::spaced(Duration::from_secs(30)))?, probes: 1, probe_deadline: Duration::from_secs(1) })?;
         assert_eq!(hikebox::retry(&policy, &limit, || Ok::<_, std::io::Error>(7))?, 7);
         Ok(())
     }

@@ -1,6 +1,6 @@
 //! Storms: that they are those of `zsched storm`, their numbers, and what is refused.
 
-use hikebox::{Breaker, Bucket, InFlight, Terms, Throttle};
+use hikebox::{Axis, Breaker, Bucket, InFlight, Measure, Sweep, Terms, Throttle};
 use hikebox::{LimitError, Policy, Population, PopulationReport, Schedule, Storm, StormError, StormReport};
 use std::error::Error;
 use std::io::Write;
@@ -292,6 +292,43 @@ fn none_is_won_and_the_storm_is_cut() {
 }
 
 #[test]
+#[cfg_attr(windows, ignore = "zsched is a program of Linux")]
+fn a_storm_by_moments_is_what_the_program_prints() {
+    let moments = [0, 0, 5, 5, 100, 20_500, 20_500, 31_000];
+    let path = Path::new(env!("CARGO_TARGET_TMPDIR")).join("moments.txt");
+    std::fs::write(&path, moments.map(|moment| format!("{moment}\n")).concat()).unwrap();
+    let name = path.to_str().unwrap();
+    let (full, once) = (full(), policy(Schedule::recurs(1)));
+    let storm = Storm::new(&full).arrivals(moments.map(millis)).capacity(100);
+    let report = storm.play().unwrap();
+    let options = format!("--arrivals {name} --capacity 100");
+    assert_eq!(report.to_json() + "\n", zsched("--json", &options, &full));
+    assert_eq!(report.to_csv(), zsched("--csv", &options, &full));
+    let report = storm.beside(Population::new(30, &once)).play().unwrap();
+    assert_eq!(report.to_json() + "\n", zsched_beside("--json", &options, &full, &[("30", &once)]));
+}
+
+#[test]
+fn requests_at_given_moments_by_hand() {
+    // the peer does a call a millisecond: the second of two waits for the first, and those in the outage are lost
+    let never = policy(Schedule::recurs(0));
+    let moments = || [0, 0, 5, 5, 100].map(millis);
+    let totals = Storm::new(&never).no_outage().arrivals(moments()).play().unwrap().totals;
+    assert_eq!((totals.requests, totals.won, totals.p50, totals.slowest), (5, 5, Some(millis(1)), Some(millis(2))));
+    let report = Storm::new(&never).outage(millis(5)..millis(100)).arrivals(moments()).play().unwrap();
+    assert_eq!((report.totals.won, report.totals.lost), (3, 2));
+    assert_eq!(report.totals.recovered, None); // (the one window begins in the outage)
+    let until = Storm::new(&never).no_outage().arrivals(moments()).until(millis(99)).play().unwrap();
+    assert_eq!(until.totals.requests, 4);
+    let sweep = Sweep::along(Axis::rate([1, 2])).line("by moments", Storm::new(&never).arrivals(moments()));
+    assert_eq!(sweep.play().unwrap_err(), StormError::ByMoments { parameter: "rate" });
+    let sweep = Sweep::along(Axis::capacity([1, 1000]))
+        .line("five", Storm::new(&never).no_outage().arrivals(moments()))
+        .line("one", Storm::new(&never).no_outage().arrivals([Duration::ZERO]));
+    assert_eq!(sweep.play().unwrap().numbers(Measure::Succeeded), [[Some(0.0), Some(100.0)], [Some(0.0), Some(100.0)]]);
+}
+
+#[test]
 fn what_is_out_of_range_is_named() {
     let once = policy(Schedule::recurs(1));
     let told = |storm: Storm| storm.play().map(|report: StormReport| report.totals.requests).unwrap_err().to_string();
@@ -340,6 +377,10 @@ fn what_is_out_of_range_is_named() {
             told(storm().rates([(Duration::ZERO..seconds(60), 17_477)])),
             "expected at most 1048576 requests, got more: rate times seconds",
         ),
+        (told(storm().arrivals([])), "arrivals: expected 1 to 1048576, got 0"),
+        (told(storm().arrivals([seconds(2), SECOND])), "arrivals: expected 2000 to 7200000, got 1000"),
+        (told(storm().arrivals([seconds(7201)])), "arrivals: expected 0 to 7200000, got 7201000"),
+        (told(storm().arrivals(vec![SECOND; 1_048_577])), "arrivals: expected 1 to 1048576, got 1048577"),
         (told(storm().rate(20_000)), "expected at most 1048576 requests, got more: rate times seconds"),
         (told(storm().window(millis(1))), "expected at most 65537 windows, got more: until divided by window"),
         (

@@ -259,6 +259,27 @@ fn each_ending_has_its_name_and_a_refusal_its_limit_and_reason() {
     assert_eq!(unpolled, [] as [String; 0]);
 }
 
+// The first run is late after 50 ms, and the second one, which begins 100 ms after that, succeeds at once.
+#[test]
+fn a_late_run_is_told_as_late() {
+    let policy = twice();
+    let retrying = Retrying::new(&policy, &Unlimited).hedge_after(Duration::from_millis(50));
+    let fetch = |run| async move {
+        tracing::info!(target: "told", "called");
+        if run == 1 {
+            pending().await
+        }
+        Ok::<_, std::io::Error>(run)
+    };
+    let runtime = tokio::runtime::Builder::new_current_thread().enable_time().start_paused(true).build().unwrap();
+    let lines = told(|| {
+        let answer = runtime.block_on(retrying.call_async_with(|attempt| fetch(attempt.number())));
+        assert_eq!(answer.unwrap(), 2);
+    });
+    let late = r#"DEBUG at depth 1 "a run is late, and another follows" run=1 wait=0.1"#;
+    assert_eq!(lines, [r#"DEBUG span retry call="a call""#, CALLED, late, CALLED, WON]);
+}
+
 #[cfg(feature = "prometheus")]
 mod metrics {
     use super::*;

@@ -26,9 +26,15 @@ impl Handle<LimitKind> {
         Self::filled(|limit| unsafe { hikebox_bucket_new(&terms, limit) })
     }
 
-    /// A bound on the retries in flight.
-    pub(crate) fn in_flight(least: u32, share: u32) -> Result<Self, Status> {
-        Self::filled(|limit| unsafe { hikebox_in_flight_new(least, share, limit) })
+    /// A bound on what is in flight.
+    pub(crate) fn in_flight(least: u32, share: u32, most: u32) -> Result<Self, Status> {
+        Self::filled(|limit| unsafe { hikebox_in_flight_new(least, share, most, limit) })
+    }
+
+    /// An adaptive limit.
+    pub(crate) fn adaptive(terms: AdaptiveTerms) -> Result<Self, Status> {
+        let terms = AdaptiveTerms { size: mem::size_of::<AdaptiveTerms>(), ..terms };
+        Self::filled(|limit| unsafe { hikebox_adaptive_new(&terms, limit) })
     }
 
     /// A breaker with these terms and open times, in milliseconds.
@@ -95,6 +101,24 @@ impl Handle<LimitKind> {
         let status = unsafe { hikebox_limit_begin(self.raw(), seen, &mut begun) };
         debug_assert_eq!(status, OK);
         begun
+    }
+
+    /// The state of the first of its limits.
+    pub(crate) fn state(&mut self, now: u64) -> State {
+        let mut state = State { size: mem::size_of::<State>(), ..State::default() };
+        let status = unsafe { hikebox_limit_state(self.raw(), 0, now, &mut state) };
+        debug_assert_eq!(status, OK);
+        state
+    }
+
+    /// Opens its breakers until a moment: whether there is one.
+    pub(crate) fn open(&mut self, now: u64, until: u64) -> bool {
+        unsafe { hikebox_breaker_open(self.raw(), now, until) == OK }
+    }
+
+    /// Closes its breakers: whether there is one.
+    pub(crate) fn close(&mut self, now: u64) -> bool {
+        unsafe { hikebox_breaker_close(self.raw(), now) == OK }
     }
 
     /// Tells that the request is over.

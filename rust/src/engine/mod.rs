@@ -5,6 +5,7 @@
 #[cfg(feature = "leased")]
 mod leased;
 mod limit;
+mod pace;
 mod pass;
 mod policy;
 mod retry;
@@ -16,17 +17,21 @@ use sys::*;
 #[cfg(feature = "leased")]
 pub(crate) use leased::{lease_of_budget, lease_of_quota, quota_allows, LeasedDraw, LeasedKind, Taken};
 pub(crate) use limit::{LimitKind, Refusal};
+pub(crate) use pace::PaceKind;
 pub(crate) use pass::PassKind;
 pub(crate) use policy::{fault, PolicyKind, Size};
 pub(crate) use retry::RetryKind;
+pub(crate) use sys::{AdaptiveTerms, BreakerTerms, BucketTerms, Seen, State};
 #[cfg(feature = "leased")]
 pub(crate) use sys::{Asking, Grant, Range, Stored, Ticket};
-pub(crate) use sys::{BreakerTerms, BucketTerms, Seen};
 pub(crate) use sys::{Course, Event, Line, Next, Phase, Place, Population, Run, Storm, Totals, Used, Window};
 pub(crate) use sys::{BREAKER_OPEN, LEVEL_LOW, PROBING, REQUESTS_FULL, RETRIES_FULL, THROTTLED};
 pub(crate) use sys::{ENDED_CANCELLED, ENDED_DEADLINE, ENDED_DONE, ENDED_LIMIT_REFUSED, ENDED_NO_MEMORY, ENDED_WON};
 pub(crate) use sys::{LOST, MAX_NUMBER, MAX_STEPS, MAX_TICKETS, NO_DEADLINE, NO_REPORT, OVER, RUN, WAIT, WON};
-pub(crate) use sys::{ON_BREAKER, ON_BUCKET, ON_BUDGET, ON_IN_FLIGHT, ON_NOTHING, ON_QUOTA, ON_THROTTLE};
+pub(crate) use sys::{
+    NO_MOST, ON_ADAPTIVE, ON_BREAKER, ON_BUCKET, ON_BUDGET, ON_IN_FLIGHT, ON_NOTHING, ON_QUOTA, ON_THROTTLE,
+};
+pub(crate) use sys::{STATE_BUCKET, STATE_CLOSED, STATE_HALF_OPEN, STATE_IN_FLIGHT, STATE_OPEN, STATE_THROTTLE};
 
 // SAFETY of the calls in this folder: a pointer is to a handle of the kind that the call wants, or to an empty one that
 // it fills; a text or a room is valid for the length that is told; each result has a place of its own; and a handle

@@ -80,11 +80,13 @@ impl Handle<PolicyKind> {
     }
 
     /// Plays a storm under it, and under these policies of the populations beside the first one, of which there are three
-    /// at most; its report is of at most so many windows. What it answers is the windows that there are, and the totals.
+    /// at most. Requests come at these moments, or by the storm's rates where there are none. Its report is of at most so
+    /// many windows. What it answers is the windows that there are, and the totals.
     pub(crate) fn play(
         &mut self,
         others: &mut [Self],
         storm: &Storm,
+        arrivals: &[u64],
         room: usize,
     ) -> Result<(Vec<Window>, Totals), Status> {
         let mut totals = Totals { size: mem::size_of::<Totals>(), ..Totals::default() };
@@ -92,12 +94,14 @@ impl Handle<PolicyKind> {
         let [mut second, mut third, mut fourth] = [Raw::EMPTY; 3];
         let mut others = others.iter_mut().map(Self::raw);
         Status::of(unsafe {
-            hikebox_storm_play_populations(
+            hikebox_storm_play_arrivals(
                 self.raw(),
                 others.next().unwrap_or(&mut second),
                 others.next().unwrap_or(&mut third),
                 others.next().unwrap_or(&mut fourth),
                 storm,
+                arrivals.as_ptr(),
+                arrivals.len(),
                 windows.as_mut_ptr(),
                 windows.len(),
                 &mut count,

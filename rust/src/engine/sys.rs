@@ -151,6 +151,17 @@ pub(crate) struct Seen {
     pub(crate) fourth: u64,
 }
 
+/// An adaptive limit.
+#[repr(C)]
+#[derive(Clone, Copy, Debug, Default)]
+pub(crate) struct AdaptiveTerms {
+    pub(crate) size: usize,
+    pub(crate) least: u64,
+    pub(crate) most: u64,
+    pub(crate) first: u64,
+    pub(crate) backoff: u64,
+}
+
 /// A breaker without its open times.
 #[repr(C)]
 #[derive(Clone, Copy, Debug, Default)]
@@ -159,6 +170,19 @@ pub(crate) struct BreakerTerms {
     pub(crate) failures: u64,
     pub(crate) probes: u64,
     pub(crate) deadline: u64,
+    pub(crate) results: u64,
+}
+
+/// A limit's state.
+#[repr(C)]
+#[derive(Clone, Copy, Debug, Default)]
+pub(crate) struct State {
+    pub(crate) size: usize,
+    pub(crate) kind: u64,
+    pub(crate) first: u64,
+    pub(crate) second: u64,
+    pub(crate) third: u64,
+    pub(crate) until: u64,
 }
 
 #[repr(C)]
@@ -209,7 +233,11 @@ pub(crate) struct Storm {
     pub(crate) cost: u64,
     pub(crate) late_cost: u64,
     pub(crate) least: u64,
+    pub(crate) most: u64,
+    pub(crate) first: u64,
+    pub(crate) backoff: u64,
     pub(crate) failures: u64,
+    pub(crate) results: u64,
     pub(crate) probes: u64,
     pub(crate) deadline: u64,
     pub(crate) ratio: u64,
@@ -295,6 +323,7 @@ pub(crate) const RETRIES_FULL: u32 = 62;
 pub(crate) const BREAKER_OPEN: u32 = 63;
 pub(crate) const PROBING: u32 = 64;
 pub(crate) const THROTTLED: u32 = 65;
+pub(crate) const TOO_SOON: u32 = 70;
 
 pub(crate) const NO_REPORT: u32 = 0;
 pub(crate) const WON: u32 = 1;
@@ -320,6 +349,15 @@ pub(crate) const ON_BUCKET: u64 = 3;
 pub(crate) const ON_IN_FLIGHT: u64 = 4;
 pub(crate) const ON_BREAKER: u64 = 5;
 pub(crate) const ON_THROTTLE: u64 = 6;
+pub(crate) const ON_ADAPTIVE: u64 = 7;
+/// The most requests in flight of a bound that sets none.
+pub(crate) const NO_MOST: u32 = 4_294_967_295;
+pub(crate) const STATE_BUCKET: u64 = 1;
+pub(crate) const STATE_IN_FLIGHT: u64 = 2;
+pub(crate) const STATE_CLOSED: u64 = 3;
+pub(crate) const STATE_OPEN: u64 = 4;
+pub(crate) const STATE_HALF_OPEN: u64 = 5;
+pub(crate) const STATE_THROTTLE: u64 = 6;
 
 /// The greatest moment, length of a window, and code.
 pub(crate) const MAX_NUMBER: u64 = (1 << 62) - 1;
@@ -386,7 +424,8 @@ extern "C" {
     pub(super) fn hikebox_policy_free(policy: *mut Raw) -> u32;
 
     pub(super) fn hikebox_bucket_new(bucket: *const BucketTerms, limit: *mut Raw) -> u32;
-    pub(super) fn hikebox_in_flight_new(least: u32, share: u32, limit: *mut Raw) -> u32;
+    pub(super) fn hikebox_in_flight_new(least: u32, share: u32, most: u32, limit: *mut Raw) -> u32;
+    pub(super) fn hikebox_adaptive_new(adaptive: *const AdaptiveTerms, limit: *mut Raw) -> u32;
     pub(super) fn hikebox_breaker_new(
         now: u64,
         breaker: *const BreakerTerms,
@@ -410,8 +449,18 @@ extern "C" {
     pub(super) fn hikebox_limit_cancelled(limit: *mut Raw) -> u32;
     pub(super) fn hikebox_limit_ended(limit: *mut Raw) -> u32;
     pub(super) fn hikebox_limit_free(limit: *mut Raw) -> u32;
+    pub(super) fn hikebox_limit_state(limit: *mut Raw, which: u32, now: u64, state: *mut State) -> u32;
+    pub(super) fn hikebox_breaker_open(limit: *mut Raw, now: u64, until: u64) -> u32;
+    pub(super) fn hikebox_breaker_close(limit: *mut Raw, now: u64) -> u32;
     pub(super) fn hikebox_limit_look(limit: *mut Raw, seen: *mut Seen, quiet: *mut bool) -> u32;
     pub(super) fn hikebox_limit_begin(limit: *mut Raw, seen: *const Seen, begun: *mut bool) -> u32;
+
+    pub(super) fn hikebox_pace_new(each: u64, burst: u64, longest: u64, pace: *mut Raw) -> u32;
+    pub(super) fn hikebox_pace_split(pace: *mut Raw, part: *mut Raw) -> u32;
+    pub(super) fn hikebox_pace_take(pace: *mut Raw, now: u64, cost: u64, at: *mut u64) -> u32;
+    pub(super) fn hikebox_pace_give_back(pace: *mut Raw, given: *mut bool) -> u32;
+    pub(super) fn hikebox_pace_seen(pace: *mut Raw, now: u64, at: *mut u64) -> u32;
+    pub(super) fn hikebox_pace_free(pace: *mut Raw) -> u32;
 
     pub(super) fn hikebox_budget_fixed(limit: u64, pass: *mut Raw) -> u32;
     pub(super) fn hikebox_budget_rising(limit: u64, pass: *mut Raw) -> u32;
@@ -492,12 +541,14 @@ extern "C" {
     #[cfg(feature = "leased")]
     pub(super) fn hikebox_leased_free(leased: *mut Raw) -> u32;
 
-    pub(super) fn hikebox_storm_play_populations(
+    pub(super) fn hikebox_storm_play_arrivals(
         policy: *mut Raw,
         second: *mut Raw,
         third: *mut Raw,
         fourth: *mut Raw,
         storm: *const Storm,
+        arrivals: *const u64,
+        arrivals_count: usize,
         windows: *mut Window,
         capacity: usize,
         count: *mut usize,

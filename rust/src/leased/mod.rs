@@ -14,6 +14,7 @@ use crate::leased::share::{Answer, Share, Tell, AGAIN_AFTER};
 use crate::leased::uptime::Window;
 use crate::limits::error::LimitError;
 use crate::limits::grants::{Limit, Source, Tickets};
+use crate::limits::per_key::Counted;
 use crate::limits::quota::{thousandths, AtomicTerms, Terms, Usage};
 use crate::limits::ticket::{NoTicket, Ticket};
 use crate::limits::uses::{options_of_uses, Uses};
@@ -388,6 +389,18 @@ impl Tickets for LeasedQuota {
         if let (true, Some(ticket)) = (self.uses.returns_tickets, last) {
             Tickets::hand_back(self, ticket);
         }
+    }
+}
+
+impl Counted for Leased {
+    fn clones(&self) -> usize {
+        self.share.clones()
+    }
+}
+
+impl Counted for LeasedQuota {
+    fn clones(&self) -> usize {
+        self.shared.clones()
     }
 }
 

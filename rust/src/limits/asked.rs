@@ -1,8 +1,9 @@
 //! What a call holds of a limit that it asked before its first run.
 
 use crate::engine::Seen;
-use crate::limits::call_limit::{Admitted, CallLimit, Refused, Request};
+use crate::limits::call_limit::{Admitted, CallLimit, Request};
 use crate::limits::grants::{Held, Limit};
+use crate::limits::refused::Refused;
 use crate::system::{generation, is_generation};
 use std::sync::Arc;
 

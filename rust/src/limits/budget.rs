@@ -3,6 +3,7 @@
 use crate::engine::{Handle, PassKind, Status};
 use crate::limits::error::LimitError;
 use crate::limits::part::{Part, Root};
+use crate::limits::per_key::Counted;
 use crate::limits::slots::Slots;
 use crate::limits::ticket::{NoTicket, Ticket};
 use crate::system::PerProcess;
@@ -188,6 +189,12 @@ fn root_of(limit: u64, rises: bool) -> Result<Handle<PassKind>, Status> {
         Handle::rising(limit)
     } else {
         Handle::fixed(limit)
+    }
+}
+
+impl Counted for Budget {
+    fn clones(&self) -> usize {
+        self.shared.clones()
     }
 }
 

@@ -1,25 +1,27 @@
 //! Limits of other systems, which a call asks before its first run too.
 
-use crate::clock::{whole_millis, Moment};
-use crate::engine::{self, BreakerTerms, BucketTerms, Course, Event, Handle, LimitKind, Refusal, Status};
-use crate::engine::{ON_BREAKER, ON_BUCKET, ON_IN_FLIGHT, ON_THROTTLE};
+use crate::clock::{beginning, whole_millis, Moment};
+use crate::engine::{Handle, LimitKind, MAX_NUMBER};
 use crate::limits::asked::Quiet;
 use crate::limits::error::LimitError;
 use crate::limits::grants::Tickets;
+use crate::limits::per_key::Counted;
+use crate::limits::refused::{RefusalReason, Refused};
+use crate::limits::seen::LimitState;
 use crate::limits::slots::Slots;
+use crate::limits::terms::{fault, thousandths, Terms};
 use crate::limits::ticket::{NoTicket, Ticket};
-use crate::policy::Policy;
 use crate::random;
-use crate::system::{generation, is_generation, MadeOnce, PerProcess};
-use std::error::Error;
+use crate::system::{generation, is_generation, PerProcess};
 use std::fmt;
 use std::mem;
 use std::sync::{Arc, Mutex, MutexGuard, PoisonError};
-use std::time::{Duration, Instant};
+use std::time::Duration;
 
-/// A limit of another system: a [`Bucket`], a bound on what is [`InFlight`], a [`Breaker`] or a [`Throttle`]. A call
-/// asks it before its first run and before each retry, and it learns how each run ended. All threads of a program
-/// share it, and what they do acts as one sequence. It is cheap to clone; all clones are the same limit.
+/// A limit of another system: a [`Bucket`](crate::Bucket), a bound on what is [`InFlight`](crate::InFlight), a
+/// [`Breaker`](crate::Breaker), a [`Throttle`](crate::Throttle) or an [`Adaptive`](crate::Adaptive) limit. A call asks it
+/// before its first run and before each retry, and it learns how each run ended. All threads of a program share it, and
+/// what they do acts as one sequence. It is cheap to clone; all clones are the same limit.
 ///
 /// ```
 /// use hikebox::{retry, Breaker, CallLimit, Policy, RefusalReason, RetryError};
@@ -72,292 +74,11 @@ enum Made {
     All(Vec<CallLimit>),
 }
 
-/// Moment 0 of all limits, so that two at once have one clock. It lies a day before the first limit is made: a runtime
-/// of tokio's may have stopped its clock before that.
-static BEGAN: MadeOnce<Moment> = MadeOnce::new();
-
-const A_DAY: Duration = Duration::from_secs(86_400);
-
 /// The first handle of a limit, those that no request uses now, and those that look.
 struct Handles {
     root: Mutex<Handle<LimitKind>>,
     idle: Mutex<Vec<Handle<LimitKind>>>,
     looks: Slots<Handle<LimitKind>>,
-}
-
-/// What a [`CallLimit`] is made with.
-#[derive(Clone, Debug, PartialEq)]
-#[non_exhaustive]
-pub enum Terms {
-    /// A bucket.
-    Bucket(Bucket),
-    /// A bound on the retries in flight.
-    InFlight(InFlight),
-    /// A breaker.
-    Breaker(Breaker),
-    /// A throttle.
-    Throttle(Throttle),
-}
-
-/// A bucket of tokens, which are counted in thousandths: a number above 0 is at least one of them. It is full at first.
-#[derive(Clone, Copy, Debug, Default, PartialEq)]
-pub struct Bucket {
-    /// The tokens of a full bucket.
-    pub capacity: f64,
-    /// The tokens that a retry must leave.
-    pub floor: f64,
-    /// The tokens that a failed run takes.
-    pub debit: f64,
-    /// The tokens that a success gives.
-    pub credit: f64,
-    /// The tokens that a retry takes: at most the capacity.
-    pub cost: f64,
-    /// Whether a success gives back what the call's last retry took, in the place of the credit.
-    pub refund: bool,
-}
-
-/// A bound on the retries in flight: the greater of a least number and a share of the calls in flight. A retry is in
-/// flight from its draw to the call's next draw or its end, or until it is cancelled in its wait.
-#[derive(Clone, Copy, Debug, PartialEq)]
-pub struct InFlight {
-    /// The retries that there may be, however few calls there are.
-    pub least: u32,
-    /// The retries that each call in flight allows, from 0 to 1: 0.2 is one for every five. It is counted in
-    /// thousandths.
-    pub share: f64,
-}
-
-/// A circuit breaker: after failures in a row it is open, then it is half open and admits probes, and when these
-/// succeed it is closed.
-#[derive(Clone, Debug, PartialEq, Eq, Hash)]
-pub struct Breaker {
-    /// How many failures in a row open it.
-    pub failures: u32,
-    /// The policy whose waits are the times for which it is open: the first one, and the next each time that a probe
-    /// fails. The last of them is used again.
-    pub open_for: Policy,
-    /// How many probes it admits, and how many successes close it: 1 to 15.
-    pub probes: u8,
-    /// How long after its last probe it admits others, if the probes told nothing.
-    pub probe_deadline: Duration,
-}
-
-/// Google's client throttling: a first run or a retry is refused with the probability
-/// (requests - ratio * accepts) / (requests + 1), over the present window and the one before.
-#[derive(Clone, Copy, Debug, PartialEq)]
-pub struct Throttle {
-    /// The requests that each accepted one allows, 1 or more. It is counted in thousandths.
-    pub ratio: f64,
-    /// The length of a window. Of each window 1,048,575 requests are counted at most.
-    pub period: Duration,
-}
-
-impl Bucket {
-    /// gRPC's `retryThrottling`: a failure takes one token, a success gives `token_ratio` of one, and a retry is
-    /// granted while more than half of `max_tokens` are left. As in gRPC, what follows the third decimal of the ratio
-    /// is ignored.
-    ///
-    /// # Errors
-    ///
-    /// [`LimitError::OutOfRange`] if there is no token, or the ratio is out of its range.
-    pub fn grpc(max_tokens: u32, token_ratio: f64) -> Result<Self, LimitError> {
-        let capacity = f64::from(max_tokens);
-        let most = thousandths(capacity).filter(|most| *most > 0);
-        let most = within(most, MAX_CAPACITY, "max_tokens", "1 to 1099511627 tokens")?;
-        within(thousandths(token_ratio), most, "token_ratio", "0, or from 0.001 to max_tokens")?;
-        // (a float may be short of its last decimal; a ratio below the third one is left for `thousandths` to judge)
-        let whole = (token_ratio * 1000.0 + 1e-6).floor();
-        let credit = if whole >= 1.0 { whole / 1000.0 } else { token_ratio };
-        Ok(Self { capacity, floor: capacity / 2.0 + 0.001, debit: 1.0, credit, cost: 0.0, refund: false })
-    }
-
-    /// The AWS SDKs' standard mode: 500 tokens, of which a retry takes 5. A success gives back what the call's last
-    /// retry took, or else 1. (The SDKs take 10 after a timeout: [`Request::draw_at`] takes any number.)
-    #[must_use]
-    pub fn aws() -> Self {
-        Self { capacity: 500.0, floor: 0.0, debit: 0.0, credit: 1.0, cost: 5.0, refund: true }
-    }
-
-    fn made(&self) -> Result<Handle<LimitKind>, LimitError> {
-        let BucketNumbers { capacity, floor, debit, credit, .. } = self.numbers()?;
-        Handle::bucket(BucketTerms { size: 0, capacity, floor, debit, credit, refund: self.refund }).map_err(fault)
-    }
-
-    /// Its numbers in thousandths.
-    fn numbers(&self) -> Result<BucketNumbers, LimitError> {
-        let capacity = within(thousandths(self.capacity), MAX_CAPACITY, "capacity", CAPACITY)?;
-        Ok(BucketNumbers {
-            capacity,
-            floor: tokens(self.floor, capacity, "floor")?,
-            debit: tokens(self.debit, capacity, "debit")?,
-            credit: tokens(self.credit, capacity, "credit")?,
-            cost: tokens(self.cost, capacity, "cost")?,
-        })
-    }
-}
-
-impl InFlight {
-    /// Envoy's `retry_budget`: 20 per cent and 3 are its defaults.
-    ///
-    /// # Errors
-    ///
-    /// [`LimitError::OutOfRange`] for what is no number of per cent, such as a share of 0.2.
-    pub fn envoy(budget_percent: f64, min_retry_concurrency: u32) -> Result<Self, LimitError> {
-        if budget_percent != 0.0 && !(1.0..=100.0).contains(&budget_percent) {
-            return Err(out_of_range("budget_percent", "per cent, 0 or from 1 to 100"));
-        }
-        Ok(Self { least: min_retry_concurrency, share: budget_percent / 100.0 })
-    }
-
-    fn made(&self) -> Result<Handle<LimitKind>, LimitError> {
-        Handle::in_flight(self.least, self.thousandths()? as u32).map_err(fault)
-    }
-
-    /// Its share in thousandths.
-    fn thousandths(&self) -> Result<u64, LimitError> {
-        within(thousandths(self.share).filter(|_| self.share <= 1.0), 1000, "share", "0, or from 0.001 to 1")
-    }
-}
-
-impl Breaker {
-    /// One that opens after so many failures in a row, with one probe and 30 seconds for it.
-    #[must_use]
-    pub fn consecutive(failures: u32, open_for: Policy) -> Self {
-        Self { failures, open_for, probes: 1, probe_deadline: Duration::from_secs(30) }
-    }
-
-    /// The open times: the waits of the policy on a course whose events have the input 0 and the random words 0.
-    fn times(&self) -> Result<Vec<u64>, LimitError> {
-        let course = Course { size: mem::size_of::<Course>(), steps: 64, from: 0, took: 0 };
-        let mut policy = self.open_for.share().map_err(fault)?;
-        let (lines, _) = policy.course(course, &[Event { input: 0, words: [0; 4] }]).map_err(fault)?;
-        let times: Vec<u64> = lines.iter().filter(|line| line.goes_on).map(|line| line.start - line.moment).collect();
-        match times.iter().max() {
-            None => Err(out_of_range("open_for", "a policy that goes on at least once")),
-            Some(0) => Err(out_of_range("open_for", NEVER_OPEN)),
-            Some(_) => Ok(times),
-        }
-    }
-
-    fn made(&self, now: u64) -> Result<Handle<LimitKind>, LimitError> {
-        if self.failures == 0 {
-            return Err(out_of_range("failures", "1 to 4294967295"));
-        }
-        if !(1..=MAX_PROBES).contains(&self.probes) {
-            return Err(out_of_range("probes", "1 to 15"));
-        }
-        let times = self.times()?;
-        let deadline = whole_millis(self.probe_deadline);
-        let (failures, probes) = (self.failures.into(), self.probes.into());
-        Handle::breaker(now, BreakerTerms { size: 0, failures, probes, deadline }, &times).map_err(fault)
-    }
-}
-
-impl Throttle {
-    /// The SRE book's: two requests for each accepted one, over two minutes.
-    #[must_use]
-    pub fn google() -> Self {
-        Self { ratio: 2.0, period: Duration::from_secs(60) }
-    }
-
-    fn made(&self, now: u64) -> Result<Handle<LimitKind>, LimitError> {
-        let (ratio, period) = (self.thousandths()?, whole_millis(self.period));
-        if period == 0 {
-            return Err(out_of_range("period", "at least a millisecond"));
-        }
-        Handle::throttle(now, ratio as u32, period).map_err(fault)
-    }
-
-    /// Its ratio in thousandths.
-    fn thousandths(&self) -> Result<u64, LimitError> {
-        let ratio = thousandths(self.ratio).filter(|ratio| *ratio >= 1000);
-        within(ratio, u32::MAX.into(), "ratio", "1 to 4294967.295")
-    }
-}
-
-impl Terms {
-    /// Puts them into the parameters of a storm.
-    pub(crate) fn on_storm(&self, storm: &mut engine::Storm) -> Result<(), LimitError> {
-        match self {
-            Self::Bucket(bucket) => {
-                let BucketNumbers { capacity, floor, debit, credit, cost } = bucket.numbers()?;
-                (storm.draws_on, storm.cost, storm.late_cost) = (ON_BUCKET, cost, cost);
-                (storm.bucket_capacity, storm.bucket_floor) = (capacity, floor);
-                (storm.bucket_debit, storm.bucket_credit) = (debit, credit);
-                storm.bucket_refund = bucket.refund.into();
-            }
-            Self::InFlight(in_flight) => {
-                (storm.draws_on, storm.least) = (ON_IN_FLIGHT, in_flight.least.into());
-                storm.share = in_flight.thousandths()?;
-            }
-            Self::Breaker(breaker) => {
-                let times = breaker.times()?;
-                (storm.draws_on, storm.open_count) = (ON_BREAKER, times.len() as u64);
-                storm.open_times[..times.len()].copy_from_slice(&times);
-                (storm.failures, storm.probes) = (breaker.failures.into(), breaker.probes.into());
-                storm.deadline = whole_millis(breaker.probe_deadline);
-            }
-            Self::Throttle(throttle) => {
-                (storm.draws_on, storm.ratio) = (ON_THROTTLE, throttle.thousandths()?);
-                storm.period = whole_millis(throttle.period);
-            }
-        }
-        Ok(())
-    }
-}
-
-/// The numbers of a bucket in thousandths of a token.
-struct BucketNumbers {
-    capacity: u64,
-    floor: u64,
-    debit: u64,
-    credit: u64,
-    cost: u64,
-}
-
-/// The greatest capacity, in thousandths of a token.
-const MAX_CAPACITY: u64 = 1 << 40;
-
-/// What a policy by which a breaker would never open should be.
-const NEVER_OPEN: &str =
-    "a policy with an open time above 0: open times are its waits for the least random numbers, and \
-full jitter makes these 0; write no jitter, or jittered(0.5..1.0)";
-
-/// The most probes of a breaker.
-const MAX_PROBES: u8 = 15;
-
-const CAPACITY: &str = "0, or from 0.001 to 1099511627.776 tokens";
-
-/// What the other numbers of a bucket may be.
-const TOKENS: &str = "0, or from 0.001 to the capacity";
-
-/// A number in thousandths; `None` if it is out of range, or not 0 and less than half a thousandth.
-fn thousandths(number: f64) -> Option<u64> {
-    let thousandths = (number * 1000.0).round();
-    let is_in_range = (0.0..=1.1e9).contains(&number) && (number == 0.0 || thousandths > 0.0);
-    is_in_range.then_some(thousandths as u64)
-}
-
-/// Tokens in thousandths, at most as many as the capacity.
-pub(crate) fn tokens(number: f64, capacity: u64, parameter: &'static str) -> Result<u64, LimitError> {
-    within(thousandths(number), capacity, parameter, TOKENS)
-}
-
-/// The number, if there is one and it is at most `most`.
-fn within(number: Option<u64>, most: u64, parameter: &'static str, expected: &'static str) -> Result<u64, LimitError> {
-    number.filter(|number| *number <= most).ok_or_else(|| out_of_range(parameter, expected))
-}
-
-fn out_of_range(parameter: &'static str, expected: &'static str) -> LimitError {
-    LimitError::OutOfRange { parameter, expected }
-}
-
-fn fault(status: Status) -> LimitError {
-    match status {
-        Status::NoMemory | Status::TooManyPasses => LimitError::NoMemory,
-        // (numbers are checked before, so these are limits that are joined)
-        _ => LimitError::TooManyLimits,
-    }
 }
 
 impl CallLimit {
@@ -371,7 +92,7 @@ impl CallLimit {
     }
 
     fn of(made: Made) -> Result<Self, LimitError> {
-        let began = BEGAN.get(|| Moment::of(Instant::now()).before(A_DAY));
+        let began = beginning();
         let handles = PerProcess::new(Handles::of(made.handle(moment_of(began))?));
         let (reads, rests) = (made.reads(), made.rests());
         Ok(Self { shared: Arc::new(Shared { made, began, reads, rests, handles }) })
@@ -395,6 +116,56 @@ impl CallLimit {
             None => lock(&self.handles().root).split().map_err(fault)?,
         };
         Ok(Request { limit: self.clone(), handle: Some(handle), generation: generation(), is_admitted: false })
+    }
+
+    /// The state of each of its limits now, in the order in which they are asked. It changes nothing.
+    ///
+    /// ```
+    /// use hikebox::{Bucket, CallLimit, LimitState};
+    ///
+    /// let bucket = CallLimit::new(Bucket::aws())?;
+    /// assert_eq!(bucket.seen(), [LimitState::Bucket { level: 500.0, capacity: 500.0 }]);
+    /// # Ok::<(), hikebox::LimitError>(())
+    /// ```
+    #[must_use]
+    pub fn seen(&self) -> Vec<LimitState> {
+        match &self.shared.made {
+            Made::All(limits) => limits.iter().flat_map(Self::seen).collect(),
+            Made::Of(_) => {
+                let now = moment_of(self.shared.began);
+                vec![LimitState::of(&lock(&self.handles().root).state(now), now)]
+            }
+        }
+    }
+
+    /// Opens a breaker by hand for so long, or each of several limits that is one. Runs that are under way change
+    /// nothing when they end.
+    ///
+    /// # Errors
+    ///
+    /// [`LimitError::NoBreaker`] if none is a breaker.
+    pub fn open(&self, time: Duration) -> Result<(), LimitError> {
+        let now = moment_of(self.shared.began);
+        let until = now.saturating_add(whole_millis(time)).min(MAX_NUMBER);
+        self.by_hand(|handle| handle.open(now, until))
+    }
+
+    /// Closes a breaker by hand, or each of several limits that is one: with no failure counted. Runs that are under way
+    /// change nothing when they end.
+    ///
+    /// # Errors
+    ///
+    /// As of [`open`](Self::open).
+    pub fn close(&self) -> Result<(), LimitError> {
+        let now = moment_of(self.shared.began);
+        self.by_hand(|handle| handle.close(now))
+    }
+
+    fn by_hand(&self, change: impl FnOnce(&mut Handle<LimitKind>) -> bool) -> Result<(), LimitError> {
+        match change(&mut lock(&self.handles().root)) {
+            true => Ok(()),
+            false => Err(LimitError::NoBreaker),
+        }
     }
 
     /// What a look of this thread's handle sees, where the limit is quiet.
@@ -537,7 +308,7 @@ pub fn both(first: &CallLimit, second: &CallLimit) -> Result<CallLimit, LimitErr
 impl Made {
     fn reads(&self) -> Reads {
         match self {
-            Self::Of(Terms::Bucket(_) | Terms::InFlight(_)) => Reads::default(),
+            Self::Of(Terms::Bucket(_) | Terms::InFlight(_) | Terms::Adaptive(_)) => Reads::default(),
             Self::Of(Terms::Breaker(_)) => Reads { clock: true, words: false },
             Self::Of(Terms::Throttle(_)) => Reads { clock: true, words: true },
             Self::All(limits) => limits.iter().fold(Reads::default(), |read, limit| {
@@ -558,10 +329,7 @@ impl Made {
     /// The limit in the engine, made at this moment.
     fn handle(&self, now: u64) -> Result<Handle<LimitKind>, LimitError> {
         match self {
-            Self::Of(Terms::Bucket(bucket)) => bucket.made(),
-            Self::Of(Terms::InFlight(flight)) => flight.made(),
-            Self::Of(Terms::Breaker(breaker)) => breaker.made(now),
-            Self::Of(Terms::Throttle(throttle)) => throttle.made(now),
+            Self::Of(terms) => terms.made(now),
             // (a handle that was split off is hardly split again, so each limit gives one of its first)
             Self::All(limits) => {
                 let mut parts = limits.iter().map(|limit| lock(&limit.handles().root).split().map_err(fault));
@@ -733,100 +501,11 @@ impl Tickets for Admitted {
     }
 }
 
-/// Why a limit refuses a first run or a retry.
-#[derive(Clone, Copy, Debug, PartialEq, Eq, Hash)]
-pub struct Refused {
-    reason: RefusalReason,
-    retry_after: Option<Duration>,
-}
-
-/// The reasons of a [`Refused`].
-#[derive(Clone, Copy, Debug, PartialEq, Eq, Hash)]
-#[non_exhaustive]
-pub enum RefusalReason {
-    /// The bucket's level is too low.
-    LevelLow,
-    /// Too many calls are in flight to be counted.
-    RequestsFull,
-    /// Too many retries are in flight.
-    RetriesFull,
-    /// The breaker is open.
-    BreakerOpen,
-    /// The breaker is half open, and its probes are out.
-    Probing,
-    /// The throttle refuses.
-    Throttled,
-    /// A request asks to be admitted once before it draws.
-    OutOfTurn,
-    /// Memory ran out.
-    NoMemory,
-}
-
-impl RefusalReason {
-    /// The name by which it is told.
-    pub(crate) fn told(self) -> &'static str {
-        match self {
-            Self::LevelLow => "level_low",
-            Self::RequestsFull => "requests_full",
-            Self::RetriesFull => "retries_full",
-            Self::BreakerOpen => "breaker_open",
-            Self::Probing => "probing",
-            Self::Throttled => "throttled",
-            Self::OutOfTurn => "out_of_turn",
-            Self::NoMemory => "no_memory",
-        }
+impl Counted for CallLimit {
+    fn clones(&self) -> usize {
+        self.shared.clones()
     }
 }
-
-impl Refused {
-    fn of(refusal: Refusal, now: u64) -> Self {
-        let reason = match refusal.status {
-            engine::LEVEL_LOW => RefusalReason::LevelLow,
-            engine::REQUESTS_FULL => RefusalReason::RequestsFull,
-            engine::RETRIES_FULL => RefusalReason::RetriesFull,
-            engine::BREAKER_OPEN => RefusalReason::BreakerOpen,
-            engine::PROBING => RefusalReason::Probing,
-            engine::THROTTLED => RefusalReason::Throttled,
-            _ => RefusalReason::OutOfTurn,
-        };
-        let is_open = reason == RefusalReason::BreakerOpen;
-        let retry_after = is_open.then(|| Duration::from_millis(refusal.number.saturating_sub(now)));
-        Self { reason, retry_after }
-    }
-
-    fn of_memory() -> Self {
-        Self { reason: RefusalReason::NoMemory, retry_after: None }
-    }
-
-    /// Why.
-    #[must_use]
-    pub fn reason(&self) -> RefusalReason {
-        self.reason
-    }
-
-    /// How long the breaker is open yet, if that is why.
-    #[must_use]
-    pub fn retry_after(&self) -> Option<Duration> {
-        self.retry_after
-    }
-}
-
-impl fmt::Display for Refused {
-    fn fmt(&self, f: &mut fmt::Formatter<'_>) -> fmt::Result {
-        f.write_str(match self.reason {
-            RefusalReason::LevelLow => "the bucket's level is too low",
-            RefusalReason::RequestsFull => "too many calls are in flight",
-            RefusalReason::RetriesFull => "too many retries are in flight",
-            RefusalReason::BreakerOpen => "the breaker is open",
-            RefusalReason::Probing => "the breaker's probes are out",
-            RefusalReason::Throttled => "the throttle refuses",
-            RefusalReason::OutOfTurn => "the call is out of turn",
-            RefusalReason::NoMemory => "no memory",
-        })
-    }
-}
-
-impl Error for Refused {}
 
 impl fmt::Debug for CallLimit {
     fn fmt(&self, f: &mut fmt::Formatter<'_>) -> fmt::Result {
@@ -835,20 +514,8 @@ impl fmt::Debug for CallLimit {
             Made::Of(Terms::InFlight(terms)) => terms.fmt(f),
             Made::Of(Terms::Breaker(terms)) => terms.fmt(f),
             Made::Of(Terms::Throttle(terms)) => terms.fmt(f),
+            Made::Of(Terms::Adaptive(terms)) => terms.fmt(f),
             Made::All(limits) => f.debug_list().entries(limits).finish(),
         }
     }
 }
-
-/// The variant of each kind.
-macro_rules! terms {
-    ($($kind:ident),+) => {$(
-        impl From<$kind> for Terms {
-            fn from(terms: $kind) -> Self {
-                Self::$kind(terms)
-            }
-        }
-    )+};
-}
-
-terms!(Bucket, InFlight, Breaker, Throttle);

@@ -25,7 +25,7 @@ pub enum LimitError {
         /// Its length, in bytes.
         bytes: usize,
     },
-    /// A number of a [`CallLimit`](crate::CallLimit) is out of its range.
+    /// A number of a [`CallLimit`](crate::CallLimit) or a [`Rate`](crate::Rate) is out of its range.
     OutOfRange {
         /// The field, or the argument, that has it.
         parameter: &'static str,
@@ -38,6 +38,8 @@ pub enum LimitError {
     SameLimit,
     /// Buckets are joined by [`both`](crate::both()) of which a retry takes different amounts.
     CostsDiffer,
+    /// No limit is a breaker, of which one is to be opened or closed.
+    NoBreaker,
     /// More than 2^42 passes are alive.
     TooManyPasses,
     /// Memory ran out.
@@ -78,6 +80,7 @@ impl fmt::Display for LimitError {
             Self::TooManyLimits => "expected at most four limits at once, got more",
             Self::SameLimit => "expected limits that differ, got one of them twice",
             Self::CostsDiffer => "expected buckets of which a retry takes the same amount, got different ones",
+            Self::NoBreaker => "expected a breaker to open or close, got none",
             Self::TooManyPasses => "expected at most 2^42 passes at once, got one more",
             Self::NoMemory => "no memory",
         })

@@ -7,6 +7,7 @@ use crate::engine::{Handle, PassKind, RetryKind, Status, Used};
 use crate::limits::counters::{Counter, Counters};
 use crate::limits::error::LimitError;
 use crate::limits::part::{Part, Root};
+use crate::limits::per_key::Counted;
 use crate::limits::ticket::{NoTicket, Ticket};
 use crate::limits::uses::{options_of_uses, Uses};
 use crate::system::PerProcess;
@@ -452,6 +453,12 @@ impl AtomicTerms {
 
     pub(crate) fn set(&self, reserve: u64, share: u64) {
         self.0.store(reserve << 16 | share, Ordering::Relaxed);
+    }
+}
+
+impl Counted for Quota {
+    fn clones(&self) -> usize {
+        self.shared.clones()
     }
 }
 

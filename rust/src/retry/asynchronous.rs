@@ -44,7 +44,7 @@ impl<F: Fn(Duration) -> S, S: Future<Output = ()>> AsyncSleep for F {
 
 /// A call whose runs are futures.
 #[derive(Clone, Copy)]
-pub struct Async<F>(F);
+pub struct Async<F>(pub(super) F);
 
 impl<F> fmt::Debug for Async<F> {
     fn fmt(&self, f: &mut fmt::Formatter<'_>) -> fmt::Result {

@@ -32,7 +32,7 @@ impl Attempt {
     }
 }
 
-impl<E, H: Hooked<E>, K: Clock, S, R: Random, L: MayRefuse> Retrying<'_, E, (), H, Host<K, S, R>, L> {
+impl<E, H: Hooked<E>, K: Clock, S, R: Random, T, L: MayRefuse> Retrying<'_, E, (), H, Host<K, S, R, T>, L> {
     /// A call that begins, for those who hear of it.
     #[inline]
     pub(crate) fn course(&self) -> Course {
@@ -83,15 +83,30 @@ impl<E, H: Hooked<E>, K: Clock, S, R: Random, L: MayRefuse> Retrying<'_, E, (), 
     /// How long it is until the next run after one that failed with this error, or how the retry ended.
     #[inline]
     pub(crate) fn fails(&self, progress: &mut Progress, course: &Course, error: &E) -> Result<Duration, Ending> {
+        self.hears(progress, course, error, false)
+    }
+
+    /// The same of a run that is late, and goes on: this error says that it is. It is no error of the call, so nothing
+    /// asks whether it is retried.
+    pub(crate) fn is_late(&self, progress: &mut Progress, course: &Course, error: &E) -> Result<Duration, Ending> {
+        self.hears(progress, course, error, true)
+    }
+
+    /// The same of a run that is late, or failed.
+    #[inline(always)]
+    fn hears(&self, progress: &mut Progress, course: &Course, error: &E, is_late: bool) -> Result<Duration, Ending> {
         let now = self.host.clock.moment();
         progress.failed(self.rules.limit());
-        if !self.hooks.when(error) {
+        if !is_late && !self.hooks.when(error) {
             return Err(Ending::Cancelled);
         }
         let (retry_after, code) = (self.hooks.retry_after(error), self.hooks.code(error));
         let words = self.rules.policy.words(|| self.host.random.draw());
         let wait = progress.lost(&self.rules, now, &mut Lost::new(code, words, retry_after))?;
-        course.waits(wait);
+        match is_late {
+            true => course.is_late(wait),
+            false => course.waits(wait),
+        }
         self.hooks.notify(error, wait);
         if wait.is_zero() || !self.rules.options.notifies {
             return Ok(wait);

@@ -66,7 +66,17 @@ impl Course {
         metrics::waits(self.call, wait);
     }
 
-    /// The latest run succeeded.
+    /// The latest run is late and goes on, and another one follows after this wait.
+    pub(crate) fn is_late(&self, wait: Duration) {
+        #[cfg(feature = "tracing")]
+        self.within(|| {
+            tracing::debug!(target: "hikebox", run = self.runs, wait = wait.as_secs_f64(), "a run is late, and another follows");
+        });
+        #[cfg(feature = "prometheus")]
+        metrics::waits(self.call, wait);
+    }
+
+    /// A run succeeded.
     pub(crate) fn won(&mut self) {
         #[cfg(feature = "tracing")]
         if self.runs > 1 {

@@ -1,8 +1,8 @@
 //! A `tower` layer that retries.
 
 use crate::clock::Moment;
-use crate::limits::call_limit::Refused;
 use crate::limits::grants::{Grants, MayRefuse, Source};
+use crate::limits::refused::Refused;
 use crate::policy::Policy;
 use crate::random;
 use crate::retry::machine::Ending;

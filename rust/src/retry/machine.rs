@@ -286,6 +286,17 @@ impl Machine {
         self.drawn.as_mut().and_then(|drawn| drawn.ticket.take())
     }
 
+    /// The run that is waited for is not made: a store has its ticket back. (A quota has, once the machine is dropped.)
+    #[cold]
+    pub(crate) fn withdraw(&mut self) {
+        if let (true, Source::Store(store), Some(drawn)) = (self.waits, &self.source, &mut self.drawn) {
+            match is_generation(self.generation) {
+                true => drawn.hand_back(&**store),
+                false => drawn.ticket = None,
+            }
+        }
+    }
+
     fn poll(&mut self, now: u64, report: Option<Report>, words: &[u32; 4]) {
         let (report, code) = match report {
             None => (engine::NO_REPORT, 0),
@@ -349,9 +360,7 @@ impl Machine {
             Source::Quota(quota) => quota.end(handle, *waits || (*won && quota.returns_tickets())),
             Source::Store(store) => {
                 if let (true, Some(drawn)) = (*waits, drawn) {
-                    if let Some(ticket) = drawn.ticket.take() {
-                        store.hand_back(ticket);
-                    }
+                    drawn.hand_back(&**store);
                 }
             }
             Source::CallLimit(_) | Source::Unlimited => (),
@@ -379,6 +388,13 @@ impl Drop for Machine {
 }
 
 impl Drawn {
+    /// Hands the latest ticket back.
+    fn hand_back(&mut self, store: &dyn Tickets) {
+        if let Some(ticket) = self.ticket.take() {
+            store.hand_back(ticket);
+        }
+    }
+
     /// How the retry ended, where it did: the store is asked where the schedule went on to one retry more than were
     /// granted, and may have no ticket, or fail.
     fn refuses(&mut self, store: &dyn Tickets, wanted: u64) -> Option<Ending> {

@@ -19,8 +19,10 @@ mod progress;
 mod repeating;
 mod retrying;
 mod rules;
+mod runs;
 #[cfg(feature = "tower")]
 mod service;
+mod timed;
 
 pub use crate::clock::{Clock, SystemClock};
 #[cfg(feature = "tokio")]
@@ -42,3 +44,4 @@ pub use repeating::{poll_until_async, repeat_async};
 pub use retrying::{Retrying, SharedRetrying};
 #[cfg(feature = "tower")]
 pub use service::{RetryCall, RetryService};
+pub use timed::{AttemptTimeout, Timed};

@@ -36,6 +36,9 @@ impl Course {
     pub(crate) fn waits(&self, _: Duration) {}
 
     #[inline(always)]
+    pub(crate) fn is_late(&self, _: Duration) {}
+
+    #[inline(always)]
     pub(crate) fn won(&mut self) {}
 
     #[inline(always)]

@@ -4,9 +4,9 @@ use crate::clock::{whole_millis, Moment};
 use crate::engine::{Run, LOST, MAX_NUMBER, NO_DEADLINE};
 use crate::limits::asked::Quiet;
 use crate::limits::call_limit::Admitted;
-#[cfg(any(feature = "prometheus", feature = "tracing"))]
-use crate::limits::call_limit::RefusalReason;
 use crate::limits::grants::{Held, Limit};
+#[cfg(any(feature = "prometheus", feature = "tracing"))]
+use crate::limits::refused::RefusalReason;
 use crate::retry::error::RetryError;
 use crate::retry::machine::{Ending, Machine};
 use crate::retry::options::Options;
@@ -126,6 +126,13 @@ impl Progress {
             (Some(request), _) => request.succeeded(),
             (None, Some((quiet, limit))) => limit.settle(&quiet),
             (None, None) => limit.count_success(last, clock),
+        }
+    }
+
+    /// The run that is waited for is not made, since an earlier one succeeded: its ticket comes back.
+    pub(crate) fn withdraw(&mut self) {
+        if let Some(running) = &mut self.running {
+            running.machine.withdraw();
         }
     }
 

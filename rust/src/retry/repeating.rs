@@ -168,19 +168,19 @@ impl<'a, T, C, M> Repeating<'a, T, C, M> {
 impl<'a, T, C, K, S, R> Repeating<'a, T, C, Host<K, S, R>> {
     /// The clock to use instead of the system's.
     pub fn clock<X: Fn() -> Instant>(self, clock: X) -> Repeating<'a, T, C, Host<X, S, R>> {
-        self.with(|Host { sleep, random, .. }| Host { clock, sleep, random })
+        self.with(|host| host.with_clock(clock))
     }
 
     /// How to wait, as by [`Retrying::sleep`](crate::Retrying::sleep): a function that blocks, or one that returns a
     /// future of any runtime.
     pub fn sleep<X>(self, sleep: X) -> Repeating<'a, T, C, Host<K, X, R>> {
-        self.with(|Host { clock, random, .. }| Host { clock, sleep, random })
+        self.with(|host| host.with_sleep(sleep))
     }
 
     /// The random words to use instead of the system's: four for each value, if the policy has a jitter. It
     /// takes the one of its lane.
     pub fn random<X: Fn() -> [u32; 4]>(self, random: X) -> Repeating<'a, T, C, Host<K, S, X>> {
-        self.with(|Host { clock, sleep, .. }| Host { clock, sleep, random })
+        self.with(|host| host.with_random(random))
     }
 }
 

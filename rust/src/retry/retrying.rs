@@ -71,8 +71,9 @@ pub struct Retrying<'a, E, F = (), H = PlainHooks<E>, M = SystemHost, L = Infall
 }
 
 /// A [`Retrying`] to keep: it owns its policy and its limit, and its hooks have one type. On a
-/// [`CallLimit`](crate::CallLimit) it is a `SharedRetrying<E, Refused>`.
-pub type SharedRetrying<E, L = Infallible> = Retrying<'static, E, (), SharedHooks<E>, SystemHost, L>;
+/// [`CallLimit`](crate::CallLimit) it is a `SharedRetrying<E, Refused>`. One whose runs are timed is a
+/// `SharedRetrying<E, L, Timed>`.
+pub type SharedRetrying<E, L = Infallible, T = ()> = Retrying<'static, E, (), SharedHooks<E>, SystemHost<T>, L>;
 
 impl<'a, E> Retrying<'a, E> {
     /// Retries every error; each has the code 0.
@@ -181,7 +182,11 @@ impl<'a, E, F, H, M, L> Retrying<'a, E, F, H, M, L> {
         self.into_owned().with(SharedHooks::new, |host| host)
     }
 
-    fn with<I, O>(self, hooks: impl FnOnce(H) -> I, host: impl FnOnce(M) -> O) -> Retrying<'a, E, F, I, O, L> {
+    pub(super) fn with<I, O>(
+        self,
+        hooks: impl FnOnce(H) -> I,
+        host: impl FnOnce(M) -> O,
+    ) -> Retrying<'a, E, F, I, O, L> {
         Retrying {
             rules: self.rules,
             call: self.call,
@@ -227,23 +232,23 @@ impl<'a, E, F, W, C, A, N, M, L> Retrying<'a, E, F, Hooks<W, C, A, N>, M, L> {
     }
 }
 
-impl<'a, E, F, H, K, S, R, L> Retrying<'a, E, F, H, Host<K, S, R>, L> {
+impl<'a, E, F, H, K, S, R, T, L> Retrying<'a, E, F, H, Host<K, S, R, T>, L> {
     /// The clock to use instead of the system's.
-    pub fn clock<X: Fn() -> Instant>(self, clock: X) -> Retrying<'a, E, F, H, Host<X, S, R>, L> {
-        self.with(|hooks| hooks, |Host { sleep, random, .. }| Host { clock, sleep, random })
+    pub fn clock<X: Fn() -> Instant>(self, clock: X) -> Retrying<'a, E, F, H, Host<X, S, R, T>, L> {
+        self.with(|hooks| hooks, |host| host.with_clock(clock))
     }
 
     /// How to wait: a function that blocks for that long, or for futures one that returns a future of any runtime, such
     /// as `async_std::task::sleep`. It is not called for a wait of zero. After a wait the retry goes on even if the
     /// clock did not move.
-    pub fn sleep<X>(self, sleep: X) -> Retrying<'a, E, F, H, Host<K, X, R>, L> {
-        self.with(|hooks| hooks, |Host { clock, random, .. }| Host { clock, sleep, random })
+    pub fn sleep<X>(self, sleep: X) -> Retrying<'a, E, F, H, Host<K, X, R, T>, L> {
+        self.with(|hooks| hooks, |host| host.with_sleep(sleep))
     }
 
     /// The random words to use instead of the system's: four for each failure, if the policy has a jitter. It
     /// takes the one of its lane.
-    pub fn random<X: Fn() -> [u32; 4]>(self, random: X) -> Retrying<'a, E, F, H, Host<K, S, X>, L> {
-        self.with(|hooks| hooks, |Host { clock, sleep, .. }| Host { clock, sleep, random })
+    pub fn random<X: Fn() -> [u32; 4]>(self, random: X) -> Retrying<'a, E, F, H, Host<K, S, X, T>, L> {
+        self.with(|hooks| hooks, |host| host.with_random(random))
     }
 }
 

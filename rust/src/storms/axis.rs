@@ -160,6 +160,15 @@ impl Axis {
         }
     }
 
+    /// Whether these storms may have the values: a rate is of those whose requests come by one.
+    pub(super) fn fits<'a>(&self, mut storms: impl Iterator<Item = &'a Storm>) -> Result<(), StormError> {
+        let is_of_rate = matches!(self.name, "rate" | "clients" | "together" | "seconds");
+        if is_of_rate && storms.any(|storm| storm.arrivals.is_some()) {
+            return Err(StormError::ByMoments { parameter: self.name });
+        }
+        Ok(())
+    }
+
     /// The error of a sweep of which no storm has the parameter.
     pub(super) fn is_of_none(&self) -> StormError {
         match self.place {

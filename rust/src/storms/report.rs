@@ -17,6 +17,8 @@ pub struct StormReport {
     pub populations: Vec<PopulationReport>,
     /// What the storm draws on.
     pub(super) draws_on: u64,
+    /// How many moments were given for its requests; 0 where they come by a rate.
+    pub(super) arrivals: usize,
 }
 
 /// What a storm was to the clients of one [`Population`](crate::Population): their requests and calls alone.
@@ -184,13 +186,15 @@ impl StormReport {
     /// populations those of each.
     #[must_use]
     pub fn to_json(&self) -> String {
-        let members = members(&self.windows, self.totals);
+        let mut members = members(&self.windows, self.totals);
         let populations: Vec<String> = self.populations.iter().map(PopulationReport::to_json).collect();
-        if populations.is_empty() {
-            format!("{{{members}}}")
-        } else {
-            format!("{{{members},\"populations\":[{}]}}", populations.join(","))
+        if !populations.is_empty() {
+            members += &format!(",\"populations\":[{}]", populations.join(","));
         }
+        if self.arrivals > 0 {
+            members += &format!(",\"arrivals\":{}", self.arrivals);
+        }
+        format!("{{{members}}}")
     }
 }
 

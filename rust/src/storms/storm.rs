@@ -2,9 +2,10 @@
 
 use crate::clock::whole_millis;
 use crate::engine::{self, Handle, PassKind, Phase, Status, ON_BUDGET, ON_NOTHING, ON_QUOTA};
-use crate::limits::call_limit::{tokens as in_thousandths, CallLimit, Terms as LimitTerms};
+use crate::limits::call_limit::CallLimit;
 use crate::limits::error::LimitError;
 use crate::limits::quota::Terms;
+use crate::limits::terms::{tokens as in_thousandths, Terms as LimitTerms};
 use crate::policy::Policy;
 use crate::storms::population::{self, Population};
 use crate::storms::report::{PopulationReport, StormReport, StormTotals, StormWindow};
@@ -12,6 +13,7 @@ use std::error::Error;
 use std::fmt;
 use std::mem;
 use std::ops::Range;
+use std::sync::Arc;
 use std::time::Duration;
 
 pub(super) const HOUR: u64 = 3_600_000;
@@ -51,6 +53,8 @@ pub struct Storm {
     down: Option<u64>,
     /// The spans with a rate of their own.
     rates: Vec<(Range<u64>, u64)>,
+    /// The moments of the requests, where these come by none of the rates.
+    pub(super) arrivals: Option<Arc<[u64]>>,
     /// The populations beside the first one.
     pub(super) others: Vec<Population>,
     /// Whether there is a brown-out.
@@ -109,6 +113,11 @@ pub enum StormError {
     },
     /// A border is looked for in a storm with no outage, no brown-out and no surge.
     NothingToRecoverFrom,
+    /// A sweep is along a parameter of the rate, and the requests of a storm come at moments of their own.
+    ByMoments {
+        /// The parameter of the sweep.
+        parameter: &'static str,
+    },
     /// The policy with a bound on its retries has more than 256 nodes, or is deeper than 32.
     PolicyTooLarge,
     /// Memory ran out.
@@ -149,7 +158,11 @@ impl Storm {
             cost: 0,
             late_cost: 0,
             least: 0,
+            most: engine::NO_MOST.into(),
+            first: 0,
+            backoff: 0,
             failures: 0,
+            results: 0,
             probes: 0,
             deadline: 0,
             ratio: 0,
@@ -165,7 +178,8 @@ impl Storm {
             of: 0,
         };
         let (policy, rates, others) = (policy.clone(), Vec::new(), Vec::new());
-        Self { policy, parameters, until: None, down: None, rates, others, is_slow: false, fault: None }
+        let arrivals = None;
+        Self { policy, parameters, until: None, down: None, rates, arrivals, others, is_slow: false, fault: None }
     }
 
     /// A herd: 10,000 clients lose one connection at one moment, and the peer takes 500 at a time.
@@ -215,6 +229,25 @@ impl Storm {
     /// The number of seconds for which requests come: 1 to 3,600. There are at most 1,048,576 requests in all.
     pub fn seconds(mut self, seconds: u64) -> Self {
         self.parameters.seconds = seconds;
+        self
+    }
+
+    /// The moments at which requests come, one for each, in the place of the rate and its spans, of
+    /// [`together`](Self::together) and of [`seconds`](Self::seconds): 1 to 1,048,576, none before the one in front of
+    /// it, within the first two hours.
+    ///
+    /// ```
+    /// use hikebox::{Policy, Schedule, Storm};
+    /// use std::time::Duration;
+    ///
+    /// let policy = Policy::new(&Schedule::recurs(0))?;
+    /// let moments = [0, 0, 5, 5, 100].map(Duration::from_millis);
+    /// let totals = Storm::new(&policy).no_outage().arrivals(moments).play()?.totals;
+    /// assert_eq!((totals.won, totals.slowest), (5, Some(Duration::from_millis(2))));
+    /// # Ok::<(), Box<dyn std::error::Error>>(())
+    /// ```
+    pub fn arrivals(mut self, moments: impl IntoIterator<Item = Duration>) -> Self {
+        self.arrivals = Some(moments.into_iter().map(whole_millis).collect());
         self
     }
 
@@ -275,7 +308,8 @@ impl Storm {
         self
     }
 
-    /// The moment at which the storm ends, at most two hours: by default a minute after [`Storm::seconds`].
+    /// The moment at which the storm ends, at most two hours: by default a minute after [`Storm::seconds`], or after the
+    /// last of [`Storm::arrivals`].
     pub fn until(mut self, until: Duration) -> Self {
         self.until = Some(whole_millis(until));
         self
@@ -352,7 +386,8 @@ impl Storm {
         let mut others = others.map_err(StormError::of)?;
         let room = usize::try_from(storm.until / storm.window + 1).map_err(|_| StormError::NoMemory)?;
         let mut play = |of| {
-            let played = policy.play(&mut others, &engine::Storm { of, ..storm }, room).map_err(StormError::of);
+            let played = policy.play(&mut others, &engine::Storm { of, ..storm }, self.moments(), room);
+            let played = played.map_err(StormError::of);
             let windows = |found: Vec<_>| found.into_iter().map(StormWindow::of).collect();
             played.map(|(found, totals)| (windows(found), StormTotals::of(&totals)))
         };
@@ -360,7 +395,27 @@ impl Storm {
         let report = |(share, of)| play(of).map(|(windows, totals)| PopulationReport { share, windows, totals });
         let populations =
             population::shares(&self.others).into_iter().zip(1..).map(report).collect::<Result<_, _>>()?;
-        Ok(StormReport { windows, totals, populations, draws_on: storm.draws_on })
+        Ok(StormReport { windows, totals, populations, draws_on: storm.draws_on, arrivals: self.moments().len() })
+    }
+
+    /// The moments of its requests; none where they come by a rate.
+    pub(super) fn moments(&self) -> &[u64] {
+        self.arrivals.as_deref().unwrap_or(&[])
+    }
+
+    /// When it ends where nothing is said of that, or why its requests can't come at their moments.
+    fn ends(&self) -> Result<u64, StormError> {
+        let moments = match &self.arrivals {
+            Some(moments) => moments,
+            None => return Ok(self.parameters.seconds.saturating_mul(1000).saturating_add(60_000)),
+        };
+        let (parameter, mut last) = ("arrivals", 0);
+        within(parameter, moments.len() as u64, 1, MAX_REQUESTS)?;
+        for moment in moments.iter() {
+            within(parameter, *moment, last, 2 * HOUR)?;
+            last = *moment;
+        }
+        Ok((last + 60_000).min(2 * HOUR))
     }
 
     /// The JSON of its policies, that of the first population first.
@@ -410,7 +465,8 @@ impl Storm {
 
     /// The parameters, where all are within their ranges.
     pub(super) fn checked(&self) -> Result<engine::Storm, StormError> {
-        let until = self.until.unwrap_or_else(|| self.parameters.seconds.saturating_mul(1000).saturating_add(60_000));
+        let ends = self.ends()?;
+        let until = self.until.unwrap_or(ends);
         let down = self.down.unwrap_or(self.parameters.replicas);
         let (phase_count, phases) = self.phases()?;
         let [second, third, fourth] = population::told(&self.others, self.parameters.patience)?;
@@ -509,6 +565,9 @@ impl fmt::Display for StormError {
             }
             Self::NothingToRecoverFrom => {
                 f.write_str("expected a storm with an outage, a brown-out or a surge, got none")
+            }
+            Self::ByMoments { parameter } => {
+                write!(f, "{parameter}: expected requests that come by a rate, got moments of their own")
             }
             Self::PolicyTooLarge => {
                 f.write_str("expected a policy of at most 254 nodes and depth at most 31, got more")

@@ -79,6 +79,7 @@ impl Sweep {
         if !lines.iter().any(|(_, storm)| axis.is_of(storm)) {
             return Err(axis.is_of_none());
         }
+        axis.fits(lines.iter().map(|(_, storm)| storm))?;
         let put = |storm: &Storm| axis.values.iter().map(|value| axis.put(storm, *value)).collect::<Vec<_>>();
         let storms: Vec<Storm> = lines.iter().flat_map(|(_, storm)| put(storm)).collect();
         let mut reports = play_all(&storms)?.into_iter();
@@ -191,7 +192,7 @@ fn play_all(storms: &[Storm]) -> Result<Vec<StormReport>, StormError> {
     let mut distinct = Vec::new();
     let mut place_of = Vec::new();
     for storm in storms {
-        let place = *places.entry((storm.policies(), storm.checked()?)).or_insert_with(|| {
+        let place = *places.entry((storm.policies(), storm.checked()?, storm.moments())).or_insert_with(|| {
             distinct.push(storm);
             distinct.len() - 1
         });

@@ -1,0 +1,138 @@
+//! Bulkheads, breakers by their last results and adaptive limits: rows worked by hand; and what a limit lets see.
+
+use hikebox::RefusalReason::{BreakerOpen, RequestsFull};
+use hikebox::{
+    both, Adaptive, Breaker, Bucket, CallLimit, InFlight, LimitError, LimitState, Policy, Request, Throttle,
+};
+use std::thread;
+use std::time::Duration;
+
+fn policy(json: &str) -> Policy {
+    json.parse().unwrap()
+}
+
+fn admitted(limit: &CallLimit) -> Request {
+    let mut request = limit.request().unwrap();
+    request.admit().unwrap();
+    request
+}
+
+fn one(limit: &CallLimit) -> LimitState {
+    let [state]: [LimitState; 1] = limit.seen().try_into().expect("one limit");
+    state
+}
+
+#[test]
+fn of_three_calls_two_are_in_flight() {
+    let limit = CallLimit::new(InFlight { least: 3, share: 0.2, most: Some(2) }).unwrap();
+    let (first, _second) = (admitted(&limit), admitted(&limit));
+    let mut third = limit.request().unwrap();
+    assert_eq!(third.admit().unwrap_err().reason(), RequestsFull);
+    assert_eq!(one(&limit), LimitState::InFlight { requests: 2, retries: 0, most: Some(2) });
+    drop(first);
+    third.admit().unwrap();
+}
+
+#[test]
+fn a_bulkhead_grants_each_of_its_calls_a_retry() {
+    let limit = CallLimit::new(InFlight::bulkhead(2)).unwrap();
+    let mut calls = [admitted(&limit), admitted(&limit)];
+    for call in &mut calls {
+        call.failed();
+        call.draw().unwrap();
+    }
+    assert_eq!(one(&limit), LimitState::InFlight { requests: 2, retries: 2, most: Some(2) });
+    assert!(limit.request().unwrap().admit().is_err());
+}
+
+#[test]
+fn two_of_the_last_three_open_it() {
+    let breaker = CallLimit::new(Breaker::of_last(2, 3, policy(r#"{"spaced":30000}"#))).unwrap();
+    let mut calls: Vec<Request> = (0..5).map(|_| admitted(&breaker)).collect();
+    calls[0].failed();
+    assert_eq!(one(&breaker), LimitState::Closed { failures: 1 });
+    calls[1].succeeded();
+    calls[2].succeeded();
+    calls[3].failed();
+    assert_eq!(one(&breaker), LimitState::Closed { failures: 1 });
+    calls[4].failed();
+    assert!(matches!(one(&breaker), LimitState::Open { trip: 1, left } if left > Duration::from_secs(20)));
+    assert_eq!(breaker.request().unwrap().admit().unwrap_err().reason(), BreakerOpen);
+}
+
+#[test]
+fn what_succeeds_raises_it_and_what_fails_lowers_it() {
+    let limit = CallLimit::new(Adaptive { least: 1, most: 10, first: 2, backoff: 0.9 }).unwrap();
+    let (mut first, mut second) = (admitted(&limit), admitted(&limit));
+    assert_eq!(limit.request().unwrap().admit().unwrap_err().reason(), RequestsFull);
+    first.succeeded();
+    drop(first);
+    assert_eq!(one(&limit), LimitState::Adaptive { inside: 1, level: 2.5 });
+    second.failed();
+    drop(second);
+    assert_eq!(one(&limit), LimitState::Adaptive { inside: 0, level: 2.25 });
+}
+
+#[test]
+fn threads_under_an_adaptive_limit_leave_nothing_inside() {
+    let limit = CallLimit::new(Adaptive { least: 2, most: 8, first: 4, backoff: 0.9 }).unwrap();
+    let calls = || {
+        for number in 0..300 {
+            let mut request = limit.request().unwrap();
+            if request.admit().is_ok() {
+                match number % 7 {
+                    0 => request.failed(),
+                    _ => request.succeeded(),
+                }
+            }
+        }
+    };
+    thread::scope(|scope| (0..8).for_each(|_| drop(scope.spawn(calls))));
+    assert!(matches!(one(&limit), LimitState::Adaptive { inside: 0, level } if (2.0..=8.0).contains(&level)));
+}
+
+#[test]
+fn states_of_several_limits() {
+    let bucket = CallLimit::new(Bucket::grpc(4, 0.5).unwrap()).unwrap();
+    let throttle = CallLimit::new(Throttle { ratio: 2.0, period: Duration::from_secs(60) }).unwrap();
+    let limit = both(&bucket, &throttle).unwrap();
+    admitted(&limit).failed();
+    let bucket_state = LimitState::Bucket { level: 3.0, capacity: 4.0 };
+    assert_eq!(limit.seen(), [bucket_state, LimitState::Throttle { requests: 1, accepts: 0 }]);
+    assert_eq!(limit.close(), Err(LimitError::NoBreaker));
+    assert_eq!(bucket.open(Duration::from_secs(1)), Err(LimitError::NoBreaker));
+}
+
+#[test]
+fn a_breaker_is_opened_and_closed_by_hand() {
+    let breaker = CallLimit::new(Breaker::consecutive(2, policy(r#"{"spaced":30000}"#))).unwrap();
+    let limit = both(&CallLimit::new(Bucket::aws()).unwrap(), &breaker).unwrap();
+    let mut before = admitted(&breaker);
+    limit.open(Duration::from_secs(3600)).unwrap();
+    assert!(matches!(one(&breaker), LimitState::Open { trip: 1, left } if left > Duration::from_secs(3000)));
+    before.succeeded();
+    assert!(limit.request().unwrap().admit().is_err());
+    breaker.close().unwrap();
+    before.failed();
+    before.failed();
+    assert_eq!(one(&breaker), LimitState::Closed { failures: 0 });
+    assert!(limit.request().unwrap().admit().is_ok());
+}
+
+#[test]
+fn terms_out_of_range() {
+    let out_of_range = |terms: hikebox::Terms, name| match CallLimit::new(terms) {
+        Err(LimitError::OutOfRange { parameter, .. }) => assert_eq!(parameter, name),
+        other => panic!("{other:?}"),
+    };
+    out_of_range(InFlight { least: 1, share: 0.2, most: Some(0) }.into(), "most");
+    for (failures, results) in [(4, 3), (4, 33), (1, 0)] {
+        out_of_range(Breaker::of_last(failures, results, policy(r#"{"spaced":1000}"#)).into(), "results");
+    }
+    let adaptive = Adaptive::default();
+    out_of_range(Adaptive { least: 0, ..adaptive }.into(), "first");
+    out_of_range(Adaptive { first: 300, ..adaptive }.into(), "first");
+    for backoff in [0.0, 1.0, 1.5, f64::NAN] {
+        out_of_range(Adaptive { backoff, ..adaptive }.into(), "backoff");
+    }
+}
