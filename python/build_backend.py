@@ -36,11 +36,13 @@ MACHINES = {"x86_64": "dist", "aarch64": "dist/aarch64"}
 DATE, MOMENT = (2020, 1, 1, 0, 0, 0), 1577836800
 ENTRY_POINTS = "[console_scripts]\nhikebox = hikebox_program:main\n\n[pytest11]\nhikebox = hikebox_pytest\n"
 BESIDE_SOURCES = ("LICENSE", "PKG-INFO", "README.md", "build_backend.py", "pyproject.toml")
-#: The manual page of the program and its completions, and where they are installed, below the environment's folder.
+#: The manual page of the program, its completions and a dashboard for Grafana, and where they are installed, below the
+#: environment's folder.
 SHARED = {
     "share/hikebox.1": "share/man/man1/hikebox.1",
     "share/hikebox.bash": "share/bash-completion/completions/hikebox",
     "share/hikebox.zsh": "share/zsh/site-functions/_hikebox",
+    "share/grafana.json": "share/hikebox/grafana.json",
 }
 
 

@@ -5,14 +5,14 @@
 _hikebox_options() {
   case $1 in
     run)
-      echo --policy:file --limit:text --open:file --on:text --timeout:text \
+      echo --policy:file --limit:text --open:file --pace:text --on:text --timeout:text \
         --kill-after:text --deadline:text --replay-input --last-output --output-limit:text --verbose -v --quiet -q
       ;;
     plan)
       echo --steps:text --from:text --took:text --input:text --inputs:text --word:text --words:text --svg:file --width:text
       ;;
     storm)
-      echo --log:file --fields:text --scenario:scenario --rate:text --rates:text --together:text --seconds:text --capacity:text --patience:text \
+      echo --log:file --fields:text --arrivals:file --scenario:scenario --rate:text --rates:text --together:text --seconds:text --capacity:text --patience:text \
         --queue:text --replicas:text --down:text --window:text --until:text --calls:text --words:text --outage:text \
         --slow:text --beside:text --budget:text --quota:text --limit:text --open:file --without --sweep:text \
         --measure:succeeded,calls,recovery,slowest --find:quota,retries,patience,beside --compare:file --csv --json \

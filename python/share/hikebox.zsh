@@ -40,6 +40,7 @@ case $state in
           '--policy[when to run it again]:policy:_files' \
           '--limit[at most so many retries, or a limit over all runs that name it and the folder]:N or LIMIT@FOLDER:' \
           '--open[how long a breaker is open]:policy:_files' \
+          '--pace[at most so many attempts in a period, over all runs that name it]:RUNS/PERIOD[/BURST]@FOLDER:' \
           '--on[retry only these statuses]:statuses, as 1,3-5:' \
           '--timeout[how long an attempt may take]:seconds:' \
           '--kill-after[how long after SIGTERM a SIGKILL follows]:seconds:' \
@@ -67,6 +68,7 @@ case $state in
         _arguments -S '(- *)'{-h,--help}'[print help]' $picture \
           '--scenario[begin with a scenario, by its name or its file]:scenario:_hikebox_scenarios' \
           $traffic \
+          '--arrivals[requests come at the moments in this file, one a line]:file:_files' \
           '--down[how many replicas refuse calls in the outage]:number:' \
           '--window[how long a line of the report is]:milliseconds:' \
           '--until[the moment after which nothing is played]:milliseconds:' \

@@ -26,7 +26,7 @@ from hikebox.advice.stories import stories_of, weather_of
 from hikebox.advice.trials import advise
 from hikebox.cli.limits import limit as limit_of_a_run
 from hikebox.cli.storm_options import tickets_of
-from hikebox.limits.kinds import times_of
+from hikebox.limits.breaker import times_of
 from hikebox.limits.terms import LimitTerms
 from hikebox.storms.limits import limit_of
 from hikebox.storms.parameters import Parameters, RateSpan, Slow, Span
@@ -196,7 +196,7 @@ def test_each_limit_is_spelt_as_it_is_played(tmp_path: Path) -> None:
 
 def test_a_probe_has_as_long_as_the_clients_wait() -> None:
     def deadlines(patience: int) -> List[int]:
-        return [eval(each.python, dict(vars(hikebox))).terms[2] for each in candidates(patience, ["breaker"])]
+        return [eval(each.python, dict(vars(hikebox))).terms[3] for each in candidates(patience, ["breaker"])]
 
     assert set(deadlines(500)) == {1000} and set(deadlines(2345)) == {2345}
 
@@ -388,7 +388,7 @@ def test_the_lines_in_rust_name_what_they_use() -> None:
     assert in_rust(recurs(3), breaker) == (
         "use hikebox::{Breaker, CallLimit, Policy, Schedule};\nuse std::time::Duration;\n"
         "let policy = Policy::new(&(Schedule::recurs(3)))?;\n"
-        "let limit = CallLimit::new(Breaker { failures: 5, open_for: "
+        "let limit = CallLimit::new(Breaker { failures: 5, results: None, open_for: "
         "Policy::new(&Schedule::spaced(Duration::from_secs(1)))?, probes: 1, "
         "probe_deadline: Duration::from_secs(1) })?;\n"
     )

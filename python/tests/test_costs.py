@@ -177,5 +177,5 @@ def test_a_failure_that_is_retried_on_a_quota_goes_through_few_functions() -> No
     for _ in range(3):
         left[0] = 1
         seen: Set[Any] = set(codes(lambda: retrying(call)))
-    assert len(seen) <= 22
+    assert len(seen) <= 20
     assert len({code.co_filename for code in seen}) <= 9

@@ -26,6 +26,7 @@ PAGES = [
     "docs/LIMITS.md",
     "docs/FROM-TENACITY.md",
     "docs/FROM-BACKOFF-PYTHON.md",
+    "docs/FROM-RESILIENCE4J.md",
     "docs/MACHINES.md",
     "python/README.md",
 ]

@@ -13,7 +13,7 @@ from typing import Any, Dict, List, Tuple
 import pytest
 from conftest import TOP, python_environment
 
-from hikebox._engine import calls, kept, leasing, limits, structs
+from hikebox._engine import calls, kept, leasing, limits, paces, structs
 from hikebox._engine.handles import Handle, Pass, PolicyHandle
 from hikebox._engine.machine import Machine
 from hikebox.errors import EngineError
@@ -30,12 +30,14 @@ TYPES: Dict[str, Any] = {
     "uint32_t": (ctypes.c_uint32,),
     "const uint32_t [4]": (ctypes.POINTER(ctypes.c_uint32),),
     "bool": (ctypes.c_bool,),
+    "bool *": (ctypes.POINTER(ctypes.c_bool),),
     "const uint64_t *": (ctypes.POINTER(c_uint64),),
     "hikebox_place *": (ctypes.POINTER(structs.Place),),
     "const hikebox_course *": (ctypes.POINTER(structs.Course),),
     "const hikebox_event *": (ctypes.POINTER(structs.Event),),
     "hikebox_line *": (ctypes.POINTER(structs.Line),),
     "const hikebox_bucket *": (ctypes.POINTER(structs.BucketTerms),),
+    "const hikebox_adaptive *": (ctypes.POINTER(structs.AdaptiveTerms),),
     "const hikebox_breaker *": (ctypes.POINTER(structs.BreakerTerms),),
     "hikebox_next *": (ctypes.POINTER(structs.Next),),
     "const hikebox_run *": (ctypes.POINTER(structs.Run),),
@@ -51,7 +53,10 @@ TYPES: Dict[str, Any] = {
     "const hikebox_told *": (ctypes.POINTER(structs.Told),),
     "hikebox_kept *": (ctypes.POINTER(structs.Kept),),
     "hikebox_request *": (ctypes.POINTER(structs.HeldRequest),),
-    **{f"hikebox_{kind} *": (ctypes.POINTER(Handle),) for kind in ("policy", "pass", "leased", "limit", "retry")},
+    "const hikebox_rate *": (ctypes.POINTER(structs.Rate),),
+    "hikebox_state *": (ctypes.POINTER(structs.State),),
+    "hikebox_mark *": (ctypes.POINTER(structs.Mark),),
+    **{f"hikebox_{kind} *": (ctypes.POINTER(Handle),) for kind in "policy pass leased limit pace retry".split()},
 }
 
 CTYPES: Dict[str, Any] = {
@@ -75,6 +80,7 @@ def header() -> str:
 def test_the_signatures_are_those_of_the_header() -> None:
     declared: Dict[str, Tuple[Any, ...]] = {}
     signatures = {**calls.SIGNATURES, **kept.SIGNATURES, **leasing.SIGNATURES, **limits.SIGNATURES}
+    signatures.update(paces.SIGNATURES)
     for name, parameters in re.findall(r"hikebox_status (hikebox_\w+)\((.*?)\);", header(), flags=re.S):
         if name not in signatures:
             continue
@@ -107,6 +113,7 @@ def test_the_structures_are_those_of_the_header() -> None:
     kinds.update({"stored": structs.Stored, "asking": structs.Asking, "range": structs.Range})
     kinds.update({"ticket": structs.LeasedTicket, "grant": structs.Grant, "phase": structs.Phase})
     kinds.update({"population": structs.Population})
+    kinds.update({"rate": structs.Rate, "mark": structs.Mark})
     kinds.update({"told": structs.Told, "kept": structs.Kept, "request": structs.HeldRequest})
     for name, kind in kinds.items():
         assert [(field, CTYPES[word]) for word, field in found[f"hikebox_{name}"]] == list(kind._fields_)

@@ -3,10 +3,12 @@
 from __future__ import annotations
 
 import contextlib
+import gzip
 import http.client
 import io
 import json
 import os
+import pickle
 import re
 import resource
 import shlex
@@ -16,14 +18,16 @@ import subprocess
 import sys
 import threading
 import time
+from collections import Counter
 from pathlib import Path
 from typing import Any, Callable, Dict, Iterator, List, Optional, Tuple
+from urllib.parse import urlencode
 
 import pytest
 from conftest import TOP, heed_signals, python_environment, served
 
 from hikebox import Policy, Population, Quota, recurs, storm
-from hikebox.lab import shares
+from hikebox.lab import logs, shares
 from hikebox.lab.server import Lab
 from hikebox.lab.cookbook import COOKBOOK
 from hikebox.lab.players import BrokenOff, Players
@@ -32,6 +36,7 @@ from hikebox.storms.parameters import SCENARIOS, Parameters, RateSpan, Slow, Spa
 from hikebox.storms.texts import population_sentences
 from hikebox.budgets.terms import Terms
 from hikebox.storms.storm import play
+from hikebox.traffic.seen import Traffic
 
 #: How long is waited for what has to happen, in seconds: on a machine with much else to do it takes long.
 _PATIENCE = 120
@@ -168,6 +173,14 @@ def test_what_is_no_json_object_is_refused(lab: Lab) -> None:
         ("storm", {"page": "p", "sides": [], "storm": {"outage": [1]}}),
         ("storm", {"page": "p", "sides": [], "storm": {"slow": [1, 2, "3"]}}),
         ("storm", {"page": "p", "sides": [], "storm": {"rates": [1, 2]}}),
+        ("storm", {"page": "p", "sides": [], "storm": {"rates": [[1, 2, 3], [1, 2]]}}),
+        ("storm", {"page": "p", "sides": [], "storm": {}, "kept": "/etc/passwd"}),
+        ("sweep", {"page": "p", "sides": [], "storm": {}, "along": "rate", "kept": "/etc/passwd"}),
+        ("part", {"page": "p", "kept": "/etc/passwd"}),
+        ("part", {"page": "p", "seconds": 0}),
+        ("part", {"page": "p", "seconds": "5"}),
+        ("part", {"page": "p", "replicas": 5}),
+        ("part", {"page": 5}),
         ("storm", {"page": "p", "sides": [], "storm": {"beside": 30}}),
         ("storm", {"page": "p", "sides": [], "storm": {"beside": [30]}}),
         ("storm", {"page": "p", "sides": [], "storm": {"beside": ["30", ""]}}),
@@ -242,9 +255,26 @@ def test_storms_are_shown_side_by_side(lab: Lab) -> None:
     told = post(lab, "storm", storm_of((FULL, ""), (FULL, "10/10%/1s"), ("recurs(", ""), ("recurs(0)", "x"))).json()
     first, second, *none = told["sides"]
     assert none == [None, None]
+    (group,) = told["totals"]
+    assert group["head"] == "" and group["rows"] == [
+        ["succeeded", "18.4 %", "83.3 %", None, None],
+        ["recovery", "not back by the end", "back at 20 s", None, None],
+        ["calls per request", "7.62", "1.02", None, None],
+        ["calls", "365,567", "48,900", None, None],
+        ["most in a window", "8,476 calls", "892 calls", None, None],
+        ["this window begins at", "22 s", "11 s", None, None],
+        ["requests", "48,000", "48,000", None, None],
+        ["won", "8,832", "40,003", None, None],
+        ["lost", "39,168", "0", None, None],
+        ["denied a retry", "0", "7,997", None, None],
+        ["left open", "0", "0", None, None],
+        ["tickets for retries", None, "900", None, None],
+        ["half won within", "1 ms", "1 ms", None, None],
+        ["99 in 100 won within", "18.628 s", "1 ms", None, None],
+        ["slowest won after", "22.283 s", "97 ms", None, None],
+    ]
     assert first["brief"] == "18.4 % of 48,000 requests succeeded, not back by the end; 7.62 calls for each"
     assert second["brief"] == "83.3 % of 48,000 requests succeeded, back at 20 s; 1.02 calls for each"
-    assert first["lines"][1].startswith("365,567 calls, 7.62 for each request")
     assert all(f">{words}<" in told["picture"] for words in ("A: no limit", "B: quota 10/10%/1s", "18.4 % succeeded"))
     assert ">calls begun<" in told["picture"]
     assert first["json"] == Policy.parse(FULL).to_json()
@@ -252,6 +282,7 @@ def test_storms_are_shown_side_by_side(lab: Lab) -> None:
     assert cut["sides"][0]["brief"] == (
         "86.7 % of 30,000 requests succeeded until the storm was cut, back at 5 s; 1.00 calls for each"
     )
+    assert cut["totals"][0]["rows"][-1] == ["cut before the call after", "30,000"]
     brief = post(lab, "storm", {**storm_of((FULL, ""), (FULL, "5")), "is_brief": True}).json()
     assert ">calls begun<" not in brief["picture"] and ">B: budget of 5<" in brief["picture"]
     none = post(lab, "storm", storm_of(("", ""), ("", ""))).json()
@@ -308,8 +339,19 @@ def test_clients_beside_have_the_policy_of_their_side_or_one_of_their_own(lab: L
         )
         for text, limit, limited in sides
     ]
+    own, beside = told["totals"][1:]
+    assert (own["head"], beside["head"]) == (
+        "Own clients, 70 % of the requests",
+        "Clients beside, 30 % of the requests",
+    )
+    for index, (group, limited) in enumerate(((own, ["yes", "yes"]), (beside, ["yes", "no"]))):
+        assert group["rows"][0] == ["limited", *limited]
+        for number, each in enumerate(known, 1):
+            (succeeded, recovery, calls, requests, won) = (row[number] for row in group["rows"][1:])
+            # (the sentence of the population, which a command prints, has the same)
+            said = f"{won} of {requests} won ({succeeded}), {calls} calls for each, {recovery}"
+            assert population_sentences(each)[index].endswith(f": {said}")
     for side, each in zip(told["sides"], known):
-        assert side["lines"][-2:] == population_sentences(each)
         assert side["command"] == in_command(each.policy, each.parameters)
         assert side["python"] == in_python(each.policy, each.parameters)
         assert side["rust"] == in_rust(each.policy, each.parameters)
@@ -324,7 +366,9 @@ def test_clients_beside_have_the_policy_of_their_side_or_one_of_their_own(lab: L
     picture = post(lab, "storm", {**asked, "sides": same, "storm": {**brief, "beside": [30, ""]}}).json()["picture"]
     assert ">A: beside 30 %, limited<" in picture and ">B: beside 30 %, not limited<" in picture
     told = post(lab, "storm", {**asked, "storm": {**brief, "beside": [30, "recurs(1)"]}}).json()
-    assert all("30 %, " in side["lines"][-1] and ": recurs(1): " in side["lines"][-1] for side in told["sides"])
+    assert all(
+        "'30=recurs(1)'" in side["command"] or "'30+limited=recurs(1)'" in side["command"] for side in told["sides"]
+    )
     assert json.loads(told["scenario"])["lines"][1]["beside"][0]["policy"] == {"recurs": 1}
     assert (
         "beside" not in post(lab, "storm", {**asked, "storm": {**brief, "beside": [0, "recurs(1)"]}}).json()["scenario"]
@@ -366,6 +410,178 @@ def test_a_parameter_out_of_range_is_named(lab: Lab) -> None:
     assert told == {"fault": {"name": "rate", "said": "expected 1 to 1000000, got 0"}}
     told = post(lab, "storm", storm_of((FULL, ""), outage=[5, 3])).json()
     assert told["fault"] == {"name": "outage", "said": "it ends at 3 ms, before it begins at 5 ms"}
+
+
+# A log
+
+
+#: 29 November 2026, 17:30:00 UTC, by `date -u -d '2026-11-29 17:30:00' +%s`.
+EVENING = 1_795_973_400
+
+
+def post_log(lab: Lab, body: bytes, page: str = "p", **told: Any) -> Answer:
+    said = urlencode({"page": page, "width": 400, **told})
+    return ask(lab, "POST", f"/{lab.token}/log?{said}", body, Content_Type="application/octet-stream")
+
+
+def uploads(lab: Lab) -> List[str]:
+    """What the lab has of logs."""
+    return sorted(os.listdir(lab.uploads._folder.name))
+
+
+def rows_of(*counts: int) -> bytes:
+    """A log with so many requests in each second."""
+    return b"".join(b"%d,x\n" % (EVENING + second) * count for second, count in enumerate(counts))
+
+
+def test_the_requests_of_a_log_are_played(lab: Lab) -> None:
+    # 30 s of 10 a second, then 10 s of 40 and 20 s of 10 again; the fastest pace is the storm's rate
+    body = rows_of(*[10] * 30, *[40] * 10, *[10] * 20) + b"spoilt\n\n"
+    told = post_log(lab, body).json()
+    assert told["storm"] == {
+        "rate": 40,
+        "rates": [[0, 30_000, 10], [40_000, 60_000, 10]],
+        "together": 1,
+        "seconds": 60,
+    }
+    assert told["lines"] == [
+        "CSV without names: took 900 lines, skipped 2 (1 empty, 1 no time)",
+        "From 2026-11-29 17:30:00 UTC on, 60 s; the busiest second is 2026-11-29 17:30:30, with 40 requests",
+        "Played: 60 s from 2026-11-29 17:30:00 UTC on, as 3 spans with an even pace in each: 900 requests (the log has "
+        "900), at most 40 in a second",
+    ]
+    assert 'width="400"' in told["picture"] and ">seconds since 2026-11-29 17:30:00 UTC<" in told["picture"]
+    assert ">requests of the log<" in told["picture"] and ">40<" in told["picture"] and "<style" not in told["picture"]
+    # the page asks for it with the spans of the log
+    given: Any = {**told["storm"], "outage": [0, 0]}
+    played = post(lab, "storm", storm_of(("recurs(0)", ""), **given)).json()
+    assert ["requests", "900"] in played["totals"][0]["rows"]
+    assert "--rates 0..30000@10,40000..60000@10" in played["sides"][0]["command"]
+    assert "rates2" not in played["bounds"] and played["bounds"]["rate"][0] == 1
+    # its busiest 10 s, by what was kept of it
+    part = post(lab, "part", {"page": "p", "seconds": 10, "width": 400}).json()
+    assert part["storm"] == {"rate": 40, "rates": [], "together": 1, "seconds": 10}
+    assert part["lines"][:2] == told["lines"][:2]
+    assert part["lines"][2].startswith("Played: 10 s from 2026-11-29 17:30:30 UTC on, as 1 span")
+    assert post(lab, "part", {"page": "other", "seconds": 10}).json() == {
+        "fault": {"name": "log", "said": "the lab has it no more: choose it again"}
+    }
+
+
+def test_what_a_log_lets_assume_is_shared_by_the_replicas(lab: Lab) -> None:
+    lines = [f'{{"time":{EVENING + at // 9},"status":200,"latency_ms":{at}}}\n' for at in range(18)]
+    told = post_log(lab, "".join(lines).encode(), replicas=2).json()
+    assert (told["storm"]["capacity"], told["storm"]["patience"]) == (5, 17)
+    assert told["lines"][2:3] + told["lines"][4:] == [
+        "Half took at most 8 ms, 99 in 100 at most 17 ms, the slowest 17 ms",
+        "Assumed: patience 17 ms (the slowest answer)",
+        "Assumed: capacity 5 calls a second (the most that was answered in a second; the peer may be able to do more)",
+    ]
+
+
+WANTED = "expected lines of an access log (nginx's or Apache's, JSON lines, or CSV), got "
+
+
+@pytest.mark.parametrize(
+    "body, said",
+    [
+        (b"", f"{WANTED}no line"),
+        (b"no log\n" * 5000, f"{WANTED}1000 lines of no known format"),
+        (b"x" * 3_000_000, f"{WANTED}lines that are none: 1 longer than 65536 bytes"),
+        (b"\n" * 300_000, f"{WANTED}lines that are none: 300000 empty"),
+        (gzip.compress(b"5,x\n")[:-3], "expected whole gzip data: it ends too soon"),
+    ],
+    ids=["empty", "other", "endless", "newlines", "cut"],
+)
+def test_a_file_that_is_no_log_is_refused_and_the_one_before_is_kept(lab: Lab, body: bytes, said: str) -> None:
+    assert post_log(lab, rows_of(3, 4), "kept").status == 200
+    assert post_log(lab, body, "kept").json() == {"fault": {"name": "log", "said": said}}
+    part = post(lab, "part", {"page": "kept", "seconds": None}).json()
+    assert part["lines"][0] == "CSV without names: took 7 lines, skipped 0"
+    assert all(name.endswith(".kept") for name in uploads(lab))
+
+
+def answered(folder: Path, body: Optional[bytes] = None, **given: Any) -> Any:
+    """What is answered to a log, or to one that was kept, by this process."""
+    asked: Any = {"kept": str(folder / "kept"), "seconds": None, "replicas": 1, "width": 400, **given}
+    if body is not None:
+        (folder / "log").write_bytes(body)
+        asked.update(log=str(folder / "log"), size=len(body))
+    return logs.log_answer(asked, lambda share: None)
+
+
+def test_little_that_expands_to_much_is_refused(tmp_path: Path, monkeypatch: Any) -> None:
+    body = gzip.compress(rows_of(40_000))
+    whole = len(gzip.decompress(body))
+    assert len(body) < whole // 100
+    monkeypatch.setattr(logs, "_MAX_EXPANDED", whole)
+    assert answered(tmp_path, body)["storm"]["rate"] == 40_000
+    monkeypatch.setattr(logs, "_MAX_EXPANDED", whole - 1)
+    said = f"expected at most {whole - 1} bytes when it is expanded: hikebox storm --log takes larger ones"
+    assert answered(tmp_path, body) == {"fault": {"name": "log", "said": said}}
+
+
+def test_a_log_that_no_storm_plays_is_refused(tmp_path: Path) -> None:
+    counts = {EVENING: 1_000_001}
+    found = Traffic("", Counter(counts), Counter(counts), Counter(), Counter(), Counter())
+    (tmp_path / "kept").write_bytes(pickle.dumps(tuple(found)))
+    said = "rate: expected 1 to 1000000, got 1000001"
+    assert answered(tmp_path) == {"fault": {"name": "log", "said": said}}
+
+
+def test_the_share_of_a_log_that_is_read_is_told(tmp_path: Path, monkeypatch: Any) -> None:
+    monkeypatch.setattr(logs, "_TICK", 0)
+    (tmp_path / "log").write_bytes(rows_of(300_000))
+    told: List[float] = []
+    size = (tmp_path / "log").stat().st_size
+    asked: Any = {"log": str(tmp_path / "log"), "size": size, "kept": str(tmp_path / "kept")}
+    logs.log_answer({**asked, "seconds": None, "replicas": 1, "width": 400}, told.append)
+    assert told == sorted(told) and 0 < told[0] < 0.5 and told[-1] == 0.99
+
+
+def test_a_log_that_is_too_large_or_of_another_kind_is_refused(lab: Lab) -> None:
+    path = f"/{lab.token}/log?page=p"
+    kind: Any = {"Content_Type": "application/octet-stream"}
+    with contextlib.suppress(ConnectionError):
+        answer = ask(lab, "POST", path, b"x", Content_Length=str((256 << 20) + 1), **kind)
+        assert (answer.status, answer.text) == (400, "expected a log of at most 268435456 bytes\n")
+    assert ask(lab, "POST", path, b"{}").status == 400
+    assert ask(lab, "POST", path, rows_of(1), Content_Length="9" * 5000, **kind).status == 400
+    for wrong in (
+        "",
+        "?page=" + "x" * 65,
+        "?page=p&seconds=0",
+        "?page=p&seconds=x",
+        "?page=p&width=wide",
+        "?page=p&kept=x",
+    ):
+        assert ask(lab, "POST", f"/{lab.token}/log{wrong}", rows_of(1), **kind).status == 400, wrong
+
+
+def test_a_log_that_ends_too_soon_leaves_nothing(lab: Lab) -> None:
+    before = uploads(lab)
+    with socket.create_connection(("127.0.0.1", lab.port)) as wire:
+        head = f"POST /{lab.token}/log?page=short HTTP/1.1\r\nHost: 127.0.0.1:{lab.port}\r\n"
+        wire.sendall(f"{head}Content-Type: application/octet-stream\r\nContent-Length: 999\r\n\r\nx".encode())
+        comes_to(lambda: uploads(lab) != before)
+    comes_to(lambda: uploads(lab) == before)
+    assert post_log(lab, rows_of(1)).status == 200
+
+
+def test_the_next_log_of_a_page_breaks_the_one_before_off(lab: Lab) -> None:
+    long = gzip.compress(b"\n" * (64 << 20)) * 15
+
+    def is_broken_off() -> bool:
+        broken: List[Answer] = []
+        thread = threading.Thread(target=lambda: broken.append(post_log(lab, long, "again")))
+        thread.start()
+        comes_to(lambda: bool(lab.players._busy) and bool(children()) or bool(broken))
+        assert post_log(lab, rows_of(1, 2), "again").json()["storm"]["seconds"] == 2
+        thread.join(_PATIENCE)
+        return broken[0].status == 409
+
+    # (a machine that holds the test up may have read the log before the next one comes)
+    assert any(is_broken_off() for _ in range(5)), "a log is read to its end"
 
 
 PROGRAMS: List[Tuple[str, Parameters]] = [
@@ -435,7 +651,9 @@ def test_ten_storms_of_a_million_requests_at_once_leave_it_answering(lab: Lab) -
         for thread in threads:
             thread.join()
         assert [answer.status for answer in answers] == [200] * 10
-        assert {answer.json()["sides"][0]["lines"][0].split(":")[0] for answer in answers} == {"1,020,000 requests"}
+        requests = [row for row in answers[0].json()["totals"][0]["rows"] if row[0] == "requests"]
+        assert requests == [["requests", "1,020,000"]]
+        assert all(requests[0] in answer.json()["totals"][0]["rows"] for answer in answers)
         return meanwhile
 
     # (a machine that holds the test up may have played the storms before it asks)

@@ -561,8 +561,8 @@ def test_what_is_told_of_wrong_terms(make: Callable[[], Any], told: str) -> None
 
 
 def test_a_breaker_is_open_where_one_of_its_times_is_not_0() -> None:
-    assert Breaker(1, spaced(30).jittered(0.5, 1)).terms[3] == [15_000] * 64
-    assert Breaker(1, (recurs(1) & spaced(1)).and_then(recurs(2))).terms[3] == [1000, 0, 0]
+    assert Breaker(1, spaced(30).jittered(0.5, 1)).terms[4] == [15_000] * 64
+    assert Breaker(1, (recurs(1) & spaced(1)).and_then(recurs(2))).terms[4] == [1000, 0, 0]
 
 
 def test_open_times_are_the_waits_of_the_policy() -> None:
@@ -591,7 +591,9 @@ def test_misuse() -> None:
         request.draw()
     with pytest.raises(TypeError, match="request"):
         breaker.draw()
-    with pytest.raises(TypeError, match="expected a Bucket, an InFlight, a Breaker or a Throttle, got 'aws'"):
+    with pytest.raises(
+        TypeError, match="expected a Bucket, an InFlight, a Breaker, a Throttle or an Adaptive, got 'aws'"
+    ):
         both(breaker, "aws")  # type: ignore[arg-type]
     with pytest.raises(TypeError, match="belongs to its process"):
         pickle.dumps(breaker)

@@ -8,6 +8,7 @@ import gc
 import logging
 import sys
 from functools import partial
+from types import SimpleNamespace
 from typing import Any, Dict, Iterator, List, Tuple
 
 import pytest
@@ -15,9 +16,12 @@ import pytest
 from hikebox import (
     AsyncRetrying,
     Breaker,
+    Bucket,
     Budget,
+    PerKey,
     Quota,
     Retrying,
+    both,
     metrics,
     recurs,
     repeat,
@@ -60,6 +64,10 @@ class Meter:
         self.made: Dict[str, Tuple[str, str]] = {}
         self.counts: Dict[Any, float] = {}
         self.recorded: List[Any] = []
+        self.reads: Any = None
+
+    def create_observable_gauge(self, name: str, callbacks: Any, description: str = "") -> None:
+        self.made[name], self.reads = ("", "gauge"), callbacks[0]
 
     def create_counter(self, name: str, unit: str = "", description: str = "") -> Any:
         return self._made(name, unit, "counter")
@@ -244,6 +252,7 @@ def test_the_meter_of_opentelemetry(clock: VirtualClock) -> None:
         "hikebox.retries": ("{retry}", "counter"),
         "hikebox.refusals": ("{refusal}", "counter"),
         "hikebox.wait.duration": ("s", "histogram"),
+        "hikebox.limit.state": ("", "gauge"),
     }
     call, won = ("hikebox.call", f"{HERE}.fails"), ("hikebox.call", f"{HERE}.succeeds")
     assert meter.counts == {
@@ -279,6 +288,35 @@ def test_prometheus_own_registry() -> None:
         counting.stop()
     assert b"hikebox" not in client.generate_latest()
     counting.stop()
+
+
+#: What is shown of a breaker that was opened by hand, without its name.
+OPENED = {"closed": 0, "open": 1, "half_open": 0, "failures": 0, "until": 65, "trip": 1, "admitted": 0, "won": 0}
+
+
+def test_states_of_limits(counted: Counted, monkeypatch: Any) -> None:
+    breaker, bucket = Breaker(1, spaced(60), clock=lambda: 5.0), Bucket.grpc(10, 0.1)
+    breaker.open(60)
+    meter = Meter()
+    for counting in (counted.counting, metrics.opentelemetry(meter)):
+        counting.follow("peer", breaker)
+        counting.follow("tokens", bucket)
+    told = counted.all("limit_state")
+    assert told == {
+        **{("peer", what): number for what, number in OPENED.items()},
+        ("tokens", "level"): 10,
+        ("tokens", "capacity"): 10,
+    }
+    monkeypatch.setitem(sys.modules, "opentelemetry.metrics", SimpleNamespace(Observation=lambda *two: two))
+    observed = {(each["hikebox.limit"], each["hikebox.what"]): number for number, each in meter.reads(None)}
+    assert observed == told
+    breaker.close()
+    assert counted.value("limit_state", limit="peer", what="closed") == 1
+    wrong: Any
+    for wrong in (both(bucket, breaker), Budget(1), PerKey(lambda key: Bucket.aws())):
+        with pytest.raises(TypeError, match="^expected one limit that tells its state, such as a Breaker, got "):
+            counted.counting.follow("wrong", wrong)
+    metrics.opentelemetry(meter).stop()
 
 
 def test_several_count_the_same(counted: Counted) -> None:

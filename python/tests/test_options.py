@@ -7,6 +7,7 @@ from typing import Any, Dict, List, NamedTuple
 
 import pytest
 
+from hedged import World
 from hikebox import AsyncRetrying, Breaker, Budget, Policy, ResultRefused, Retrying, recurs, spaced, state_of
 from hikebox.retry.options import OPTIONS
 from hikebox.testing import VirtualClock
@@ -111,6 +112,7 @@ CASES: Dict[str, Case] = {
     ),
     "deadline": Case({"deadline": 1.5}, [FAILS, FAILS, WON], TWICE, Seen("DEADLINE", 2, [1], [])),
     "attempt_timeout": Case({"attempt_timeout": 0.01}, [HANGS, WON], AT_ONCE, Seen(WON, 2, [1], [])),
+    "hedge_after": Case({"hedge_after": 0.01}, [HANGS, WON], AT_ONCE, Seen(WON, 2, [1], [])),
     "stop": Case(
         {"stop": lambda state: state.attempt_number == 2}, [FAILS, FAILS, WON], TWICE, Seen("STOPPED", 2, [1], [])
     ),
@@ -152,7 +154,7 @@ def seen(kind: str, policy: Policy, outcomes: List[Any], given: Dict[str, Any]) 
         if blocks:
             comes = blocking(kind, Retrying(policy, **how), watched)
         else:
-            comes = asyncio.run(awaiting(kind, AsyncRetrying(policy, **how), watched))
+            comes = World("asyncio").run(lambda: awaiting(kind, AsyncRetrying(policy, **how), watched))
     except Exception as error:
         state = state_of(error)
         ending = None if state is None or isinstance(error, ResultRefused) else state.ending
@@ -183,7 +185,7 @@ async def awaiting(kind: str, retrying: AsyncRetrying, watched: Watched) -> Any:
 
 
 #: The kinds of calls that take an option, where not all do.
-TAKEN_BY = {"attempt_timeout": ["coroutines"]}
+TAKEN_BY = {"attempt_timeout": ["coroutines"], "hedge_after": ["coroutines"]}
 
 
 @pytest.mark.parametrize("kind", ["calls", "a loop", "coroutines", "an async loop"])

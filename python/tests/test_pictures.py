@@ -611,7 +611,7 @@ def test_what_the_page_on_storms_says_of_its_storms_is_so() -> None:
     assert (half.recovered_ms, 1000 * half.won // half.requests) == (42_000, 495) and "at 42 s, and 49.5 %" in page
     borders = [storm(recurs(3), seconds=300, limit=Quota(10, share, 1), **brown).totals for share in (0.22, 0.221)]
     assert [each.recovered_ms is not None for each in borders] == [True, False]
-    assert "with `--seconds 300` it is 22 %" in page
+    assert "With `--seconds 300` the border is 22 %" in page
     spent = storm(back_off.jittered(0, 1), limit=5000)
     assert spent.totals.tickets == 5000 and spent.totals.recovered_ms == 20_000 and "used up within the outage" in page
     assert sum(row.retries for row in spent.rows[:20]) == 5000

@@ -28,7 +28,7 @@ from hikebox._engine import calls, handles
 from hikebox.budgets.terms import Terms
 from hikebox.cli.main import main
 from hikebox.cli.scenario import scenario_of
-from hikebox.limits.kinds import times_of
+from hikebox.limits.breaker import times_of
 from hikebox.storms.storm import play
 from hikebox.storms import cores
 from hikebox.storms.code import in_command, in_python, in_rust, in_scenario

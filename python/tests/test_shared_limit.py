@@ -132,7 +132,7 @@ def test_open_times_by_their_last_one_and_long_ones(tmp_path: Path) -> None:
 def test_only_buckets_and_breakers(tmp_path: Path) -> None:
     with pytest.raises(TypeError, match="expected a Bucket or a Breaker, got <InFlight"):
         SharedLimit(FileStore(tmp_path), "a", InFlight.envoy())
-    with pytest.raises(TypeError, match="or a Throttle, got <SharedLimit"):
+    with pytest.raises(TypeError, match="or an Adaptive, got <SharedLimit"):
         both(SharedLimit(FileStore(tmp_path), "a", Bucket.aws()), Bucket.aws())
 
 

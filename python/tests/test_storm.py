@@ -23,7 +23,7 @@ from limited import NEVER_OPEN
 from hikebox import Breaker, Bucket, Budget, InFlight, Policy, Quota, Storm, StormError, Throttle, both, exponential
 from hikebox import PolicyError, Population, TermsError, milliseconds, recurs, spaced, storm
 from hikebox.cli.storm_options import limits_of, parameters_of, tickets_of
-from hikebox.limits.kinds import times_of
+from hikebox.limits.breaker import times_of
 from hikebox.storms.code import in_command, in_python, in_rust, in_scenario
 from hikebox.storms.limits import KINDS, LIMIT_WANTED, limit_of
 from hikebox.storms.parameters import SCENARIOS, Parameters, RateSpan, Slow, Span
@@ -63,6 +63,8 @@ def played(plan: Any, options: Dict[str, Any]) -> Storm:
         del told["limit"]
         open_plan = told.pop("open_plan", {"spaced": 30_000})
         tickets = limit_of(options["limit"], tuple(times_of(Policy.from_dict(open_plan))))
+    if "arrivals" in told:
+        told["arrivals"] = tuple(told["arrivals"])
     if "rates" in told:
         told["rates"] = tuple(RateSpan(*span) for span in told["rates"])
     if "slow" in told:
@@ -87,6 +89,64 @@ def test_random_storms_are_those_of_the_rules(seed: int) -> None:
     got = played(plan, options)
     assert got.to_json() + "\n" == storms.json_text(rows, totals)
     assert got.to_csv() == storms.csv_text(rows)
+
+
+@pytest.mark.parametrize("seed", range(30))
+def test_random_storms_by_moments_are_those_of_the_rules(seed: int) -> None:
+    rng = random.Random(f"python by moments {seed}")
+    plan, options = check_storms.some_storm(rng)
+    options = check_storms.some_arrivals(rng, options)
+    rows, totals = storms.report(storms.Storm(plan, **parsed(options)))
+    got = played(plan, options)
+    assert got.to_json() + "\n" == storms.json_text(rows, totals, (), options["arrivals"])
+    assert got.to_csv() == storms.csv_text(rows)
+
+
+def test_requests_at_given_moments() -> None:
+    moments: Any = [0, 0.0, timedelta(milliseconds=5), milliseconds(5), 0.1]
+    given = storm(recurs(0), arrivals=iter(moments), outage=None)
+    # the peer does a call a millisecond: the second of two waits for the first
+    assert given.parameters.arrivals == (0, 0, 5, 5, 100)
+    assert (given.totals.requests, given.totals.won, given.totals.p50_ms, given.totals.slowest_ms) == (5, 5, 1, 2)
+    assert given.parameters.last == 60_100 and given.parameters.requests == 5
+    assert setting(given.parameters).startswith("5 requests at given moments until 100 ms on a peer")
+    assert json.loads(given.to_json())["arrivals"] == 5
+    assert storm(recurs(0), arrivals=[7000]).parameters.last == 7_060_000
+    assert storm(recurs(0), arrivals=[7190]).parameters.last == 7_200_000
+    halves = storm(recurs(0), arrivals=[0] * 200, outage=None, beside=[Population(0.5, recurs(1))])
+    assert [each.totals.requests for each in halves.populations] == [100, 100]
+
+
+@pytest.mark.parametrize(
+    "moments, more, wanted",
+    [
+        ([], {}, "arrivals: expected 1 to 1048576 moments, got none"),
+        ([1, 2, 1], {}, "arrivals[2]: expected 2000 to 7200000 ms, got 1000"),
+        ([7201], {}, "arrivals[0]: expected 0 to 7200000 ms, got 7201000"),
+        ([0] * 1_048_577, {}, "arrivals: expected at most 1048576 moments, got 1048577"),
+        ([1], {"rate": 5}, "arrivals: expected no rate beside it, got 5"),
+        ([1], {"together": 2}, "arrivals: expected no together beside it, got 2"),
+        ([1], {"seconds": 2}, "arrivals: expected no seconds beside it, got 2"),
+    ],
+)
+def test_moments_that_are_refused(moments: List[Any], more: Dict[str, Any], wanted: str) -> None:
+    with pytest.raises(StormError) as caught:
+        storm(recurs(0), arrivals=moments, **more)
+    assert str(caught.value) == wanted
+
+
+def test_moments_are_of_their_type() -> None:
+    for wrong in ("12", 3, [None]):
+        given: Any = wrong
+        with pytest.raises(TypeError, match="arrivals"):
+            storm(recurs(0), arrivals=given)
+
+
+def test_no_sweep_of_a_rate_has_moments() -> None:
+    given = storm(recurs(0), arrivals=[0, 1], outage=None)
+    with pytest.raises(StormError, match="rate: expected requests that come by a rate, got moments of their own"):
+        sweep([given], rate=[1, 2])
+    assert [each.totals.won for each in sweep([given], capacity=[1, 1000]).lines[0]] == [0, 2]
 
 
 def test_the_storm_that_never_ends_and_the_one_that_a_quota_ends() -> None:
@@ -538,7 +598,7 @@ def test_the_help_spells_each_limit() -> None:
     status, told, _ = hikebox("--help")
     forms = [line.strip() for line in told.splitlines() if line.strip().partition(":")[0] in KINDS]
     assert status == 0 and {form.partition(":")[0] for form in forms} == set(KINDS)
-    assert [form for form in forms if form.count("/") != max(0, KINDS[form.partition(":")[0]] - 1)] == []
+    assert [form for form in forms if form.count("/") != max(1, *KINDS[form.partition(":")[0]]) - 1] == []
 
 
 #: Three windows of 100 requests, of which the ones in the midst are refused three times each. Bars are 26 columns long.

@@ -6,6 +6,7 @@ import gzip
 import json
 import os
 import random
+import re
 import subprocess
 import sys
 import threading
@@ -21,6 +22,7 @@ from hikebox.storms.parameters import Parameters, RateSpan
 from hikebox.traffic.formats import fields_of
 from hikebox.traffic.moments import Moments
 from hikebox.traffic.paces import Paces, paces_of, stretch_of
+from hikebox.traffic.picture import log_picture
 from hikebox.traffic.seen import Traffic, traffic_of
 
 #: 29 November 2026, 17:30:00 UTC, by `date -u -d '2026-11-29 17:30:00' +%s`.
@@ -184,6 +186,17 @@ def test_a_line_of_a_megabyte_and_times_that_go_back(tmp_path: Path) -> None:
     assert deep.taken == 1 and deep.skipped == {"no JSON": 1}
 
 
+def test_numbers_past_what_a_float_holds_are_no_latencies(tmp_path: Path) -> None:
+    lines = ['{"time":%d,"latency_ms":%s}' % (NOON, took) for took in ("9" * 400, "1e400", "-1", "5")]
+    assert traffic_of(log_of(tmp_path, *lines)).latencies == {5: 1}
+    assert traffic_of(log_of(tmp_path, *lines)).requests == {NOON: 4}
+
+
+def test_empty_lines_are_skipped_among_others(tmp_path: Path) -> None:
+    found = traffic_of(log_of(tmp_path, "", combined(), "", "\r", combined(), "x", ""))
+    assert found.taken == 2 and found.skipped == {"empty": 4, "not of the format": 1}
+
+
 def test_logs_that_gzip_compressed(tmp_path: Path) -> None:
     text = "".join(f"{combined()}\n" for _ in range(2000)).encode()
     path = tmp_path / "access.log.1"
@@ -268,6 +281,29 @@ def test_the_paces_of_a_log() -> None:
     assert paces_of([7] * 3600).seconds == 3600
 
 
+def test_the_picture_of_a_log() -> None:
+    drawn = log_picture(Counter({NOON: 10, NOON + 1: 20}), NOON, Paces(20, (RateSpan(0, 1000, 10),), 2), 760)
+    texts = re.findall(r">([^<>\n]+)</text>", drawn)
+    assert texts[:4] == [
+        "requests of the log",
+        "as they are played",
+        "seconds since 2026-11-29 17:30:00 UTC",
+        "requests/s",
+    ]
+    # 48 for the numbers and 18 at the right leave 694, half for each second; 48 is the height of 20 requests a second,
+    # above 92: 8, a line of 16, 20 and 48
+    assert '<path d="M48.0 92V68.0H395.0V44.0H742.0V92Z" class="requests"' in drawn
+    assert '<path d="M48.0 68.0V68.0H395.0V44.0H742.0" class="mark"' in drawn
+    assert 'class="shade"' not in drawn and "<desc" in drawn and "At most 20 requests a second, played as 20." in drawn
+    # five of ten seconds are played
+    part = log_picture(Counter({NOON: 4, NOON + 9: 4}), NOON + 5, Paces(1, (), 5), 760)
+    assert '<rect x="395.0" y="44.0" width="347.0" height="48.0" class="shade"' in part
+    long = log_picture(Counter({0: 600, 35_999: 10}), 0, Paces(600, (RateSpan(1000, 2000, 0),), 2), 366)
+    # where there are more seconds than points, means are shown: 150 steps of 240 s, and 600 / 240 is 2.5
+    assert "hours since 1970-01-01 00:00:00 UTC" in long and "At most 2.5 requests a second" in long
+    assert re.findall(r">(\d+)</text>", long) == ["0", "600", "0", "2", "4", "6", "8", "10"]
+
+
 def told(command: str, *words: str, text: bytes = b"") -> Tuple[int, str, str]:
     """Its status, its output and its errors."""
     line = [sys.executable, "-m", "hikebox", command, *words]
@@ -290,19 +326,29 @@ def test_the_program_says_what_it_took_and_plays_it(tmp_path: Path) -> None:
             "hikebox: half took at most 20 ms, 99 in 100 at most 900 ms, the slowest 900 ms",
             "hikebox: assumed --patience 900 (the slowest answer)",
             "hikebox: assumed --capacity 90 (the most that was answered in a second; the peer may be able to do more)",
-            "hikebox: played: 30 s from 2026-11-29 17:30:00 UTC on, as 1 span with an even pace in each: 1,530 "
-            "requests (the log has 1,540), at most 51 in a second",
+            "hikebox: played: 30 s from 2026-11-29 17:30:00 UTC on, at the log's own moments, evenly spread in "
+            "each second: 1,540 requests, at most 90 in a second",
         ],
     )
-    assert json.loads(output)["totals"]["requests"] == 1530
-    same = told(
-        "storm", "--rate", "51", "--seconds", "30", "--patience", "900", "--capacity", "90", "--json", "recurs(3)"
-    )
+    assert json.loads(output)["totals"]["requests"] == 1540
+    # a moment each 20 ms, and in the thirteenth second 90 of them
+    moments = [moment for moment in range(0, 30_000, 20) if moment // 1000 != 12]
+    moments = sorted([*moments, *(12_000 + 1000 * place // 90 for place in range(90))])
+    (tmp_path / "moments.txt").write_text("".join(f"{moment}\n" for moment in moments))
+    alike = ["--patience", "900", "--capacity", "90", "--json", "recurs(3)"]
+    same = told("storm", "--arrivals", str(tmp_path / "moments.txt"), *alike)
     assert same[1] == output
     given = told(
         "storm", "--log", "-", "--capacity", "70", "--patience", "5", "recurs(3)", text=Path(name).read_bytes()
     )
     assert given[0] == 0 and "assumed" not in given[2]
+
+
+def test_a_log_is_played_in_spans_where_its_rate_is_swept(tmp_path: Path) -> None:
+    rows = [f"{NOON + second}" for second in range(12) for _ in range(100 if second < 9 else 20)]
+    words = ["--log", log_of(tmp_path, *rows), "--capacity", "125", "--sweep", "rate=100,120", "--csv", "recurs(0)"]
+    status, _, errors = told("storm", *words)
+    assert status == 0 and "as 2 spans with an even pace in each: 960 requests (the log has 960)" in errors
 
 
 def test_advice_for_a_log(tmp_path: Path) -> None:
@@ -319,6 +365,7 @@ def test_advice_for_a_log(tmp_path: Path) -> None:
         (["--log", "x", "--rate", "5"], 2, "--log can't be used with --rate"),
         (["--log", "x", "--log", "y"], 2, "expected it once, got 'y' too"),
         (["--fields", "time=x"], 2, "fields: needs --log"),
+        (["--log", "x", "--arrivals", "y"], 2, "--arrivals can't be used with --log"),
         (["--log", "no/such/file"], 4, "read failed: no/such/file: No such file or directory"),
         (["--log", "."], 4, "read failed: .: Is a directory"),
         (["--log", "-"], 3, "log: expected lines of an access log"),

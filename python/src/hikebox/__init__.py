@@ -34,10 +34,24 @@ from .errors import (
     StormError,
     TermsError,
     TicketError,
+    TooSoon,
     TryAgain,
 )
-from .limits import Breaker, Bucket, CallLimit, InFlight, PerHost, PerKey, Request, Throttle, both
+from .limits import (
+    Adaptive,
+    Breaker,
+    BreakerState,
+    Bucket,
+    CallLimit,
+    InFlight,
+    PerHost,
+    PerKey,
+    Request,
+    Throttle,
+    both,
+)
 from .log import after_log, before_log, before_sleep_log
+from .pace import Pace
 from .policy import Policy, Step
 from .policy.builders import (
     decorrelated,
@@ -88,11 +102,13 @@ def __dir__() -> List[str]:
 
 __all__ = [
     "MAX_NUMBER",
+    "Adaptive",
     "AsyncRepeating",
     "AsyncRetrying",
     "Attempt",
     "AttemptTimeout",
     "Breaker",
+    "BreakerState",
     "Bucket",
     "Budget",
     "BuildInfo",
@@ -110,6 +126,7 @@ __all__ = [
     "Milliseconds",
     "NotAdmitted",
     "Outcome",
+    "Pace",
     "PerHost",
     "PerKey",
     "Policy",
@@ -137,6 +154,7 @@ __all__ = [
     "Ticket",
     "TicketError",
     "Tickets",
+    "TooSoon",
     "TryAgain",
     "Usage",
     "after_log",

@@ -24,6 +24,7 @@ __all__ = [
     "StormError",
     "TermsError",
     "TicketError",
+    "TooSoon",
     "TryAgain",
 ]
 
@@ -141,12 +142,30 @@ class NotAdmitted(HikeboxError):
         return (type(self), (self.refusal,), self.__dict__)
 
 
+class TooSoon(LimitError):
+    """A call would have to wait for its pace longer than it may, so it did not begin.
+
+    `wait` is for how many seconds, and `longest` how many it may wait: the pace's `longest`, or what its retry's
+    deadline leaves. `again_at` is the first moment, in seconds by the pace's clock, at which the pace grants it if no
+    other call comes before; None where the deadline is what it would pass.
+    """
+
+    def __init__(self, wait: float, longest: float, again_at: Optional[float] = None) -> None:
+        super().__init__(f"expected a wait of at most {longest:.3f} s for the pace, got one of {wait:.3f} s")
+        self.wait = wait
+        self.longest = longest
+        self.again_at = again_at
+
+    def __reduce__(self) -> Any:
+        return (type(self), (self.wait, self.longest, self.again_at), self.__dict__)
+
+
 class TryAgain(HikeboxError):
     """Raise it in a call to have it retried, whatever `on` says."""
 
 
 class AttemptTimeout(HikeboxError, TimeoutError):
-    """An attempt took longer than its `attempt_timeout`, and was cancelled."""
+    """An attempt took longer than `attempt_timeout`, and was cancelled; or longer than `hedge_after`, and goes on."""
 
 
 class ResultRefused(HikeboxError):

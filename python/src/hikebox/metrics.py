@@ -8,14 +8,17 @@ were decorated before, too:
 - what a limit refused, by the limit's type and the reason, such as `breaker_open` (see `RefusalReason`);
 - the seconds of each wait before a retry, as a histogram.
 
+`follow()` shows the state of a limit besides, whenever the metrics are read.
+
 `call` is the function that is retried, with its module; of a loop it is `a block`, and of an adapter the adapter.
 """
 
 from __future__ import annotations
 
 import importlib
-from typing import Any, Callable, Dict, Optional, Tuple
+from typing import Any, Callable, Dict, Iterator, List, Optional, Sequence, Tuple
 
+from .limits import BreakerSeen, BreakerState, CallLimit
 from .retry.watch import watch
 from .version import VERSION
 
@@ -31,19 +34,43 @@ _COUNTERS = {
     "refusals": ("First attempts and retries that a limit refused.", ("call", "limit", "reason")),
 }
 _WAITS = "Seconds that calls wait before a retry."
+_STATES = "The state of a limit, such as its level; of a breaker, 1 for what it is and 0 for what it is not."
 
 #: Adds to a count, by the values of its labels.
 Add = Callable[[float, Tuple[str, ...]], Any]
 
 
+#: The limits whose states are shown, by their names.
+States = Dict[str, CallLimit]
+
+
 class Counting:
     """What counts all retries of the process, until `stop()`."""
 
-    def __init__(self, sink: Any, adds: Dict[str, Add], waits: Add, forget: Callable[[], None]) -> None:
+    def __init__(self, sink: Any, states: States, adds: Dict[str, Add], waits: Add, forget: Callable[[], None]) -> None:
         self.sink = sink
+        self._states = states
         self._adds = adds
         self._waits = waits
         self._forget = forget
+
+    def follow(self, name: str, limit: CallLimit) -> None:
+        """Shows the state of a limit under this name, what its `seen()` returns, whenever the metrics are read.
+
+        >>> from prometheus_client import CollectorRegistry
+        >>> from hikebox import Bucket
+        >>> registry = CollectorRegistry()
+        >>> counting = prometheus(registry)
+        >>> counting.follow("payments", Bucket.aws())
+        >>> registry.get_sample_value("hikebox_limit_state", {"limit": "payments", "what": "level"})
+        500.0
+        >>> counting.stop()
+        """
+        if not isinstance(name, str):
+            raise TypeError(f"expected a name, got {name!r}")
+        if not isinstance(limit, CallLimit) or len(limit.parts()) != 1:
+            raise TypeError(f"expected one limit that tells its state, such as a Breaker, got {limit!r}")
+        self._states[name] = limit
 
     def ended(self, call: str, attempts: int, ending: str) -> None:
         """Counts a call that is over."""
@@ -72,8 +99,8 @@ def prometheus(registry: Any = None) -> Counting:
     """Counts all retries of the process in this registry of prometheus_client; None is the client's own. Of a registry
     that has the counts it returns what counts there.
 
-    The names are `hikebox_calls_total`, `hikebox_attempts_total`, `hikebox_retries_total`, `hikebox_refusals_total` and
-    `hikebox_wait_seconds`.
+    The names are `hikebox_calls_total`, `hikebox_attempts_total`, `hikebox_retries_total`, `hikebox_refusals_total`,
+    `hikebox_wait_seconds` and `hikebox_limit_state`.
 
     >>> from prometheus_client import CollectorRegistry
     >>> from hikebox import Retrying, recurs
@@ -94,9 +121,9 @@ def opentelemetry(meter: Any = None) -> Counting:
     """Counts all retries of the process by this meter of OpenTelemetry; None is one of the global provider's, with the
     name `hikebox`. For a meter that counts already it returns what counts there.
 
-    The names are `hikebox.calls`, `hikebox.attempts`, `hikebox.retries`, `hikebox.refusals` and
-    `hikebox.wait.duration`, and those of the attributes `hikebox.call`, `hikebox.ending`, `hikebox.limit` and
-    `hikebox.reason`.
+    The names are `hikebox.calls`, `hikebox.attempts`, `hikebox.retries`, `hikebox.refusals`, `hikebox.wait.duration`
+    and `hikebox.limit.state`, and those of the attributes `hikebox.call`, `hikebox.ending`, `hikebox.limit`,
+    `hikebox.reason` and `hikebox.what`.
     """
     sink = "the global provider" if meter is None else meter
     found = _counting_in(sink)
@@ -126,7 +153,31 @@ def _begun(counting: Counting) -> Counting:
     return counting
 
 
+def _numbers(states: States) -> Iterator[Tuple[str, str, float]]:
+    """The state of each limit: its name, what is told, and the number."""
+    for name, limit in list(states.items()):
+        seen = limit.seen()
+        if isinstance(seen, BreakerSeen):
+            yield from ((name, state.value.replace(" ", "_"), float(state is seen.state)) for state in BreakerState)
+        for what, value in zip(seen._fields, seen):
+            if isinstance(value, (int, float)):
+                yield name, what, float(value)
+
+
 def _in_prometheus(client: Any, registry: Any) -> Counting:
+    states: States = {}
+
+    class Gauges:
+        """Reads the states when the registry asks."""
+
+        def collect(self) -> Iterator[Any]:
+            family = client.metrics_core.GaugeMetricFamily("hikebox_limit_state", _STATES, labels=("limit", "what"))
+            for name, what, number in _numbers(states):
+                family.add_metric((name, what), number)
+            yield family
+
+    gauges = Gauges()
+    registry.register(gauges)
     made = {
         name: client.Counter(f"hikebox_{name}", about, labels, registry=registry)
         for name, (about, labels) in _COUNTERS.items()
@@ -137,11 +188,11 @@ def _in_prometheus(client: Any, registry: Any) -> Counting:
         return lambda count, values: counter.labels(*values).inc(count)
 
     def forget() -> None:
-        for metric in (*made.values(), waits):
+        for metric in (*made.values(), waits, gauges):
             registry.unregister(metric)
 
     adds = {name: adds_to(counter) for name, counter in made.items()}
-    return Counting(registry, adds, lambda seconds, values: waits.labels(*values).observe(seconds), forget)
+    return Counting(registry, states, adds, lambda seconds, values: waits.labels(*values).observe(seconds), forget)
 
 
 def _in_opentelemetry(sink: Any, meter: Any) -> Counting:
@@ -150,18 +201,23 @@ def _in_opentelemetry(sink: Any, meter: Any) -> Counting:
         counter = meter.create_counter(f"hikebox.{name}", unit=f"{{{_ONE[name]}}}", description=about)
         return lambda count, values: counter.add(count, _attributes(labels, values))
 
+    states: States = {}
+
+    def observe(_: Any) -> List[Any]:
+        observation = importlib.import_module("opentelemetry.metrics").Observation
+        labels = ("limit", "what")
+        return [observation(number, _attributes(labels, told)) for *told, number in _numbers(states)]
+
     waits = meter.create_histogram("hikebox.wait.duration", unit="s", description=_WAITS)
+    meter.create_observable_gauge("hikebox.limit.state", callbacks=[observe], description=_STATES)
     adds = {name: adds_to(name) for name in _COUNTERS}
-    return Counting(sink, adds, lambda seconds, values: waits.record(seconds, _attributes(("call",), values)), _nothing)
+    add_wait: Add = lambda seconds, values: waits.record(seconds, _attributes(("call",), values))
+    return Counting(sink, states, adds, add_wait, states.clear)
 
 
 #: What is counted, one of each, as OpenTelemetry has it for a unit.
 _ONE = {"calls": "call", "attempts": "attempt", "retries": "retry", "refusals": "refusal"}
 
 
-def _attributes(labels: Tuple[str, ...], values: Tuple[str, ...]) -> Dict[str, str]:
+def _attributes(labels: Sequence[str], values: Sequence[str]) -> Dict[str, str]:
     return {f"hikebox.{label}": value for label, value in zip(labels, values)}
-
-
-def _nothing() -> None:
-    pass

@@ -241,6 +241,17 @@ class AsyncRetrying(BaseRetrying):
 
     It waits by `asyncio.sleep`, or by `trio.sleep` with `sleep=trio.sleep`. Hooks and the functions given as `on`,
     `on_result` and `fallback` may be coroutine functions.
+
+    With `hedge_after`, the next attempt begins beside one that takes longer, and the first success is the result:
+
+    >>> from hikebox import spaced
+    >>> seconds = iter([3600, 0])
+    >>> async def ask():
+    ...     taken = next(seconds)
+    ...     await asyncio.sleep(taken)
+    ...     return taken
+    >>> asyncio.run(AsyncRetrying(recurs(1) & spaced(0), hedge_after=0.01)(ask))
+    0
     """
 
     __slots__ = ()

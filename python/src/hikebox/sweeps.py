@@ -200,6 +200,8 @@ def swept(
     if all(AXES[name].put(how, value) == how for _, how in storms for value in (0, 1)):
         missing = "a population beside" if name == "beside" else "a limit that has it"
         raise StormError("sweep", f"{name}: expected a storm with {missing}, got none")
+    if name in ("rate", "clients", "together", "seconds") and any(how.arrivals for _, how in storms):
+        raise StormError("sweep", f"{name}: expected requests that come by a rate, got moments of their own")
     wanted = [(policy, AXES[name].put(how, value).checked()) for policy, how in storms for value in values]
     played = play_all(wanted, told)
     lines = [played[at : at + len(values)] for at in range(0, len(played), len(values))]

@@ -76,7 +76,7 @@ LANES = 4
 NO_REPORT, WON, LOST = 0, 1, 2
 POLL, RUN, WAIT, OVER = 0, 1, 2, 3
 ON_NOTHING, ON_BUDGET, ON_QUOTA = 0, 1, 2
-ON_BUCKET, ON_IN_FLIGHT, ON_BREAKER, ON_THROTTLE = 3, 4, 5, 6
+ON_BUCKET, ON_IN_FLIGHT, ON_BREAKER, ON_THROTTLE, ON_ADAPTIVE = 3, 4, 5, 6, 7
 
 
 _HANDLE = POINTER(Handle)
@@ -136,6 +136,19 @@ SIGNATURES: Dict[str, Tuple[Any, ...]] = {
         _HANDLE,
         _HANDLE,
         POINTER(Storm),
+        POINTER(Window),
+        c_size_t,
+        POINTER(c_size_t),
+        POINTER(Totals),
+    ),
+    "hikebox_storm_play_arrivals": (
+        _HANDLE,
+        _HANDLE,
+        _HANDLE,
+        _HANDLE,
+        POINTER(Storm),
+        _NUMBER,
+        c_size_t,
         POINTER(Window),
         c_size_t,
         POINTER(c_size_t),

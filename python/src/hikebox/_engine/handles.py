@@ -72,6 +72,10 @@ def _storm_play_populations(*given: Any) -> Any:
     return _patient("hikebox_storm_play_populations")(*given)
 
 
+def _storm_play_arrivals(*given: Any) -> Any:
+    return _patient("hikebox_storm_play_arrivals")(*given)
+
+
 class Refusal(NamedTuple):
     """Why a text is no policy: the status, the place of the fault, and what is wanted there."""
 
@@ -226,19 +230,25 @@ def _decided(lines: bytes, text: str) -> List[Decided]:
     return told
 
 
-def play_storm(policies: Sequence[PolicyHandle], storm: Storm) -> Tuple[List[Tuple[int, ...]], Totals]:
-    """Plays a storm whose parameters are within their ranges, with the policy of each of its populations, up to four:
-    the fields of each window, and the totals."""
+def play_storm(
+    policies: Sequence[PolicyHandle], storm: Storm, arrivals: Sequence[int] = ()
+) -> Tuple[List[Tuple[int, ...]], Totals]:
+    """Plays a storm whose parameters are within their ranges, with the policy of each of its populations, up to four,
+    and the moments of its requests, where they have such: the fields of each window, and the totals."""
     room = storm.until // storm.window + 1
     windows, count, totals = (Window * room)(), c_size_t(), Totals()
     told = (byref(storm), windows, room, byref(count), byref(totals))
-    if len(policies) == 1:
-        status = _storm_play(policies[0].at, *told)
+    four = [*policies, *(PolicyHandle() for _ in range(4 - len(policies)))]
+    if arrivals:
+        call, moments = "hikebox_storm_play_arrivals", (c_uint64 * len(arrivals))(*arrivals)
+        status = _storm_play_arrivals(*(policy.at for policy in four), told[0], moments, len(arrivals), *told[1:])
+    elif len(policies) == 1:
+        call, status = "hikebox_storm_play", _storm_play(policies[0].at, *told)
     else:
-        four = [*policies, *(PolicyHandle() for _ in range(4 - len(policies)))]
+        call = "hikebox_storm_play_populations"
         status = _storm_play_populations(*(policy.at for policy in four), *told)
     if status != OK:
-        raise refused("hikebox_storm_play" if len(policies) == 1 else "hikebox_storm_play_populations", status)
+        raise refused(call, status)
     wide = ctypes.sizeof(Window) // ctypes.sizeof(c_uint64)
     numbers = (c_uint64 * (wide * count.value)).from_buffer(windows)[:]
     return [tuple(numbers[at : at + wide]) for at in range(0, len(numbers), wide)], totals

@@ -44,10 +44,10 @@ def bucket_steps(capacity: int, floor: int, debit: int, credit: int, refund: boo
     return _steps("hikebox_bucket_step", byref(BucketTerms(capacity, floor, debit, credit, refund)))
 
 
-def breaker_steps(failures: int, probes: int, deadline: int, times: Sequence[int]) -> Step:
+def breaker_steps(failures: int, results: int, probes: int, deadline: int, times: Sequence[int]) -> Step:
     """The steps of a breaker with these open times."""
     kept = (c_uint64 * len(times))(*times)
-    return _steps("hikebox_breaker_step", byref(BreakerTerms(failures, probes, deadline)), kept, len(times))
+    return _steps("hikebox_breaker_step", byref(BreakerTerms(failures, probes, deadline, results)), kept, len(times))
 
 
 def _steps(name: str, *terms: Any) -> Step:

@@ -6,11 +6,13 @@ from ctypes import POINTER, byref, c_size_t, c_uint32, c_uint64
 from typing import Any, Callable, Dict, List, Sequence, Tuple
 
 from .calls import OK, TOO_MANY_PASSES, library, refused, unchecked
-from .structs import BreakerTerms, BucketTerms, Handle
+from .structs import AdaptiveTerms, BreakerTerms, BucketTerms, Handle, State
 
 __all__ = [
     "LEVEL_LOW",
     "LimitHandle",
+    "State",
+    "NO_MOST",
     "NO_NUMBER",
     "NO_WORD",
     "OUT_OF_TURN",
@@ -33,8 +35,14 @@ PROBING = 64
 THROTTLED = 65
 OUT_OF_TURN = 66
 
+#: The most requests in flight of a bound that sets none.
+NO_MOST = 0xFFFFFFFF
+
 #: The statuses by which a limit refuses a request or a retry.
 REFUSALS = frozenset((LEVEL_LOW, REQUESTS_FULL, RETRIES_FULL, BREAKER_OPEN, PROBING, THROTTLED))
+
+#: The kinds of states.
+STATE_BUCKET, STATE_IN_FLIGHT, STATE_CLOSED, STATE_OPEN, STATE_HALF_OPEN, STATE_THROTTLE, STATE_ADAPTIVE = range(1, 8)
 
 #: A status, and the number that it was told with.
 Refused = Tuple[int, int]
@@ -45,9 +53,13 @@ _NUMBER = POINTER(c_uint64)
 #: Each call on limits, with the types of its parameters.
 SIGNATURES: Dict[str, Tuple[Any, ...]] = {
     "hikebox_bucket_new": (POINTER(BucketTerms), _HANDLE),
-    "hikebox_in_flight_new": (c_uint32, c_uint32, _HANDLE),
+    "hikebox_in_flight_new": (c_uint32, c_uint32, c_uint32, _HANDLE),
+    "hikebox_adaptive_new": (POINTER(AdaptiveTerms), _HANDLE),
     "hikebox_breaker_new": (c_uint64, POINTER(BreakerTerms), _NUMBER, c_size_t, _HANDLE),
     "hikebox_throttle_new": (c_uint64, c_uint32, c_uint64, _HANDLE),
+    "hikebox_limit_state": (_HANDLE, c_uint32, c_uint64, POINTER(State)),
+    "hikebox_breaker_open": (_HANDLE, c_uint64, c_uint64),
+    "hikebox_breaker_close": (_HANDLE, c_uint64),
     "hikebox_limit_both": (_HANDLE, _HANDLE),
     "hikebox_limit_split": (_HANDLE, _HANDLE),
     "hikebox_limit_admit": (_HANDLE, c_uint64, c_uint32, _NUMBER),
@@ -88,14 +100,21 @@ class LimitHandle:
         return cls._made("hikebox_bucket_new", byref(BucketTerms(capacity, floor, debit, credit, refund)))
 
     @classmethod
-    def of_flight(cls, least: int, share: int) -> LimitHandle:
-        """A bound on the retries in flight."""
-        return cls._made("hikebox_in_flight_new", least, share)
+    def of_flight(cls, least: int, share: int, most: int) -> LimitHandle:
+        """A bound on what is in flight."""
+        return cls._made("hikebox_in_flight_new", least, share, most)
 
     @classmethod
-    def of_breaker(cls, now: int, failures: int, probes: int, deadline: int, times: Sequence[int]) -> LimitHandle:
-        """A breaker, closed, with these open times."""
-        terms = BreakerTerms(failures, probes, deadline)
+    def of_adaptive(cls, least: int, most: int, first: int, backoff: int) -> LimitHandle:
+        """An adaptive limit."""
+        return cls._made("hikebox_adaptive_new", byref(AdaptiveTerms(least, most, first, backoff)))
+
+    @classmethod
+    def of_breaker(
+        cls, now: int, failures: int, results: int, probes: int, deadline: int, times: Sequence[int]
+    ) -> LimitHandle:
+        """A breaker, closed, with these open times, whose failures count among so many results; 0: in a row."""
+        terms = BreakerTerms(failures, probes, deadline, results)
         kept = (c_uint64 * len(times))(*times)
         return cls._made("hikebox_breaker_new", now, byref(terms), kept, len(times))
 
@@ -120,6 +139,20 @@ class LimitHandle:
         if status == TOO_MANY_PASSES:
             raise OverflowError("more requests are under way at once than a limit has handles")
         _done("hikebox_limit_split", status)
+
+    def state(self, now: int) -> State:
+        """The state of the one limit that it is of."""
+        state = State()
+        _done("hikebox_limit_state", _checked("hikebox_limit_state")(self.at, 0, now, byref(state)))
+        return state
+
+    def open(self, now: int, until: int) -> None:
+        """Opens its breaker until a moment."""
+        _done("hikebox_breaker_open", _checked("hikebox_breaker_open")(self.at, now, until))
+
+    def close(self, now: int) -> None:
+        """Closes its breaker."""
+        _done("hikebox_breaker_close", _checked("hikebox_breaker_close")(self.at, now))
 
     def __del__(self, free: Any = free) -> None:
         handle = getattr(self, "handle", None)  # (which an exception of a signal handler may have left out)

@@ -17,12 +17,15 @@ __all__ = [
     "Kept",
     "LeasedTicket",
     "Line",
+    "Mark",
     "Next",
     "Phase",
     "Place",
     "Population",
     "Range",
+    "Rate",
     "Run",
+    "State",
     "Storm",
     "Stored",
     "Told",
@@ -90,8 +93,24 @@ class BucketTerms(_Sized):
     _fields_ = [_SIZE, *_numbers("capacity floor debit credit"), ("refund", c_bool)]
 
 
+class State(_Sized):
+    """A limit's state."""
+
+    kind: int
+    first: int
+    second: int
+    third: int
+    until: int
+
+    _fields_ = [_SIZE, *_numbers("kind first second third until")]
+
+
+class AdaptiveTerms(_Sized):
+    _fields_ = [_SIZE, *_numbers("least most first backoff")]
+
+
 class BreakerTerms(_Sized):
-    _fields_ = [_SIZE, *_numbers("failures probes deadline")]
+    _fields_ = [_SIZE, *_numbers("failures probes deadline results")]
 
 
 class Phase(Structure):
@@ -110,7 +129,8 @@ class Storm(_Sized):
         *_numbers(
             "rate together seconds capacity patience queue outage_from outage_to slow_from slow_to slow_percent window "
             "until calls words draws_on limit reserve share period bucket_capacity bucket_floor bucket_debit "
-            "bucket_credit bucket_refund cost late_cost least failures probes deadline ratio open_count"
+            "bucket_credit bucket_refund cost late_cost least most first backoff failures "
+            "results probes deadline ratio open_count"
         ),
         ("open_times", c_uint64 * 64),
         *_numbers("replicas down phase_count"),
@@ -192,6 +212,26 @@ class HeldRequest(Structure):
     counted: bool
 
     _fields_ = [("counted", c_bool), ("drew", c_bool), *_numbers("slots cost generation")]
+
+
+class Rate(Structure):
+    """The terms of a pace."""
+
+    each: int
+    burst: int
+    longest: int
+
+    _fields_ = _numbers("each burst longest")
+
+
+class Mark(Structure):
+    """What gives the last take back of a pace that a store keeps."""
+
+    granted: bool
+    cost: int
+    due: int
+
+    _fields_ = [("granted", c_bool), *_numbers("cost due")]
 
 
 class Told(Structure):

@@ -10,6 +10,7 @@ from typing import Any, ClassVar, Collection, Dict, Generator, List, Optional, T
 
 from ..errors import ResultRefused
 from ..http import is_bad, methods_of, retry_after, retry_after_of, statuses_of
+from ..pace import Pacing
 from ..policy import Policy
 from ..retry.deadline import enter, leave
 from ..retry.drivers import answer_of, not_awaitable
@@ -50,6 +51,10 @@ _COMMON = """
     `methods`
         The methods that may be repeated. A request with another method, or with a body that can't be sent again, such
         as a stream, is retried only if no connection was made.
+
+    `pace`
+        A `Pace`, or a `LeasedPace`, for which each attempt waits. A request that it would let wait too long raises a
+        `TooSoon`.
 
     It takes the options of `Retrying` too, such as `limit` and `deadline`. With a `PerHost` as the limit, each host has
     one of its own; the key of another `PerKey` is told the request. A request that a limit doesn't admit raises
@@ -155,7 +160,10 @@ class PolicyClient:
             raise TypeError(f"{name}() takes no on_result: on_status says which answers are retried")
         if how.get("attempt_timeout") is not None:
             raise TypeError(f"{name}() takes no attempt_timeout: the client's own timeout is for each attempt")
-        look_at_names(name, how, {*_PARAMETERS, *inspect.signature(type(self)).parameters})
+        if how.get("hedge_after") is not None:
+            raise TypeError(f"{name}() takes no hedge_after: decorate the coroutine function that makes the request")
+        pace = how.pop("pace", None)
+        look_at_names(name, how, {*_PARAMETERS, "pace", *inspect.signature(type(self)).parameters})
         if read_up_to is not None and (type(read_up_to) is not int or read_up_to < 0):
             raise TypeError(f"read_up_to: expected a number of bytes or None, got {read_up_to!r}")
         self.on_status = statuses_of(on_status)
@@ -167,6 +175,7 @@ class PolicyClient:
         # (a request that must not be made twice is retried where it was never sent)
         self._careful = self.retrying.copy(on=self._was_not_sent)
         self._careful.counts = self.retrying.counts
+        self._waits = _waits_of(pace, self.retrying.settings.awaits)
 
     @property
     def statistics(self) -> Statistics:
@@ -206,6 +215,8 @@ class PolicyClient:
     def _one_attempt(self, call: Call, progress: Progress, driven: Steps, request: Any) -> Asks[Settled]:
         """Makes one attempt and has it judged, up to the next one or the end. The last one's error is raised."""
         progress.ends_now = call.is_spent()
+        if self._waits is not None:
+            yield self._waits, 1
         try:
             response = yield self._attempt, request
             is_refused = self.is_refused(response)
@@ -277,6 +288,15 @@ class PolicyClient:
             return True
         length = response.headers.get("Content-Length", "")
         return length.isascii() and length.isdigit() and int(length) <= self.read_up_to
+
+
+def _waits_of(pace: Any, awaits: bool) -> Any:
+    """What waits for a pace, where there is one."""
+    if pace is None:
+        return None
+    if not isinstance(pace, Pacing):
+        raise TypeError(f"pace: expected a Pace or a LeasedPace, got {pace!r}")
+    return pace.wait_async if awaits else pace.wait
 
 
 class _Answered(Outcome):

@@ -76,6 +76,7 @@ class PolicyAdapter(PolicyClient, HTTPAdapter):
         "raise_on_status",
         "retrying",
         "_careful",
+        "_waits",
     ]
 
     def __init__(

@@ -25,7 +25,7 @@ from ..leased import LeasedQuota
 from ..limits import look_at_no_keys, look_at_no_limit
 from ..policy import Policy
 from ..quota import Quota
-from ..retry.progress import Progress
+from ..retry.progress import HeldProgress
 from ..retry.state import Outcome
 from ..retrying import Retrying
 from ._waits import Waits
@@ -73,7 +73,7 @@ class _Answer:
 
     __slots__ = ("waits", "attempt", "wait")
 
-    def __init__(self, progress: Progress) -> None:
+    def __init__(self, progress: HeldProgress) -> None:
         self.waits = Waits(progress)
         self.attempt = 0
         #: The seconds until the next attempt, or None where none follows.
@@ -93,7 +93,7 @@ class _Shared:
         if answer is None:
             # tenacity's moments are those of this clock
             start = state.start_time if self.retrying.clock is time.monotonic else None
-            answer = answers[self] = _Answer(Progress(self.retrying, start=start))
+            answer = answers[self] = _Answer(HeldProgress(self.retrying, start=start))
         if answer.attempt != state.attempt_number and answer.wait is not None:
             answer.attempt = state.attempt_number
             answer.wait = answer.waits.after(_outcome(state.outcome), answer.attempt)

@@ -18,7 +18,7 @@ from ..http import METHODS, STATUSES, is_bad, parse_retry_after, statuses_of
 from ..limits import look_at_no_keys, look_at_no_limit
 from ..policy import Policy
 from ..retry.drivers import settle, slept
-from ..retry.progress import Progress
+from ..retry.progress import HeldProgress, Progress
 from ..retry.state import Ending, Outcome, Statistics
 from ..retry.steps import RUN, Steps, steps
 from ..retrying import Retrying, Tickets, look_at_names
@@ -195,7 +195,7 @@ class PolicyRetry(Retry):
     def _begun(self) -> Progress:
         """The retry of a request that has its first answer now."""
         assert self.retrying is not None
-        return Progress(self.retrying, start=None if self._call is None else self._call.start)
+        return HeldProgress(self.retrying, start=None if self._call is None else self._call.start)
 
     def _wait_after(self, progress: Progress, driven: Steps, call: _Call, failure: BaseException) -> Optional[float]:
         """How many seconds the next attempt is waited for that follows this failure, or None if none follows."""

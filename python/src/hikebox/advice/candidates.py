@@ -78,7 +78,7 @@ def _grpc(tokens: int, ratio: int) -> Candidate:
 
 def _in_flight(least: int, share: int) -> Candidate:
     python = f"InFlight({least}, {thousandths_text(share)})"
-    rust = f"CallLimit::new(InFlight {{ least: {least}, share: {share / 1000!r} }})?"
+    rust = f"CallLimit::new(InFlight {{ least: {least}, share: {share / 1000!r}, most: None }})?"
     return Candidate("inflight", limit_of(f"inflight:{least}/{share}"), python, rust, "")
 
 
@@ -87,7 +87,7 @@ def _breaker(failures: int, open_for: int, deadline: int) -> Candidate:
     python = f"Breaker({failures}, spaced({open_for}), probe_deadline={seconds_text(deadline)})"
     waits = f"Policy::new(&Schedule::spaced({duration(1000 * open_for)}))?"
     rust = (
-        f"CallLimit::new(Breaker {{ failures: {failures}, open_for: {waits}, probes: 1, "
+        f"CallLimit::new(Breaker {{ failures: {failures}, results: None, open_for: {waits}, probes: 1, "
         f"probe_deadline: {duration(deadline)} }})?"
     )
     return Candidate("breaker", limit_of(spelt, (1000 * open_for,)), python, rust, spelt, open_for)

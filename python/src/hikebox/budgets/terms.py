@@ -11,6 +11,7 @@ from ..errors import PolicyError, TermsError, shown
 __all__ = [
     "CountsRequests",
     "Terms",
+    "count_of",
     "duration_of",
     "requests_of",
     "terms_of",
@@ -83,6 +84,15 @@ def terms_of(reserve: int, share: float, per: Duration) -> Terms:
     Terms(reserve=10, share=250, period=60000)
     """
     return Terms(_reserve_of(reserve), _share_of(share), _period_of(per))
+
+
+def count_of(name: str, value: int, least: int, most: int) -> int:
+    """Returns a whole number in this range, or raises a `TermsError`."""
+    if isinstance(value, bool) or not isinstance(value, int):
+        raise TypeError(f"{name}: expected a whole number, got {value!r}")
+    if not least <= value <= most:
+        raise TermsError(f"{name}: expected {least} to {most}, got {shown(value)}")
+    return value
 
 
 def requests_of(requests: int) -> int:

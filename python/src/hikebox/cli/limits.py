@@ -8,25 +8,28 @@ from typing import Dict, Optional
 from ..budget import Budget
 from ..budgets.limit import Limit
 from ..errors import LimitError, TermsError
-from ..leased import FileStore, Leased, LeasedQuota
+from ..leased import FileStore, Leased, LeasedPace, LeasedQuota
 from ..leased.shared import SharedLimit
 from ..limits import Breaker, Bucket, CallLimit
-from ..limits.kinds import times_of
+from ..limits.breaker import times_of
 from ..policy import Policy
 from ..policy.builders import spaced
 from ..storms.limits import limit_of
-from .values import terms
+from . import values
 
-__all__ = ["SPELLINGS", "limit"]
+__all__ = ["SPELLINGS", "limit", "pace"]
 
 #: How each bucket or breaker that runs can share is spelt, as on a storm.
 SPELLINGS = (
-    "aws, grpc:TOKENS/RATIO, bucket:CAPACITY/FLOOR/COST/LATE/DEBIT/CREDIT[+refund], breaker:FAILURES/PROBES/DEADLINE"
+    "aws, grpc:TOKENS/RATIO, bucket:CAPACITY/FLOOR/COST/LATE/DEBIT/CREDIT[+refund], "
+    "breaker:FAILURES[/RESULTS]/PROBES/DEADLINE"
 )
 
+_FOR_EVER = "a run that is killed would keep its place among those in flight for ever"
 #: Why runs can't share the others.
 _NOT_SHARED = {
-    "inflight": "a run that is killed would keep its place among those in flight for ever",
+    "inflight": _FOR_EVER,
+    "adaptive": _FOR_EVER,
     "throttle": "it has two words, and a folder keeps one word of a limit",
 }
 
@@ -58,10 +61,22 @@ and a folder keeps one word of a limit
         if is_number:
             return Leased(store, "run", int(spelt), lease=1)
         if spelt[:1].isdigit():
-            return LeasedQuota(store, "run", *terms(spelt), lease=1)
+            return LeasedQuota(store, "run", *values.terms(spelt), lease=1)
         return SharedLimit(store, "run", _call_limit(spelt, open_for))
     except TermsError as error:
         raise LimitError(f"--limit: {error}, in {spelt!r}") from None
+
+
+def pace(text: str) -> LeasedPace:
+    """The pace that all runs keep which name it and its folder, as `10/1s@/run/lock/jobs`."""
+    spelt, at, path = text.partition("@")
+    if not (at and path):
+        raise LimitError(f"--pace: expected RUNS/PERIOD@FOLDER, such as 10/1s@/run/lock/jobs, got {text!r}")
+    try:
+        calls, per, burst = values.pace(spelt)
+        return LeasedPace(FileStore(os.path.expanduser(path)), "run", calls, per, burst=burst)
+    except LimitError as error:
+        raise LimitError(f"--pace: {error}") from None
 
 
 def _call_limit(spelt: str, open_for: Optional[Policy]) -> CallLimit:
@@ -94,4 +109,5 @@ def _bucket(numbers: Dict[str, int]) -> CallLimit:
 def _breaker(numbers: Dict[str, int], open_for: Optional[Policy]) -> CallLimit:
     waits = spaced(30) if open_for is None else open_for
     deadline = numbers["deadline"] / 1000
-    return Breaker(numbers["failures"], waits, probes=numbers["probes"], probe_deadline=deadline)
+    results, probes = numbers["results"] or None, numbers["probes"]
+    return Breaker(numbers["failures"], waits, results=results, probes=probes, probe_deadline=deadline)

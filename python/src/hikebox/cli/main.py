@@ -59,6 +59,7 @@ examples:
   hikebox run --limit 100@/run/lock/nightly -- ./job   # at most 100 retries over all runs that name the folder
   hikebox run --limit 10/20%/1h@/run/lock/jobs -- ./job   # each hour 10 over all runs, and one for every five runs
   hikebox run --limit breaker:5/1/30000@/run/lock/jobs -- ./job   # no run for 30 s after 5 failures in a row
+  hikebox run --pace 10/1s@/run/lock/jobs -- ./job   # ten attempts a second over all runs; each waits for its turn
 """
 
 _STORM = """\
@@ -124,7 +125,7 @@ def _does(words: Optional[List[str]]) -> int:
     except PolicyError as error:
         return _fails(str(error), BAD_INPUT)
     except (LimitError, StoreError, StormError) as error:
-        is_file = isinstance(error, StormError) and error.name in ("scenario", "log")
+        is_file = isinstance(error, StormError) and error.name in ("scenario", "log", "arrivals")
         return _fails(str(error), BAD_INPUT if is_file else BAD_COMMAND_LINE)
     except MemoryError:
         return _fails("no memory", NO_MEMORY)
@@ -169,6 +170,8 @@ def _fill_run(run: Any) -> None:
     run.add_argument("--limit", metavar="N|LIMIT@FOLDER", help=bound, action=Once)
     open_for = "how long a breaker is open, each time that it opens (30 s); spelt as for --policy"
     run.add_argument("--open", metavar="POLICY", help=open_for, action=Once)
+    paced = "begin RUNS attempts a PERIOD, evenly, or BURST (1) at once, over all runs that name it and FOLDER"
+    run.add_argument("--pace", metavar="RUNS/PERIOD[/BURST]@FOLDER", help=paced, action=Once)
     run.add_argument("--on", metavar="CODES", type=values.statuses, help="retry only these statuses, such as 1,3-5")
     run.add_argument("--timeout", metavar="SECONDS", type=values.duration, help="how long an attempt may take")
     grace = "how long after SIGTERM a SIGKILL follows (5)"
@@ -336,6 +339,7 @@ def _run(given: Any) -> int:
     options = RunOptions(
         policy=_policy(given.policy),
         limit=_limit(given),
+        pace=_pace(given),
         on=given.on,
         timeout=given.timeout,
         grace=given.kill_after,
@@ -362,6 +366,13 @@ def _limit(given: Any) -> Optional[Limit]:
     if given.open is not None:
         raise LimitError("--open: expected --limit breaker:.. too, got no --limit")
     return None
+
+
+def _pace(given: Any) -> Any:
+    """What the attempts of a run wait for."""
+    from .limits import pace
+
+    return None if given.pace is None else pace(given.pace)
 
 
 def _plan(given: Any) -> int:

@@ -12,8 +12,8 @@ from dataclasses import dataclass
 from typing import Any, FrozenSet, Optional, Sequence
 
 from ..budgets.limit import Limit
-from ..errors import NotAdmitted, StoreError
-from ..leased import LeasedQuota
+from ..errors import NotAdmitted, StoreError, TooSoon
+from ..leased import LeasedPace, LeasedQuota
 from ..leased.shared import SharedLimit
 from ..policy import Policy
 from ..retry.state import RetryState
@@ -46,6 +46,8 @@ class RunOptions:
 
     policy: Policy
     limit: Optional[Limit] = None
+    #: What each attempt waits for.
+    pace: Optional[LeasedPace] = None
     #: The statuses that are retried; None for all but 0 and those of a command that can't be run.
     on: Optional[FrozenSet[int]] = None
     #: Seconds that an attempt may take, and that it is given after SIGTERM before it gets SIGKILL.
@@ -104,7 +106,7 @@ def run_command(command: Sequence[str], options: RunOptions) -> int:
             sleep=runner.wait,
         )
         try:
-            retrying(runner.attempt)
+            retrying(runner.paced_attempt)
             status = 0
         except Failed as failed:
             status = failed.status
@@ -112,6 +114,9 @@ def run_command(command: Sequence[str], options: RunOptions) -> int:
         except NotAdmitted as refused:
             status = NOT_ADMITTED
             runner.tell_refusal(refused)
+        except (TooSoon, StoreError) as error:
+            status = NOT_ADMITTED
+            runner.tell(f"not run: {error}", always=True)
         except Ended as ended:
             status = ended.status
         except OutputTooLong:
@@ -173,6 +178,20 @@ class Runner:
         for file in (self.input, self.output):
             if file is not None:
                 os.close(file)
+
+    def paced_attempt(self) -> None:
+        """Runs the command once, at the moment that the pace says."""
+        pace = self.options.pace
+        if pace is not None:
+            pace.sleep = self.wait_for_pace
+            pace.wait()
+        self.attempt()
+
+    def wait_for_pace(self, seconds: float) -> None:
+        """Waits until the pace lets the next attempt begin."""
+        self.waits_for = f"attempt {self.number + 1}"
+        self.tell(f"attempt {self.number + 1}: begins in {seconds:.3f} s, by its pace")
+        self.wait(seconds)
 
     def attempt(self) -> None:
         """Runs the command once."""

@@ -9,7 +9,7 @@ from textwrap import wrap
 from typing import Any, Callable, Iterator, List, NamedTuple, Optional, Sequence, Tuple
 
 from ..errors import StormError
-from ..limits.kinds import times_of
+from ..limits.breaker import times_of
 from ..policy import Policy
 from ..storms.storm import Storm
 from ..storms.axes import values_of
@@ -21,6 +21,7 @@ from ..storms.populations import Clients
 from ..storms.picture import storm_picture
 from ..storms.texts import populations_table, sentences, side_by_side
 from ..sweeps import Sweep, find_from, swept
+from .arrivals import with_arrivals
 from .scenario import Line, Scenario, scenario_of
 from .log_options import with_log
 from .status_line import StatusLine
@@ -28,6 +29,8 @@ from .storm_options import limits_of, parameters_of
 
 __all__ = ["Result", "result_of", "telling", "wanted_of"]
 
+#: The parameters that storms have whose requests come by a rate.
+_BY_RATE = ("rate", "clients", "together", "seconds")
 #: How wide a picture is where nothing is said.
 _WIDTH = 760
 
@@ -52,7 +55,7 @@ class Wanted(NamedTuple):
 def wanted_of(given: Any, policy_of: PolicyOf) -> Wanted:
     """The storms that the options ask for. The options are judged before a policy is read."""
     scenario = scenario_of(given.scenario)
-    parameters = parameters_of(given, with_log(given, scenario.parameters))
+    parameters = parameters_of(given, _with_traffic(given, scenario.parameters))
     words = _words(given, scenario)
     limits = limits_of(given, _open_times(given, policy_of))
     has_limits = bool(given.limits or given.without)
@@ -72,6 +75,14 @@ def wanted_of(given: Any, policy_of: PolicyOf) -> Wanted:
     ]
     names = [line.name or "" for line in scenario.lines]
     return Wanted(storms, given.name or (names if all(names) and not has_limits else ()), title)
+
+
+def _with_traffic(given: Any, base: Parameters) -> Parameters:
+    """The parameters with the moments or the log that were given, if one of them was."""
+    if given.arrivals is not None:
+        return with_arrivals(given, base)
+    is_by_rate = bool(given.sweep) and values_of(given.sweep)[0] in _BY_RATE
+    return with_log(given, base, by_moments=not is_by_rate)
 
 
 def _on_line(line: Line, parameters: Parameters, is_given: bool) -> Parameters:

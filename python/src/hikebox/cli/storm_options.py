@@ -44,7 +44,7 @@ _HELP = {
     "replicas": "how many replicas the peer is, to which calls go in turn (1)",
     "down": "how many replicas refuse calls in the outage (all)",
     "window": "the length of a window of the report, in milliseconds (1000)",
-    "until": "when the storm ends, in milliseconds (60 s after --seconds)",
+    "until": "when the storm ends, in milliseconds (60 s after --seconds, or after the last moment of --arrivals)",
     "calls": "cut the storm after this many calls (16777216)",
     "words": "the seed of the random numbers (0)",
 }
@@ -81,12 +81,22 @@ def add_log(storm: argparse.ArgumentParser) -> None:
     storm.add_argument("--fields", metavar="time=NAME,latency=NAME:UNIT,status=NAME", action=Once, help=fields)
 
 
+def add_arrivals(storm: argparse.ArgumentParser) -> None:
+    """Adds the option of a file of moments."""
+    arrivals = (
+        "when requests come, in the place of --rate, --rates, --together and --seconds: a file with a moment on each "
+        "line, in milliseconds, none before that of the line before it, or - for standard input"
+    )
+    storm.add_argument("--arrivals", metavar="FILE", action=Once, help=arrivals)
+
+
 def add_storm_options(storm: argparse.ArgumentParser) -> None:
     """Adds the options that say how a storm is played."""
     story = "start from the parameters of outage (the default), herd or brown-out, or from a JSON file"
     storm.add_argument("--scenario", metavar="NAME|FILE", default="outage", help=story)
     add_numbers(storm, list(_HELP))
     add_log(storm)
+    add_arrivals(storm)
     outage = "when the peer refuses all calls, in milliseconds (10000..20000)"
     storm.add_argument("--outage", type=span_of, metavar="FROM..TO", help=outage)
     slow = "when the peer works at PERCENT of its capacity, in milliseconds (never)"

@@ -12,6 +12,7 @@ __all__ = [
     "duration",
     "inputs",
     "number",
+    "pace",
     "size",
     "size_text",
     "span",
@@ -135,6 +136,22 @@ def terms(text: str) -> Tuple[int, float, float]:
             "milliseconds, as zsched reads it)"
         )
     raise LimitError(f"expected RESERVE/SHARE%/PERIOD, such as 10/20%/60s (units: ms, s, m, h, d), got {text!r}")
+
+
+_PACE = re.compile(r"(\d{1,13})/(\d+(?:\.\d+)?(?:ms|s|m|h|d))(?:/(\d{1,7}))?", re.ASCII)
+
+
+def pace(text: str) -> Tuple[int, float, int]:
+    """The calls, the seconds in which they may begin, and how many at once.
+
+    >>> pace("10/1s"), pace("100/1m/20")
+    ((10, 1.0, 1), (100, 60.0, 20))
+    """
+    found = _PACE.fullmatch(text)
+    if found is None:
+        wanted = "expected RUNS/PERIOD or RUNS/PERIOD/BURST, such as 10/1s or 100/1m/20 (units: ms, s, m, h, d)"
+        raise LimitError(f"{wanted}, got {text[:100]!r}")
+    return int(found[1]), span(found[2]) or 0.0, int(found[3] or 1)
 
 
 def _exact(value: float) -> float:

@@ -18,14 +18,16 @@ from ..storms.picture import storm_picture
 from ..storms.populations import Clients
 from ..storms.storm import Storm
 from ..storms.sweep_picture import sweep_picture
-from ..storms.texts import population_sentences, recovery_mark, sentences, share_text
+from ..storms.texts import recovery_mark, share_text
 from ..sweeps import swept
 from .cookbook import COOKBOOK
 from .faults import Marked, policy_in
+from .logs import MAX_LOG
 from .shares import Told, play_telling, silent
 from .stories import STORIES, Story
+from .totals import totals_table
 
-__all__ = ["BadRequest", "plan_answer", "start_answer", "storm_answer", "sweep_answer"]
+__all__ = ["BadRequest", "log_asked", "plan_answer", "start_answer", "storm_answer", "sweep_answer"]
 
 _MAX_SIDES = 4
 #: The values of a sweep, as parts of the number that the page has, and for a share in thousandths.
@@ -67,6 +69,7 @@ def start_answer() -> Json:
         "stories": stories,
         "ranges": {name: list(RANGES[name]) for name in RANGES},
         "along": {name: AXES[name].title for name in _ALONG},
+        "most_log": MAX_LOG,
     }
 
 
@@ -94,8 +97,20 @@ def plan_answer(asked: Json) -> Json:
     return answer
 
 
+def log_asked(asked: Json) -> Json:
+    """What is asked of a log: how many seconds of it are played, or None for all, of how many replicas the peer is, and
+    how wide the picture is."""
+    seconds, replicas = asked.get("seconds"), _whole("replicas", asked.get("replicas", 1))
+    for name, value in (("seconds", seconds), ("replicas", replicas)):
+        least, most = RANGES[name]
+        if value is not None and not least <= _whole(name, value) <= most:
+            raise BadRequest(f"{name}: expected {least} to {most}")
+    return {"seconds": seconds, "replicas": replicas, "width": _width(asked)}
+
+
 def storm_answer(asked: Json, told: Told = silent) -> Json:
-    """The storms of policies in one picture, each with its totals in words and its programs; None for what is none."""
+    """The storms of policies in one picture and their totals in one table, each with its programs; None for what is
+    none."""
     sides = _sides(asked)
     try:
         wanted = _wanted(asked, sides)
@@ -106,11 +121,12 @@ def storm_answer(asked: Json, told: Told = silent) -> Json:
     rest = iter(played)
     storms = [None if each is None else next(rest) for each in wanted]
     if not played:
-        return {"sides": storms, "picture": "", "scenario": "", "bounds": bounds}
+        return {"sides": storms, "totals": [], "picture": "", "scenario": "", "bounds": bounds}
     names = [f"{letter}: {name}" for letter, name in zip(_letters(storms), names_of(played))]
     how: Any = {"width": _width(asked), "styled": False, "is_brief": asked.get("is_brief") is True}
     return {
         "sides": [None if storm is None else _shown(storm) for storm in storms],
+        "totals": totals_table(storms),
         "picture": storm_picture(played, names=names, title="", **how),
         "scenario": in_scenario(played),
         "bounds": bounds,
@@ -152,13 +168,13 @@ def _is_right(name: str, parameters: Parameters, value: int) -> bool:
 
 
 def _bounds(parameters: Parameters) -> Dict[str, Tuple[int, int]]:
-    """From where to where a slider may go, by the numbers that the storm has beside it. The rate of the surge is a part
-    of `rates`."""
+    """From where to where a slider may go, by the numbers that the storm has beside it. The rate of the surge, if there
+    is one, is a part of `rates`."""
     found = {}
     for name in RANGES:
         if getattr(parameters, name) is not None:
             found[name] = _bounds_of(RANGES[name], getattr(parameters, name), partial(_put, parameters, name))
-    for surge in parameters.rates:
+    for surge in parameters.rates if len(parameters.rates) == 1 else ():
         put = partial(_put_surge, parameters, surge)
         found["rates2"] = _bounds_of((0, RANGES["rate"][1]), surge.rate, put)
     return found
@@ -257,7 +273,6 @@ def _shown(storm: Storm) -> Json:
     brief = f"{share_text(totals)} of {requests} succeeded{until}{back and ', ' + back}"
     return {
         "brief": f"{brief}; {totals.calls_per_request:.2f} calls for each",
-        "lines": [*sentences(storm), *population_sentences(storm)],
         "json": storm.policy.to_json(),
         "command": in_command(storm.policy, storm.parameters),
         "python": in_python(storm.policy, storm.parameters),
@@ -274,8 +289,14 @@ def _parameters(asked: Any) -> Parameters:
     if asked.get("slow") is not None:
         told["slow"] = Slow(*_wholes("slow", asked["slow"], 3))
     if asked.get("rates") is not None:
-        told["rates"] = (RateSpan(*_wholes("rates", asked["rates"], 3)),)
+        told["rates"] = _rates(asked["rates"])
     return Parameters(**told).checked()
+
+
+def _rates(given: Any) -> Tuple[RateSpan, ...]:
+    """One span, or a list of them."""
+    is_list = isinstance(given, list) and all(isinstance(each, list) for each in given)
+    return tuple(RateSpan(*_wholes("rates", each, 3)) for each in (given if is_list else [given]))
 
 
 def _whole(name: str, value: Any) -> int:

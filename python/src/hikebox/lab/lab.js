@@ -1,7 +1,8 @@
 "use strict";
 
-// What is on the page: the story, what was changed of its numbers, and the two sides with a policy and a limit each.
-const state = { story: "quota", storm: {}, sides: [{ text: "", limit: "", limited: false }, { text: "", limit: "", limited: false }], along: "rate" };
+// What is on the page: the story, what was changed of its numbers, the log whose requests are played, if any, and the two
+// sides with a policy and a limit each.
+const state = { story: "quota", storm: {}, log: null, sides: [{ text: "", limit: "", limited: false }, { text: "", limit: "", limited: false }], along: "rate" };
 const page = crypto.randomUUID();
 let turns = 0;  // (how many storms and sweeps were asked for: an earlier one may be handled later)
 let known = { stories: {}, ranges: {}, cookbook: [], along: {} };
@@ -35,6 +36,10 @@ const PARTS = { outage: 2, slow: 3, rates: 3, beside: 2 };
 const HOUR = 3600000;
 // What there is of a brown-out or a surge where there is none.
 const NONE = { slow: [0, 0, 100], rates: [0, 0, 2400] };
+// How requests come by rates; the requests of a log come in spans, and one at a time.
+const BY_RATES = ["rate", "rates", "together"];
+// The spans of a link.
+const SPANS = /^\d{1,7}-\d{1,7}-\d{1,7}(_\d{1,7}-\d{1,7}-\d{1,7})+$/;
 const SIDES = ["a", "b"];
 const KINDS = { command: "command line", python: "Python", rust: "Rust", json: "JSON of the policy" };
 // From this width on a picture has its loads, and not its verdicts alone.
@@ -45,8 +50,9 @@ const idOf = (control) => control.name + (control.part === undefined ? "" : cont
 const say = (place, said) => { if (place.textContent !== said) place.textContent = said; };
 
 async function ask(name, asked, signal) {
+  const isFile = asked instanceof Blob, type = isFile ? "application/octet-stream" : "application/json";
   const answer = await fetch(name, {
-    method: "POST", headers: { "Content-Type": "application/json" }, body: JSON.stringify(asked), signal,
+    method: "POST", headers: { "Content-Type": type }, body: isFile ? asked : JSON.stringify(asked), signal,
   }).catch((error) => { throw error.name === "AbortError" ? error : new Error("hikebox lab does not answer. Is it still running?"); });
   if (!answer.ok) throw new Error(answer.status === 403 ? "this page is of another run of hikebox lab" : await answer.text());
   return answer.json();
@@ -70,8 +76,13 @@ function whole(name) {
 
 function valueOf(control) {
   const value = whole(control.name);
-  return control.part === undefined ? value : (value || NONE[control.name])[control.part];
+  return control.part === undefined ? value : (isSpans(value) ? NONE.rates : value || NONE[control.name])[control.part];
 }
+
+// Whether this is a list of spans, and no span of the sliders.
+const isSpans = (value) => Array.isArray(value) && Array.isArray(value[0]);
+// Whether the requests come by a log, or by its spans, and not by the rates of the sliders.
+const isPaced = () => state.log !== null || isSpans(whole("rates"));
 
 function setValue(control, value) {
   if (control.part === undefined) {
@@ -147,7 +158,10 @@ function take(control, text) {
   if (number.value !== text) number.value = text;
   const range = `from ${least.toLocaleString("en")} to ${most.toLocaleString("en")}`;
   tell(number, byId(number.id + "-fault"), isRight ? "" : `expected a whole number ${range}, got ${spelt ? `'${spelt.slice(0, 40)}'` : "nothing"}`);
-  if (isRight) { setValue(control, Number(spelt)); stormChanged(); } else { showStale(); }
+  if (isRight) setValue(control, Number(spelt));
+  if (isRight && state.log && control.name === "seconds") partLater();
+  else if (isRight) stormChanged();
+  else showStale();
 }
 
 // Tells the fault of an input beside it.
@@ -165,6 +179,11 @@ function showControl(control, typed) {
 }
 
 function showControls(typed) {
+  for (const control of CONTROLS.filter(({ name }) => BY_RATES.includes(name))) {
+    const number = byId(idOf(control));
+    number.parentElement.hidden = isPaced();
+    if (isPaced()) tell(number, byId(number.id + "-fault"), "");
+  }
   for (const radio of document.querySelectorAll("[name=story]")) radio.checked = radio.value === state.story;
   CONTROLS.forEach((control) => showControl(control, typed));
 }
@@ -180,6 +199,7 @@ function stormAsked() {
   for (const name of Object.keys(NONE)) if (storm[name] && storm[name][0] === storm[name][1]) storm[name] = null;
   if (!("until" in state.storm)) storm.until = null;
   if (!("down" in state.storm)) storm.down = story().storm.down;
+  if (state.log) Object.assign(storm, { together: 1 });
   return storm;
 }
 
@@ -323,7 +343,7 @@ async function play() {
   keepLink();
   if (playing) playing.abort();
   const mine = playing = new AbortController();
-  const slow = setTimeout(() => { busy("Playing the storm; what you type or move breaks it off."); showDone(mine); }, 1000);
+  const slow = setTimeout(() => { busy("Playing the storm; what you type or move breaks it off."); showDone(mine, () => playing === mine); }, 1000);
   try {
     const width = widthOf(byId("played"));
     const answer = await ask("storm", { page, turn: ++turns, sides: sidesAsked(), storm: stormAsked(), width, is_brief: width < WIDE }, mine.signal);
@@ -336,14 +356,14 @@ async function play() {
   }
 }
 
-// Shows the share of the storms that is played, where the lab can tell it.
-async function showDone(mine) {
+// Shows the share of the storms that is played, or of the log that is read, where the lab can tell it.
+async function showDone(mine, isOn) {
   const bar = byId("busy").querySelector("progress");
   bar.removeAttribute("value");
-  while (playing === mine) {
+  while (isOn()) {
     const { done } = await ask("done", { page }, mine.signal).catch(() => ({ done: null }));
-    if (playing === mine && done !== null) bar.value = done;
-    byId("done").textContent = playing === mine && done !== null ? `about ${Math.floor(done * 100)} % done.` : "";
+    if (isOn() && done !== null) bar.value = done;
+    byId("done").textContent = isOn() && done !== null ? `about ${Math.floor(done * 100)} % done.` : "";
     await new Promise((next) => { setTimeout(next, 300); });
   }
 }
@@ -357,17 +377,17 @@ function busy(said) {
 function showPlayed(answer) {
   const fault = answer.fault;
   if (answer.bounds) { bounds = answer.bounds; CONTROLS.forEach(boundSlider); }
-  say(byId("storm-fault"), fault && !CONTROLS.some((control) => control.name === fault.name) ? fault.said : "");
+  const named = CONTROLS.filter((control) => fault && control.name === fault.name && !byId(idOf(control)).parentElement.hidden);
+  say(byId("storm-fault"), fault && !named.length ? fault.said : "");
   // (a box that was changed since has a fault of its own)
-  for (const control of CONTROLS.filter((control) => fault && control.name === fault.name && isShown(control))) {
-    tell(byId(idOf(control)), byId(idOf(control) + "-fault"), fault.said);
-  }
+  for (const control of named.filter(isShown)) tell(byId(idOf(control)), byId(idOf(control) + "-fault"), fault.said);
   const isWhole = !fault && answer.sides.every((side, index) => side || !state.sides[index].text.trim());
   if (isWhole) clearPlayedFaults();
   // (a side that is faulty as it is typed keeps the picture that it had)
   if (isWhole || (!fault && !byId("played").firstChild)) {
     draw(byId("played"), answer.picture);
     answer.sides.forEach(showSide);
+    showTotals(answer.totals);
     scenario = answer.scenario;
   }
   showStale();
@@ -390,12 +410,29 @@ const programs = [null, null];
 function showSide(side, index) {
   const name = SIDES[index], letter = name.toUpperCase();
   programs[index] = side;
-  say(byId(name + "-brief"), side ? `${letter}: ${side.brief}`.replace(/(\d) (ms|s|%)/g, "$1\u00a0$2") : "");
-  byId(name + "-lines").replaceChildren(...(side ? side.lines : []).map((line) => {
-    const item = document.createElement("li");
-    item.textContent = `${letter}: ${line}`.replace(/(\d) (ms|s)\b/g, "$1\u00a0$2");
-    return item;
-  }));
+  say(byId(name + "-brief"), side ? `${letter}: ${unbroken(side.brief)}` : "");
+}
+
+// The text, in which no line ends between a number and its unit.
+const unbroken = (text) => text.replace(/(\d) (ms|s|%)(?!\w)/g, "$1\u00a0$2");
+
+function cell(name, text, given = {}) {
+  return Object.assign(document.createElement(name), { textContent: text, ...given });
+}
+
+// Each group of totals has a head, but the first one.
+function showTotals(groups) {
+  const bodies = groups.map(({ head, rows }) => {
+    const body = document.createElement("tbody");
+    const row = (...cells) => { const line = document.createElement("tr"); line.append(...cells); body.append(line); };
+    if (head) row(cell("th", unbroken(head), { scope: "rowgroup", colSpan: SIDES.length + 1 }));
+    for (const [name, ...texts] of rows) {
+      row(cell("th", unbroken(name), { scope: "row" }), ...texts.map((text) => cell("td", unbroken(text ?? "–"))));
+    }
+    return body;
+  });
+  byId("totals").querySelectorAll("tbody").forEach((body) => body.remove());
+  byId("totals").append(...bodies);
 }
 
 // What is wrong in the boxes, each with the name of the first box that it is told at.
@@ -416,6 +453,127 @@ function showStale(why = "") {
   const isDrawn = byId("played").firstChild !== null, said = why || faults().join(" ");
   say(byId("stale"), said && isDrawn ? `This picture shows the last valid input. ${said}` : said);
   for (const name of ["played", "swept"]) byId(name).classList.toggle("stale", Boolean(said));
+}
+
+// ---- The requests of a log
+
+let reading = null;
+// (a file that is read meanwhile is not broken off)
+const partLater = later(180, () => { if (state.log && !(reading && reading.file)) readLog(null); });
+
+function stopReading() {
+  if (!reading) return;
+  reading.abort();
+  reading = null;
+  busy("");
+}
+
+// Has the lab read a file, or play another part of the one that it has read.
+async function readLog(file) {
+  stopReading();
+  const mine = reading = Object.assign(new AbortController(), { file }), name = file ? file.name : state.log.name;
+  const asked = { page, turn: ++turns, width: widthOf(byId("played")), replicas: whole("replicas") };
+  const slow = setTimeout(() => { busy(`Reading ${name}; another log breaks it off.`); showDone(mine, () => reading === mine); }, 1000);
+  say(byId("log-said"), "");
+  try {
+    const answer = file ? await sendLog(file, asked, mine.signal) : await ask("part", { ...asked, seconds: whole("seconds") }, mine.signal);
+    if (reading !== mine) return;
+    if (answer.fault) throw new Error(answer.fault.said);
+    takeLog(name, answer, Boolean(file));
+  } catch (error) {
+    if (reading === mine) say(byId("log-said"), `${name}: ${error.message}.`.replace(/([.?])\.$/, "$1"));
+  } finally {
+    clearTimeout(slow);
+    if (reading === mine) { reading = null; busy(""); }
+  }
+}
+
+async function sendLog(file, asked, signal) {
+  const read = () => file.slice(0, 1).arrayBuffer().catch(() => { throw new Error("the browser can't read it, or it changes meanwhile: choose a file that stays as it is"); });
+  await read();
+  if (file.size > known.most_log) {
+    const [most, size] = [known.most_log, file.size].map((bytes) => bytes.toLocaleString("en"));
+    throw new Error(`expected at most ${most} bytes, got ${size}: hikebox storm --log takes larger ones`);
+  }
+  return ask(`log?${new URLSearchParams(asked)}`, file, signal).catch(async (error) => {
+    if (error.name !== "AbortError") await read();
+    throw error;
+  });
+}
+
+// Plays the requests of a log; of a new one also with the patience and the capacity that it tells.
+function takeLog(name, { storm, lines, picture }, isNew) {
+  const { rate, rates, seconds, ...assumed } = storm;
+  const before = state.log ? state.log.before : { ...state.storm };
+  state.log = { name, lines, picture, before };
+  Object.assign(state.storm, { rate, seconds, together: 1, rates: rates.length > 1 ? rates : rates[0] || null }, isNew ? assumed : {});
+  if (isNew) {
+    for (const control of CONTROLS.filter((control) => control.name in storm)) tell(byId(idOf(control)), byId(idOf(control) + "-fault"), "");
+    say(byId("log-told"), `The requests are those of ${name}.`);
+  }
+  showLog();
+  showControls();
+  stormChanged();
+}
+
+function showLog() {
+  const spans = isSpans(whole("rates")) ? [`${whole("rates").length} spans of requests come at a rate of their own.`] : [];
+  const { lines, picture } = state.log || { lines: spans, picture: "" };
+  draw(byId("logged"), picture);
+  byId("log-lines").replaceChildren(...lines.map((line) => cell("li", unbroken(line))));
+  byId("log-back").hidden = !isPaced();
+}
+
+// Has the requests come by the rates that they had before the log, or by those of the story.
+function leaveLog() {
+  stopReading();
+  const before = state.log ? state.log.before : {};
+  for (const name of [...BY_RATES, "seconds", ...(state.log ? ["capacity", "patience"] : [])]) {
+    if (name in before && !isSpans(before[name])) state.storm[name] = before[name]; else delete state.storm[name];
+  }
+  dropLog();
+  say(byId("log-told"), "The requests come by rates.");
+  showControls();
+  stormChanged();
+  byId("log-file").focus();
+}
+
+// Forgets the log.
+function dropLog() {
+  stopReading();
+  state.log = null;
+  byId("log-file").value = "";
+  say(byId("log-said"), "");
+  showLog();
+}
+
+function takeFiles(files) {
+  if (files.length === 1) readLog(files[0]);
+  else if (files.length) say(byId("log-said"), `Expected one access log, got ${files.length} files.`);
+}
+
+function makeLog() {
+  const input = byId("log-file"), hasFiles = (event) => event.dataTransfer !== null && event.dataTransfer.types.includes("Files");
+  // (a file may be chosen again after it has changed)
+  input.addEventListener("click", () => { input.value = ""; });
+  input.addEventListener("change", () => takeFiles(input.files));
+  byId("log-back").addEventListener("click", leaveLog);
+  const drags = (is) => document.body.classList.toggle("dropping", is);
+  addEventListener("dragover", (event) => {
+    if (!hasFiles(event)) return;
+    event.preventDefault();
+    event.dataTransfer.dropEffect = "copy";
+    drags(true);
+  });
+  addEventListener("dragleave", (event) => { if (event.relatedTarget === null) drags(false); });
+  addEventListener("drop", (event) => {
+    if (!hasFiles(event)) return;
+    event.preventDefault();
+    drags(false);
+    const { files } = event.dataTransfer;
+    if (files.length === 1) input.files = files;
+    takeFiles(files);
+  });
 }
 
 // ---- Along a parameter
@@ -446,7 +604,9 @@ function keepLink() {
   const told = new URLSearchParams();
   told.set("story", state.story);
   for (const [name, value] of Object.entries(state.storm)) {
-    if (String(value) !== String(story().storm[name])) told.set(name, Array.isArray(value) ? value.join("-") : value);
+    const spelt = isSpans(value) ? value.map((span) => span.join("-")).join("_") : Array.isArray(value) ? value.join("-") : value;
+    // (no surge is one of no length)
+    if (String(value) !== String(story().storm[name])) told.set(name, spelt ?? "0-0-0");
   }
   state.sides.forEach((side, index) => {
     told.set(SIDES[index], side.text);
@@ -460,6 +620,7 @@ function keepLink() {
 function beginWith(name) {
   state.story = name;
   state.storm = {};
+  dropLog();
   state.sides = story().sides.map((side) => ({ ...side }));
   clearFaults();
 }
@@ -488,6 +649,10 @@ function readLink(carried) {
   if (along !== null && along !== state.along) unknown.push(`along=${along}`);
   showControls();
   for (const [name, value] of told) {
+    if (name === "rates" && SPANS.test(value)) {
+      state.storm.rates = value.split("_").map((span) => span.split("-").map(Number));
+      continue;
+    }
     const controls = CONTROLS.filter((control) => control.name === name);
     const texts = controls.length && controls[0].part !== undefined ? partsOf(value, PARTS[name]) : [value];
     if (name === "beside") state.storm.beside = [whole("beside")[0], texts[1] || ""];
@@ -497,6 +662,7 @@ function readLink(carried) {
   }
   say(byId("said"), unknown.length ? `The link has what this page does not know: ${unknown.join(", ").slice(0, 80)}.` : "");
   byId("along").value = state.along;
+  showLog();
   showControls();
   showSides();
 }
@@ -556,6 +722,7 @@ async function start() {
   byId("beside-share").append(makeControl(CONTROLS.find((control) => control.name === "beside")));
   makeBeside();
   SIDES.forEach(makeSide);
+  makeLog();
   makeCopies();
   for (const [name, title] of Object.entries(known.along)) byId("along").append(new Option(title, name));
   byId("along").addEventListener("change", () => { state.along = byId("along").value; keepLink(); sweep(); });
@@ -564,7 +731,7 @@ async function start() {
   addEventListener("hashchange", (event) => readLink(new URL(event.newURL).hash));
   let wide = innerWidth;
   addEventListener("resize", later(300, () => {
-    if (innerWidth !== wide) { wide = innerWidth; SIDES.forEach((_, index) => sideChanged(index)); }
+    if (innerWidth !== wide) { wide = innerWidth; SIDES.forEach((_, index) => sideChanged(index)); if (state.log) partLater(); }
   }));
   readLink(location.hash);
 }

@@ -1,5 +1,6 @@
-"""A process that plays storms for `hikebox lab`: a line of JSON in, a line of JSON out. While it plays, it also tells
-the share that is done, as `{"done":0.5}`. It ends when nobody is there to ask it, also in the midst of a storm."""
+"""A process that plays storms and reads logs for `hikebox lab`: a line of JSON in, a line of JSON out. Meanwhile it
+also tells the share that is done, as `{"done":0.5}`. It ends when nobody is there to ask it, also in the midst of a
+storm."""
 
 from __future__ import annotations
 
@@ -11,6 +12,7 @@ import threading
 from typing import Any, Dict
 
 from .answers import BadRequest, storm_answer, sweep_answer
+from .logs import log_answer
 
 __all__ = ["main"]
 
@@ -29,7 +31,10 @@ def _answer(asked: queue.SimpleQueue[bytes]) -> None:
         line = asked.get()
         try:
             given = json.loads(line)
-            answer = sweep_answer(given) if "along" in given else storm_answer(given, _tells)
+            if "kept" in given:
+                answer = log_answer(given, _tells)
+            else:
+                answer = sweep_answer(given) if "along" in given else storm_answer(given, _tells)
         except BadRequest as error:
             answer = {"bad": str(error)}
         except MemoryError:

@@ -16,16 +16,19 @@ from html import escape
 from http.server import BaseHTTPRequestHandler, ThreadingHTTPServer
 from pathlib import Path
 from typing import Any, Callable, Dict, Optional
-from urllib.parse import quote
+from urllib.parse import parse_qsl, quote
 
 from .._svg import STYLE
 from ..cli.streams import named
-from .answers import BadRequest, plan_answer, start_answer
+from .answers import BadRequest, log_asked, plan_answer, start_answer
+from .logs import MAX_LOG
 from .players import BrokenOff, Players
+from .uploads import Uploads
 
 __all__ = ["Lab", "run_lab"]
 
 _MAX_BYTES = 1 << 20
+_KINDS = {"application/json": "JSON", "application/octet-stream": "a log"}
 _FILES = {"": ("page.html", "text/html"), "lab.css": ("lab.css", "text/css"), "lab.js": ("lab.js", "text/javascript")}
 _FOLDER = Path(__file__).resolve().parent
 
@@ -56,6 +59,7 @@ class Lab(ThreadingHTTPServer):
     def __init__(self, port: int = 0) -> None:
         self.token = secrets.token_urlsafe(18)
         self.players = Players(max(2, min(4, os.cpu_count() or 2)))
+        self.uploads = Uploads()
         #: The latest storm of each page.
         self._latest: Dict[str, int] = {}
         #: How much of it is played, from 0 to 1, where that can be told.
@@ -91,6 +95,7 @@ class Lab(ThreadingHTTPServer):
     def server_close(self) -> None:
         super().server_close()
         self.players.close()
+        self.uploads.close()
 
 
 class _Handler(BaseHTTPRequestHandler):
@@ -114,7 +119,7 @@ class _Handler(BaseHTTPRequestHandler):
 
     def do_POST(self) -> None:
         name = self._name()
-        asked = self._asked() if name is not None else None
+        asked = None if name is None else self._told_of_log() if name == "log" else self._asked()
         if asked is None:
             return
         try:
@@ -132,19 +137,35 @@ class _Handler(BaseHTTPRequestHandler):
             return start_answer()
         if name == "plan":
             return plan_answer(asked)
-        if name in ("storm", "sweep"):
-            page = asked.get("page")
-            if not isinstance(page, str) or len(page) > 64:
-                raise BadRequest("page: expected a short text")
-            turn = asked.get("turn")
-            if turn is not None and (isinstance(turn, bool) or not isinstance(turn, int)):
-                raise BadRequest("turn: expected a whole number")
-            if (name == "sweep") != ("along" in asked):
-                raise BadRequest("along: expected a parameter of a sweep alone")
-            return self._played(asked, self.server.newest(f"{name} {page}", turn))
         if name == "done":
             return {"done": self.server.done.get(str(asked.get("page")))}
-        return None
+        if name not in ("storm", "sweep", "log", "part"):
+            return None
+        page, turn = asked.get("page"), asked.get("turn")
+        if not isinstance(page, str) or len(page) > 64:
+            raise BadRequest("page: expected a short text")
+        if turn is not None and (isinstance(turn, bool) or not isinstance(turn, int)):
+            raise BadRequest("turn: expected a whole number")
+        if (name == "sweep") != ("along" in asked):
+            raise BadRequest("along: expected a parameter of a sweep alone")
+        if "kept" in asked:
+            raise BadRequest("kept: expected none")
+        if name in ("storm", "sweep"):
+            return self._played(asked, self.server.newest(f"{name} {page}", turn))
+        is_newest = self.server.newest(f"log {page}", turn)
+        asked = {**log_asked(asked), "page": page, "kept": self.server.uploads.kept(page)}
+        return self._read(asked, is_newest) if name == "log" else self._played(asked, is_newest)
+
+    def _read(self, asked: Dict[str, Any], is_newest: Callable[[], bool]) -> Dict[str, Any]:
+        """The answer to a log, which is the body."""
+        size = int(self.headers["Content-Length"])
+        try:
+            with self.server.uploads.received(self.rfile, size) as path:
+                return self._played({**asked, "log": path, "size": size}, is_newest)
+        except ConnectionError:
+            raise
+        except OSError as error:
+            return {"fault": {"name": "log", "said": f"the lab can't keep it: {error.strerror}"}}
 
     def _played(self, asked: Dict[str, Any], is_newest: Callable[[], bool]) -> Dict[str, Any]:
         """The answer to a storm or a sweep, as long as it is the latest one of its page."""
@@ -182,19 +203,32 @@ class _Handler(BaseHTTPRequestHandler):
         self.close_connection = True
         self._answers(403, "text/plain", why)
 
+    def _has_body(self, kind: str, most: int) -> bool:
+        """Whether a body of this kind and of at most so many bytes is sent. Otherwise that is answered."""
+        length = self.headers.get("Content-Length", "")
+        is_number = length.isascii() and length.isdigit() and len(length) < 20
+        if is_number and int(length) <= most and self.headers.get_content_type() == kind:
+            return True
+        self.close_connection = True
+        self._answers(400, "text/plain", f"expected {_KINDS[kind]} of at most {most} bytes\n")
+        return False
+
+    def _told_of_log(self) -> Optional[Dict[str, Any]]:
+        """What is said of a log beside its bytes, or None where it was answered that there is none."""
+        if not self._has_body("application/octet-stream", MAX_LOG):
+            return None
+        told: Dict[str, Any] = dict(parse_qsl(self.path.partition("?")[2]))
+        numbers = {
+            name: int(text) for name, text in told.items() if text.isascii() and text.isdigit() and len(text) < 20
+        }
+        return {**told, **{name: number for name, number in numbers.items() if name != "page"}}
+
     def _asked(self) -> Optional[Dict[str, Any]]:
         """The object that is sent, or None where it was answered that there is none."""
-        length = self.headers.get("Content-Length", "")
-        if (
-            not (length.isascii() and length.isdigit())
-            or int(length) > _MAX_BYTES
-            or self.headers.get_content_type() != "application/json"
-        ):
-            self.close_connection = True
-            self._answers(400, "text/plain", f"expected JSON of at most {_MAX_BYTES} bytes\n")
+        if not self._has_body("application/json", _MAX_BYTES):
             return None
         try:
-            asked = json.loads(self.rfile.read(int(length)))
+            asked = json.loads(self.rfile.read(int(self.headers["Content-Length"])))
         except (ValueError, RecursionError):
             asked = None
         if not isinstance(asked, dict):

@@ -27,7 +27,20 @@ lease when its process ends is lost.
 
 from .file_store import FileStore
 from .leased import Leased, LeasedQuota
+from .paced import LeasedPace, PaceStore
 from .redis_store import RedisStore
-from .stores import QuotaRange, QuotaStore, Range, Store
+from .stores import QuotaRange, QuotaStore, Range, Store, Taken
 
-__all__ = ["FileStore", "Leased", "LeasedQuota", "QuotaRange", "QuotaStore", "Range", "RedisStore", "Store"]
+__all__ = [
+    "FileStore",
+    "Leased",
+    "LeasedPace",
+    "LeasedQuota",
+    "PaceStore",
+    "QuotaRange",
+    "QuotaStore",
+    "Range",
+    "RedisStore",
+    "Store",
+    "Taken",
+]

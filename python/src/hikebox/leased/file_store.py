@@ -11,13 +11,15 @@ from collections import OrderedDict
 from typing import Callable, Iterator, Optional, Tuple, TypeVar, Union
 
 from .._engine.leasing import Stored, lease_of_budget, lease_of_quota
+from .._engine.paces import pace_returned, pace_taken
 from .._engine.structs import Kept
 from .._forks import no_fork
 from ..budgets.terms import Terms
 from ..errors import StoreError, StoreLost
+from ..pace import PaceTerms
 from .machine import has_locks, shared_uptime, this_boot
 from .slots import NO_BOOT, Copy, Slot, make_slot, slot_path, sync_folder, unpack
-from .stores import Present, QuotaRange, Range, checked_name, checked_seconds, present_window
+from .stores import Present, QuotaRange, Range, Taken, checked_name, checked_seconds, present_window
 
 __all__ = ["FileStore"]
 
@@ -121,6 +123,20 @@ class FileStore:
         if len(self._seen) > _MOST_SEEN:
             self._seen.popitem(last=False)
 
+    def take_of_pace(self, name: str, terms: PaceTerms, cost: int) -> Taken:
+        """Takes the next moment at which a call under this name's pace may begin."""
+
+        def take(kept: Kept) -> Taken:
+            now = shared_uptime() // 10**6
+            is_granted, millis, mark = pace_taken(terms, now, cost, kept)
+            return Taken(is_granted, millis - now, mark)
+
+        return self.step(_pace_key(name, terms), True, take)
+
+    def give_back_of_pace(self, name: str, terms: PaceTerms, cost: int, mark: int) -> None:
+        """Takes it back from a call that does not begin."""
+        self.step(_pace_key(name, terms), True, lambda kept: pace_returned(terms, mark, cost, kept))
+
     def step(self, key: str, of_this_boot: bool, step: Callable[[Kept], T]) -> T:
         """One step of the limit of this key, which changes what is kept of it. What is kept is of this start of the
         machine alone where that is said, and else on the disk before this returns."""
@@ -184,6 +200,10 @@ class FileStore:
             raise StoreError(
                 f"{self.path}: expected a folder, got a file. Counts are kept in a folder now; name another path."
             )
+
+
+def _pace_key(name: str, terms: PaceTerms) -> str:
+    return f"pace {terms.each}/{terms.burst}/{terms.longest} of {checked_name(name)}"
 
 
 def _has_folder(path: str, is_last: bool) -> bool:

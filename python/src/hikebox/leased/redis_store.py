@@ -7,13 +7,16 @@ from typing import Any, Callable, Iterator, Optional, Tuple
 
 from .._engine.calls import MAX_TICKETS
 from ..budgets.terms import Terms
-from ..errors import StoreError, StoreLost
-from .stores import Present, QuotaRange, Range, present_window
+from ..errors import StoreError, StoreLost, TermsError
+from ..pace import PaceTerms
+from .stores import Present, QuotaRange, Range, Taken, present_window
 
 __all__ = ["GRANT", "RedisStore"]
 
 #: What a count in Redis begins at, so that one that was lost, and began anew at 0, is seen.
 _BASE = 2**52
+#: The most microseconds of a burst: what is due stays below 2^53, which a script counts exactly.
+_MOST_MICROS = 2**52
 
 #: Begins a budget: KEYS are its count and the name of the server's start; ARGV[1] is the first count.
 BEGIN = """
@@ -107,6 +110,34 @@ return {given, tickets, asked}
 """
 
 
+#: A call asks a pace when it may begin: KEYS[1] is what is due, in microseconds of the server's clock; ARGV are the
+#: microseconds a call, the burst, the longest wait, the cost, and the milliseconds that the key is kept. It answers the
+#: milliseconds of the server's clock, what was due before, whether it is granted, the moment, and what is due then. Its
+#: numbers are exact, as they stay below 2^53.
+PACE = """
+local time = redis.call('TIME')
+local each, burst, longest, cost = tonumber(ARGV[1]), tonumber(ARGV[2]), tonumber(ARGV[3]), tonumber(ARGV[4])
+local now = time[1] * 1000 + math.floor(time[2] / 1000)
+local before = tonumber(redis.call('GET', KEYS[1]) or '0')
+local due = math.max(before, now * 1000) + cost * each
+local at = math.ceil(math.max(now * 1000, due - burst * each) / 1000)
+local function text(number) return string.format('%.0f', number) end
+if at - now > longest then
+  return {text(now), text(before), 0, text(at - longest), text(before)}
+end
+redis.call('SET', KEYS[1], text(due), 'PX', ARGV[5])
+return {text(now), text(before), 1, text(at), text(due)}
+"""
+
+#: A call that took a moment does not begin: ARGV are what was due then and what is due without it, and the milliseconds
+#: that the key is kept.
+GIVE_BACK = """
+if redis.call('GET', KEYS[1]) == ARGV[1] then
+  redis.call('SET', KEYS[1], ARGV[2], 'PX', ARGV[3])
+end
+"""
+
+
 class RedisStore:
     """Counts in a Redis server, for the processes of many machines: each lease is one atomic step, a script.
 
@@ -124,8 +155,8 @@ class RedisStore:
         self.prefix = prefix
         self.durable = durable
         take = TAKE[0] + TAKE[2] if durable else "".join(TAKE)
-        scripts = map(client.register_script, (BEGIN, take, TAKE_OF_WINDOW, LOOK))
-        self._begin, self._take, self._take_of_window, self._look = scripts
+        scripts = map(client.register_script, (BEGIN, take, TAKE_OF_WINDOW, LOOK, GIVE_BACK))
+        self._begin, self._take, self._take_of_window, self._look, self._give_back = scripts
 
     def __repr__(self) -> str:
         return f"RedisStore({self.client!r})"
@@ -168,6 +199,26 @@ class RedisStore:
             found = _answered(self._once("EVAL", IN_START + GRANT, 1, key, *wanted), name)
             given, tickets, requests = _granted(found, terms, count)
             return QuotaRange(given, tickets, present.until, present.number, requests)
+
+    def take_of_pace(self, name: str, terms: PaceTerms, cost: int) -> Taken:
+        """Takes the next moment at which a call under this name's pace may begin."""
+        key, kept = self._pace(name, terms)
+        with _errors():
+            found = self._once("EVAL", PACE, 1, key, *terms, cost, kept)
+            return _taken(found, terms)
+
+    def give_back_of_pace(self, name: str, terms: PaceTerms, cost: int, mark: int) -> None:
+        """Takes it back from a call that does not begin."""
+        key, kept = self._pace(name, terms)
+        with _errors():
+            self._give_back(keys=[key], args=[mark, mark - cost * terms.each, kept])
+
+    def _pace(self, name: str, terms: PaceTerms) -> Tuple[str, int]:
+        """The key of a pace, and how many milliseconds it is kept: as long as anything may be due."""
+        each, burst, longest = terms
+        if burst * each > _MOST_MICROS:
+            raise TermsError(f"expected calls in at most {_MOST_MICROS // 10**6} s in Redis, got {burst} of {each} us")
+        return f"{self._key(name)}:pace:{each}:{burst}:{longest}", burst * each // 1000 + longest + 1000
 
     def _once(self, *command: Any) -> Any:
         """What the server answers to a command. A client may repeat one to which it got no answer, and would count its
@@ -247,6 +298,15 @@ def _granted(found: Any, terms: Terms, count: int) -> Tuple[int, int, int]:
         if before >= 0 and requests >= 0 and 0 <= tickets <= most:
             return before, tickets, requests
     raise StoreError(f"Redis: expected the count of a window and at most {count} tickets of it, got {found!r}")
+
+
+def _taken(found: Any, terms: PaceTerms) -> Taken:
+    """What a pace answered, where its script can have answered this."""
+    if isinstance(found, list) and len(found) == 5:
+        now, before, granted, at, due = map(int, found)
+        if granted in (0, 1) and 0 <= at - now <= terms.longest * granted + 2**53 * (1 - granted) and before <= due:
+            return Taken(granted == 1, at - now, due)
+    raise StoreError(f"Redis: expected when a call may begin, got {found!r}")
 
 
 @contextlib.contextmanager

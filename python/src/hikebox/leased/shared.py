@@ -178,11 +178,14 @@ def _terms_and_steps(of: CallLimit) -> Tuple[str, Step]:
         *levels, refund = of.terms
         return f"bucket {'/'.join(map(str, levels))}{'+refund' * refund}", bucket_steps(*of.terms)
     if isinstance(of, Breaker):
-        failures, probes, deadline, times = of.terms
+        failures, results, probes, deadline, times = of.terms
         while len(times) > 1 and times[-1] == times[-2]:
             times = times[:-1]  # the last one is used again
         spelt = ",".join(map(str, times))
         if len(spelt) > _MAX_TIMES_TEXT:
             spelt = hashlib.sha256(spelt.encode()).hexdigest()
-        return f"breaker {failures}/{probes}/{deadline}/{spelt}", breaker_steps(failures, probes, deadline, times)
+        counts = f"{failures}/{results}" if results else str(failures)
+        return f"breaker {counts}/{probes}/{deadline}/{spelt}", breaker_steps(
+            failures, results, probes, deadline, times
+        )
     raise TypeError(f"expected a Bucket or a Breaker, got {of!r}")

@@ -14,6 +14,7 @@ __all__ = [
     "QuotaStore",
     "Range",
     "Store",
+    "Taken",
     "checked_name",
     "checked_seconds",
     "checked_store",
@@ -48,6 +49,17 @@ class QuotaRange(NamedTuple):
     asked: int
     #: Whether the store may have lost what it counted of the window, and so grants nothing of it.
     lost: bool = False
+
+
+class Taken(NamedTuple):
+    """What a store answers to a call that asks its pace when it may begin."""
+
+    #: Whether it is granted.
+    is_granted: bool
+    #: In how many milliseconds it begins; or if it is refused, in how many it would be granted.
+    millis: int
+    #: What is due since then: it goes back where the call does not begin, if no other call came after it.
+    mark: int
 
 
 class Store(Protocol):

@@ -1,28 +1,26 @@
-"""The four kinds of limits."""
+"""Buckets, bounds on what is in flight, and throttles."""
 
 from __future__ import annotations
 
 import random as _random
 import sys
 import time
-from typing import Any, Callable, List, Optional, Tuple, Type
+from typing import Any, Callable, Optional, Tuple, Type
 
 from .._engine.limits import LimitHandle
 from .._time import FLOAT_ERROR, Duration, moment, seconds_text
-from ..budgets.terms import duration_of, thousandths_of, thousandths_text
-from ..errors import TermsError, shown
-from ..policy import Policy
+from ..budgets.terms import count_of, duration_of, thousandths_of, thousandths_text
+from ..errors import TermsError
 from .limit import CallLimit
-from .terms import LimitTerms, breaker, bucket, in_flight, throttle
+from .seen import BucketSeen, InFlightSeen, ThrottleSeen
+from .terms import LimitTerms, bucket, in_flight, throttle
 
-__all__ = ["Breaker", "Bucket", "InFlight", "Throttle"]
+__all__ = ["MAX_COUNT", "Bucket", "InFlight", "Throttle"]
 
 #: The most thousandths of a token that a bucket holds.
 _MAX_CAPACITY = 2**40
-#: The greatest number of failures, retries, or thousandths of a share.
-_MAX_COUNT = 2**32 - 1
-#: The most open times of a breaker.
-_MAX_TIMES = 64
+#: The greatest number of failures, retries, or thousandths of a share; and no bound on the calls in flight.
+MAX_COUNT = 2**32 - 1
 #: Timeouts that are no `TimeoutError`, each by its module. That of asyncio is one from Python 3.11 on.
 _TIMEOUTS = (
     ("asyncio", "TimeoutError"),
@@ -129,6 +127,11 @@ class Bucket(CallLimit):
         capacity, floor, debit, credit, refund = self._terms
         return bucket(capacity, floor, self._cost, self._timeout_cost, debit, credit, refund)
 
+    def seen(self) -> BucketSeen:
+        """Returns its level and its capacity now."""
+        state = self.state_of_root()
+        return BucketSeen(state.first / 1000, state.second / 1000)
+
     def cost_of(self, error: Optional[BaseException]) -> int:
         return self._cost if self._cost == self._timeout_cost or not _is_timeout(error) else self._timeout_cost
 
@@ -154,30 +157,40 @@ def _loaded(names: Tuple[Tuple[str, str], ...]) -> Tuple[Type[Any], ...]:
 
 
 class InFlight(CallLimit):
-    """Bounds the retries in flight: the greater of a least number and a share of the calls in flight.
+    """Bounds the retries in flight: the greater of a least number and a share of the calls in flight. With `most` it
+    bounds the calls too.
 
-    A retry is in flight from its draw to the call's next draw or its end, or until it is cancelled in its wait.
+    A call is in flight from its first attempt to its end. A retry is from its draw to the call's next draw or its end,
+    or until it is cancelled in its wait.
 
     `least`
         The retries that there may be, however few calls there are.
     `share`
         The retries that each call in flight allows, from 0 to 1: 0.2 is one for every five. It is counted in
         thousandths.
+    `most`
+        The calls that there may be. One more raises a `NotAdmitted` at once.
 
-    >>> InFlight.envoy()
-    <InFlight(3, 0.2)>
+    >>> InFlight.envoy(), InFlight.bulkhead(25)
+    (<InFlight(3, 0.2)>, <InFlight(25, 0, most=25)>)
     """
 
     __slots__ = ("_terms",)
 
-    def __init__(self, least: int, share: float) -> None:
-        self._terms = (_count("least", least, 0), thousandths_of("the share", share, 1000))
+    def __init__(self, least: int, share: float, *, most: Optional[int] = None) -> None:
+        bound = MAX_COUNT if most is None else count_of("most", most, 1, MAX_COUNT)
+        self._terms = (count_of("least", least, 0, MAX_COUNT), thousandths_of("the share", share, 1000), bound)
         super().__init__(time.monotonic)
+
+    @classmethod
+    def bulkhead(cls, most: int) -> InFlight:
+        """At most so many calls at once, and no other bound on their retries."""
+        return cls(most, 0, most=most)
 
     @classmethod
     def envoy(cls, budget_percent: float = 20, min_retry_concurrency: int = 3) -> InFlight:
         """Envoy's `retry_budget`, with its defaults."""
-        least = _count("min_retry_concurrency", min_retry_concurrency, 0)
+        least = count_of("min_retry_concurrency", min_retry_concurrency, 0, MAX_COUNT)
         percent = thousandths_of("budget_percent", budget_percent, 100_000)
         if 0 < percent < 1000:
             wanted = "expected per cent, 0 or from 1 to 100"
@@ -191,76 +204,15 @@ class InFlight(CallLimit):
     def on_storm(self) -> LimitTerms:
         return in_flight(*self._terms)
 
-    def expression(self) -> str:
-        least, share = self._terms
-        return f"InFlight({least}, {thousandths_text(share)})"
-
-
-class Breaker(CallLimit):
-    """A circuit breaker. After `failures` in a row it is open: no attempt is made for a while. After that it is half
-    open and admits a few probes. When these succeed it is closed; when one fails it is open again.
-
-    `open_for`
-        A policy, whose waits are the times for which it is open: the first one, and the next each time that a probe
-        fails. The last one is used again.
-    `probes`
-        How many probes it admits, and how many successes close it: 1 to 15.
-    `probe_deadline`
-        How long after its last probe it admits others, if the probes have no result by then: seconds, or a `timedelta`.
-    `clock`
-        What returns the time in seconds, to be replaced in tests.
-
-    An attempt that began before the breaker changed changes nothing when it ends.
-
-    >>> from hikebox import exponential
-    >>> from hikebox.testing import VirtualClock
-    >>> clock = VirtualClock()
-    >>> breaker = Breaker(2, exponential(30, 2).cap(300), clock=clock)
-    >>> with breaker.request() as request:
-    ...     request.admit()
-    ...     request.failed()
-    ...     request.failed()
-    >>> breaker.request().admit()
-    <Refusal: the breaker is open until 30.000>
-    """
-
-    __slots__ = ("_failures", "_policy", "_probes", "_deadline", "_times")
-
-    reads_clock = True
-
-    def __init__(
-        self,
-        failures: int,
-        open_for: Any,
-        *,
-        probes: int = 1,
-        probe_deadline: Duration = 30,
-        clock: Callable[[], float] = time.monotonic,
-    ) -> None:
-        self._failures = _count("failures", failures, 1)
-        if isinstance(open_for, (int, float)):
-            raise TypeError(f"open_for: expected a policy, as spaced({open_for}), got {open_for!r}")
-        self._policy = Policy.of(open_for)
-        self._probes = _count("probes", probes, 1, 15)
-        self._deadline = duration_of("probe_deadline", probe_deadline)
-        self._times = times_of(self._policy)
-        super().__init__(clock)
-
-    @property
-    def terms(self) -> Tuple[int, int, int, List[int]]:
-        """The failures, the probes, the deadline of a probe and the open times, in milliseconds."""
-        return self._failures, self._probes, self._deadline, self._times
-
-    def make(self) -> LimitHandle:
-        return LimitHandle.of_breaker(moment(self.clock()), *self.terms)
-
-    def on_storm(self) -> LimitTerms:
-        return breaker(self._failures, self._probes, self._deadline, tuple(self._times))
+    def seen(self) -> InFlightSeen:
+        """Returns the calls and the retries that are in flight now."""
+        state, most = self.state_of_root(), self._terms[2]
+        return InFlightSeen(state.first, state.second, None if most == MAX_COUNT else most)
 
     def expression(self) -> str:
-        probes = "" if self._probes == 1 else f", probes={self._probes}"
-        deadline = "" if self._deadline == 30_000 else f", probe_deadline={seconds_text(self._deadline)}"
-        return f"Breaker({self._failures}, {self._policy!r}{probes}{deadline})"
+        least, share, most = self._terms
+        bound = "" if most == MAX_COUNT else f", most={most}"
+        return f"InFlight({least}, {thousandths_text(share)}{bound})"
 
 
 class Throttle(CallLimit):
@@ -293,7 +245,7 @@ class Throttle(CallLimit):
         clock: Callable[[], float] = time.monotonic,
         random: Callable[[], float] = _random.random,
     ) -> None:
-        self._ratio = thousandths_of("the ratio", ratio, _MAX_COUNT)
+        self._ratio = thousandths_of("the ratio", ratio, MAX_COUNT)
         self._period = duration_of("period", period)
         if self._ratio < 1000:
             raise TermsError(f"expected a ratio of 1 or more, got {ratio!r}")
@@ -312,29 +264,10 @@ class Throttle(CallLimit):
     def on_storm(self) -> LimitTerms:
         return throttle(self._ratio, self._period)
 
+    def seen(self) -> ThrottleSeen:
+        """Returns what it counts now."""
+        state = self.state_of_root()
+        return ThrottleSeen(state.first, state.second)
+
     def expression(self) -> str:
         return f"Throttle({thousandths_text(self._ratio)}, {seconds_text(self._period)})"
-
-
-def _count(name: str, value: int, least: int, most: int = _MAX_COUNT) -> int:
-    if isinstance(value, bool) or not isinstance(value, int):
-        raise TypeError(f"{name}: expected a whole number, got {value!r}")
-    if not least <= value <= most:
-        raise TermsError(f"{name}: expected {least} to {most}, got {shown(value)}")
-    return value
-
-
-def times_of(policy: Policy, name: str = "open_for") -> List[int]:
-    """The open times of a breaker: the first waits of a policy, in milliseconds, on a course whose events have the
-    input 0 and the random words 0."""
-    lines = policy.plan.course(_MAX_TIMES, 0, 0, [(0, 0, 0, 0, 0)])
-    times = [line.start - line.moment for line in lines if line.start is not None]
-    if not times:
-        raise TermsError(f"{name}: expected a policy that goes on, got {policy!r}")
-    if not any(times):
-        why = "open times are its waits for the least random numbers, and full jitter makes these 0"
-        raise TermsError(
-            f"{name}: expected a policy with an open time above 0, got {policy!r}: {why}; "
-            "write spaced(30), or jittered(0.5, 1)"
-        )
-    return times

@@ -20,6 +20,7 @@ from .._engine.limits import (
     THROTTLED,
     LimitHandle,
     Place,
+    State,
     admit,
     cancelled,
     draw,
@@ -34,7 +35,7 @@ from ..budgets.tickets import Refusal, RefusalReason
 from ..policy.preview import word_of
 from .terms import LimitTerms
 
-__all__ = ["CallLimit", "Request", "look_at_no_limit"]
+__all__ = ["CallLimit", "Request", "WatchedRequest", "look_at_no_limit"]
 
 _REASONS = {
     LEVEL_LOW: RefusalReason.LEVEL_LOW,
@@ -56,7 +57,7 @@ class CallLimit(OfOneProcess, Limit):
     `request()` is for calls that you retry by hand.
     """
 
-    __slots__ = ("_clock", "_random", "now", "word", "generation", "root", "idle", "_split", "_lock", "__weakref__")
+    __slots__ = ("_clock", "_random", "now", "word", "generation", "root", "idle", "_split", "lock", "__weakref__")
 
     #: Whether it looks at its clock, and that also at a success; whether it draws random numbers; and whether a retry
     #: may cost something.
@@ -106,7 +107,7 @@ class CallLimit(OfOneProcess, Limit):
             self.word = lambda: word_of(random())
 
     def _begin(self) -> None:
-        self._lock = threading.RLock()
+        self.lock = threading.RLock()
         #: The handle that others are split off.
         self.root = self.make()
         #: Those that nobody uses now, of this process. `pop` and `append` are each one step.
@@ -135,12 +136,24 @@ class CallLimit(OfOneProcess, Limit):
         """Returns the expression that makes one like it."""
         raise NotImplementedError
 
+    def state_of_root(self) -> State:
+        """Its state now, as the engine tells it."""
+        with self.lock:
+            return self.root.state(self.now())
+
+    def seen(self) -> Any:
+        """Returns its state now, from one look that changes nothing."""
+        raise TypeError(f"{self!r} tells no state")
+
+    def look(self) -> None:
+        """Tells what changed since the last look, where somebody wants to know."""
+
     def lend(self) -> Place:
         """A place for one request, which goes back to its home."""
         try:
             return self.idle.pop()
         except IndexError:
-            with self._lock:
+            with self.lock:
                 # (in this order: where the process is forked here, it comes back to those of the parent)
                 idle, split = self.idle, self._split
                 made = Place(self.reads_clock, self.times_successes, self.has_costs, self.reads_random)
@@ -327,6 +340,34 @@ class Request(OfOneProcess):
         except AttributeError:
             return  # (an exception of a signal's handler ended `__init__`)
         self.ended()  # (a limit has only so many handles, so this one serves another request)
+
+
+class WatchedRequest(Request):
+    """A request of a limit whose changes are told."""
+
+    __slots__ = ()
+
+    def admit(self) -> Optional[Refusal]:
+        answer = super().admit()
+        self._limit.look()
+        return answer
+
+    def draw(self, error: Optional[BaseException] = None) -> Optional[Refusal]:
+        answer = super().draw(error)
+        self._limit.look()
+        return answer
+
+    def failed(self) -> None:
+        super().failed()
+        self._limit.look()
+
+    def succeeded(self) -> None:
+        super().succeeded()
+        self._limit.look()
+
+    def won(self) -> None:
+        super().won()
+        self._limit.look()
 
 
 def _refusal_of(call: str, status: int) -> int:

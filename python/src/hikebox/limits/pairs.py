@@ -2,12 +2,13 @@
 
 from __future__ import annotations
 
-from typing import Iterable, List, Optional
+from typing import Iterable, List, Optional, Tuple, Type
 
 from .._engine.limits import LimitHandle
 from ..errors import TermsError
 from .kinds import Bucket, Throttle
-from .limit import CallLimit
+from .limit import CallLimit, Request
+from .seen import Seen
 
 __all__ = ["both"]
 
@@ -51,8 +52,21 @@ class Both(CallLimit):
         """Whether a retry may cost something of one of them."""
         return any(limit.has_costs for limit in self._limits)
 
+    @property
+    def REQUEST(self) -> Type[Request]:  # type: ignore[override]
+        """What its requests are: watched where those of one of them are."""
+        return next((limit.REQUEST for limit in self._limits if limit.REQUEST is not Request), Request)
+
     def parts(self) -> List[CallLimit]:
         return self._limits
+
+    def seen(self) -> Tuple[Seen, ...]:
+        """Returns the state of each of them now."""
+        return tuple(limit.seen() for limit in self._limits)
+
+    def look(self) -> None:
+        for limit in self._limits:
+            limit.look()
 
     def make(self) -> LimitHandle:
         parts = [LimitHandle() for _ in self._limits]
@@ -86,7 +100,9 @@ def both(first: CallLimit, second: CallLimit, *others: CallLimit) -> CallLimit:
     limits: List[CallLimit] = []
     for limit in (first, second, *others):
         if not isinstance(limit, CallLimit) or not limit.parts():
-            raise TypeError(f"both: expected a Bucket, an InFlight, a Breaker or a Throttle, got {limit!r}")
+            raise TypeError(
+                f"both: expected a Bucket, an InFlight, a Breaker, a Throttle or an Adaptive, got {limit!r}"
+            )
         limits += limit.parts()
     twice = [limit for index, limit in enumerate(limits) if any(limit is other for other in limits[:index])]
     if twice:

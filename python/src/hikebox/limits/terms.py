@@ -4,9 +4,10 @@ from __future__ import annotations
 
 from typing import Any, NamedTuple, Optional, Tuple
 
-from .._engine.calls import ON_BREAKER, ON_BUCKET, ON_IN_FLIGHT, ON_THROTTLE
+from .._engine.calls import ON_ADAPTIVE, ON_BREAKER, ON_BUCKET, ON_IN_FLIGHT, ON_THROTTLE
+from .._engine.limits import NO_MOST
 
-__all__ = ["LimitTerms", "breaker", "bucket", "in_flight", "throttle"]
+__all__ = ["NO_MOST", "LimitTerms", "adaptive", "breaker", "bucket", "in_flight", "throttle"]
 
 
 class LimitTerms(NamedTuple):
@@ -23,7 +24,8 @@ class LimitTerms(NamedTuple):
     @property
     def denies_first_calls(self) -> bool:
         """Whether it may refuse a request its first call."""
-        return self.draws_on in (ON_BREAKER, ON_THROTTLE)
+        is_bulkhead = self.draws_on == ON_IN_FLIGHT and dict(self.numbers)["most"] < NO_MOST
+        return is_bulkhead or self.draws_on in (ON_ADAPTIVE, ON_BREAKER, ON_THROTTLE)
 
     def put_in(self, storm: Any) -> None:
         """Puts it into the engine's parameters of a storm."""
@@ -57,15 +59,22 @@ def bucket(
     )
 
 
-def in_flight(least: int, share: int) -> LimitTerms:
-    """A bound on the retries in flight, the share in thousandths."""
-    return _made(f"inflight:{least}/{share}", ON_IN_FLIGHT, least=least, share=share)
+def in_flight(least: int, share: int, most: int = NO_MOST) -> LimitTerms:
+    """A bound on the retries in flight, and on the requests; the share in thousandths."""
+    text = f"inflight:{least}/{share}" + ("" if most == NO_MOST else f"/{most}")
+    return _made(text, ON_IN_FLIGHT, least=least, share=share, most=most)
 
 
-def breaker(failures: int, probes: int, deadline: int, times: Tuple[int, ...]) -> LimitTerms:
-    """A breaker, in milliseconds."""
-    text = f"breaker:{failures}/{probes}/{deadline}"
-    return _made(text, ON_BREAKER, times, failures=failures, probes=probes, deadline=deadline)
+def breaker(failures: int, results: int, probes: int, deadline: int, times: Tuple[int, ...]) -> LimitTerms:
+    """A breaker, in milliseconds; `results` is 0 for failures in a row."""
+    text = f"breaker:{failures}{f'/{results}' if results else ''}/{probes}/{deadline}"
+    return _made(text, ON_BREAKER, times, failures=failures, results=results, probes=probes, deadline=deadline)
+
+
+def adaptive(least: int, most: int, first: int, backoff: int) -> LimitTerms:
+    """An adaptive limit, the back-off in thousandths."""
+    text = f"adaptive:{least}/{most}/{first}/{backoff}"
+    return _made(text, ON_ADAPTIVE, least=least, most=most, first=first, backoff=backoff)
 
 
 def throttle(ratio: int, period: int) -> LimitTerms:

@@ -9,7 +9,7 @@ from weakref import ref
 
 from .deadline import Deadline, enter, leave
 from .drivers import advance, answer_of, settle, settle_async, slept, waits
-from .progress import Progress
+from .progress import HeldProgress
 from .state import Outcome, RetryState
 from .steps import OVER, RAISE, RUN, Settled, Steps, steps
 
@@ -85,8 +85,10 @@ class _BaseAttempts:
             raise TypeError(
                 "attempt_timeout: expected a coroutine function; in the block of a loop use asyncio.timeout"
             )
+        if owner.settings.hedge_millis is not None:
+            raise TypeError("hedge_after: expected a coroutine function; the block of a loop can't run beside itself")
         per_key = owner.settings.per_key
-        self.progress = Progress(owner if per_key is None else per_key.retrying_of(owner, (), {}))
+        self.progress = HeldProgress(owner if per_key is None else per_key.retrying_of(owner, (), {}))
         #: The steps of the retry, once something is to be done for it.
         self.steps: Optional[Steps] = None
         #: What the retry wants, once it began.

@@ -9,7 +9,7 @@ from .deadline import enter, leave
 from .kinds import is_async, unwrapped
 from .progress import Progress
 from .state import Outcome
-from .steps import OVER, RAISE, RUN, Settled, Steps, steps
+from .steps import RAISE, RUN, Settled, Steps, steps
 from .waits import in_time
 from .watch import watch
 
@@ -17,10 +17,13 @@ if TYPE_CHECKING:
     from ..retrying import BaseRetrying
 
 __all__ = [
+    "NOT_AWAITABLE",
     "advance",
     "answer_of",
+    "look_at_function",
     "not_awaitable",
     "refuse_awaitable",
+    "refuse_result",
     "run",
     "run_async",
     "settle",
@@ -78,48 +81,64 @@ def waits(progress: Progress, seconds: float) -> Any:
 def run(owner: BaseRetrying, fn: Callable[..., Any], args: Any, kwargs: Any) -> Any:
     """Calls the function until its retry is over."""
     settings = owner.settings
+    if settings.per_key is not None:
+        owner = settings.per_key.retrying_of(owner, args, kwargs)
+        settings = owner.settings
     start = settings.clock()
     deadline = _NONE if settings.deadline_millis is None else settings.deadline_from(start)
     token = None if deadline is None else enter(deadline)
     # until something is to be done for it, a retry is only its start, or its request of a limit
     progress = request = refusal = _NONE
+    tells_success = settings.deposit_won
+    want: Any = RUN
     try:
         if settings.is_quiet:
             if settings.deposit is not None:
                 settings.deposit()
             elif settings.asks_limit:
                 request = settings.drawing()
-                refusal = request.admit()
+                refusal, tells_success = request.admit(), request.won
         if refusal is not None or not settings.is_quiet:
-            if settings.per_key is not None:
-                return run(settings.per_key.retrying_of(owner, args, kwargs), fn, args, kwargs)
             progress = Progress(owner, fn, args, kwargs, start, deadline, request, refusal)
             driven = steps(progress)
-            return _attempts(progress, driven, settle(driven, driven.send(None)))
-        try:
-            result = fn(*args, **kwargs)
-        except BaseException as error:
-            progress = Progress(owner, fn, args, kwargs, start, deadline, request)
-            driven = steps(progress, True)
-            driven.send(None)
-            want = driven.send(Outcome(None, error))
-            if type(want) is tuple:
-                want = settle(driven, want)
-            if want is RAISE:
-                raise
-        else:
-            if type(result) is CoroutineType:
-                refuse_awaitable(repr(fn), result, settings.repeats)
-            owner.counts.add_success()
-            if watch.watchers:
-                watch.succeeded(fn)
-            if request is not None:
-                request.won()
-                request = None
-            elif settings.deposit_won is not None:
-                settings.deposit_won()
-            return result
-        return _attempts(progress, driven, want)
+            want = settle(driven, driven.send(None))
+        while want is RUN:
+            try:
+                result = fn(*args, **kwargs)
+            except BaseException as error:
+                if progress is None:
+                    progress = Progress(owner, fn, args, kwargs, start, deadline, request)
+                    driven = steps(progress, True)
+                    driven.send(None)
+                want = driven.send(Outcome(None, error))
+                if type(want) is tuple:
+                    want = settle(driven, want)
+                if want is RAISE:
+                    raise
+            else:
+                if type(result) is CoroutineType:
+                    refuse_awaitable(repr(fn), result, settings.repeats)
+                if progress is None:
+                    owner.counts.add_success()
+                    if watch.watchers:
+                        watch.succeeded(fn)
+                    if tells_success is not None:
+                        tells_success()
+                        request = None
+                    return result
+                if settings.is_quiet:
+                    progress.state.outcome = Outcome(result, None, progress.state.attempt_number)
+                    progress.wins()
+                    return result
+                want = settle(driven, driven.send(Outcome(result)))
+            if type(want) is float:
+                answer = settings.sleeps(want) if want > 0.0 else None
+                if answer is not None:
+                    not_awaitable(answer)
+                want = driven.send(None)
+                if type(want) is tuple:
+                    want = settle(driven, want)
+        return answer_of(progress)
     finally:
         if token is not None:
             leave(deadline, token)
@@ -129,49 +148,21 @@ def run(owner: BaseRetrying, fn: Callable[..., Any], args: Any, kwargs: Any) -> 
             request.ended()
 
 
-def _attempts(progress: Progress, driven: Steps, want: Any) -> Any:
-    """Waits, and makes the attempts that a retry wants: its result."""
-    settings, state = progress.settings, progress.state
-    fn: Any = state.fn
-    while True:
-        if type(want) is float:
-            answer = settings.sleeps(want) if want > 0.0 else None
-            if answer is not None:
-                not_awaitable(answer)
-            want = driven.send(None)
-            if type(want) is tuple:
-                want = settle(driven, want)
-        if want is not RUN:
-            return answer_of(progress)
-        try:
-            result = fn(*state.args, **state.kwargs)
-        except BaseException as error:
-            want = driven.send(Outcome(None, error))
-            if type(want) is tuple:
-                want = settle(driven, want)
-            if want is RAISE:
-                raise
-        else:
-            if type(result) is CoroutineType:
-                refuse_awaitable(repr(fn), result, settings.repeats)
-            if settings.is_quiet:
-                state.outcome = Outcome(result, None, state.attempt_number)
-                progress.wins()
-                return result
-            want = driven.send(Outcome(result))
-            if type(want) is tuple:
-                want = settle(driven, want)
-            if want is OVER and progress.is_accepted:
-                return result
-
-
 async def run_async(owner: BaseRetrying, fn: Callable[..., Any], args: Any, kwargs: Any) -> Any:
     """Awaits the function's calls until its retry is over."""
     settings = owner.settings
+    if settings.per_key is not None:
+        owner = settings.per_key.retrying_of(owner, args, kwargs)
+        settings = owner.settings
+    if settings.hedge_millis is not None:
+        from .hedging import run_hedged  # which others need not load
+
+        return await run_hedged(owner, fn, args, kwargs)
     start = settings.clock()
     deadline = None if settings.deadline_millis is None else settings.deadline_from(start)
     token = None if deadline is None else enter(deadline)
     progress = request = refusal = awaitable = _NONE
+    tells_success = settings.deposit_won
     want: Any = RUN
     try:
         if settings.is_quiet:
@@ -179,10 +170,8 @@ async def run_async(owner: BaseRetrying, fn: Callable[..., Any], args: Any, kwar
                 settings.deposit()
             elif settings.asks_limit:
                 request = settings.drawing()
-                refusal = request.admit()
+                refusal, tells_success = request.admit(), request.won
         if refusal is not None or not settings.is_quiet:
-            if settings.per_key is not None:
-                return await run_async(settings.per_key.retrying_of(owner, args, kwargs), fn, args, kwargs)
             progress = Progress(owner, fn, args, kwargs, start, deadline, request, refusal)
             driven = steps(progress)
             want = await settle_async(driven, driven.send(None))
@@ -191,31 +180,29 @@ async def run_async(owner: BaseRetrying, fn: Callable[..., Any], args: Any, kwar
                 awaitable = fn(*args, **kwargs)
                 if settings.attempt_millis is not None and hasattr(type(awaitable), "__await__"):
                     awaitable = in_time(awaitable, settings.attempt_millis)
-                result = await awaitable if hasattr(type(awaitable), "__await__") else _NOT_AWAITABLE
+                result = await awaitable if hasattr(type(awaitable), "__await__") else NOT_AWAITABLE
             except BaseException as error:
                 if progress is None:
                     progress = Progress(owner, fn, args, kwargs, start, deadline, request)
                     driven = steps(progress, True)
                     driven.send(None)
                 if awaitable is None:
-                    _look_at_function(progress, error)
+                    look_at_function(progress, error)
                 want = driven.send(Outcome(None, error))
                 if type(want) is tuple:
                     want = await settle_async(driven, want)
                 if want is RAISE:
                     raise
             else:
-                if result is _NOT_AWAITABLE:
-                    raise TypeError(f"{fn!r} returned nothing to await: {_plain(settings.repeats)} is for functions")
+                if result is NOT_AWAITABLE:
+                    refuse_result(fn, settings.repeats)
                 if progress is None:
                     owner.counts.add_success()
                     if watch.watchers:
                         watch.succeeded(fn)
-                    if request is not None:
-                        request.won()
+                    if tells_success is not None:
+                        tells_success()
                         request = None
-                    elif settings.deposit_won is not None:
-                        settings.deposit_won()
                     return result
                 want = await settle_async(driven, driven.send(Outcome(result)))
             awaitable = None  # (the call's coroutine is let go before the wait)
@@ -244,7 +231,8 @@ def _end(progress: Any, request: Any, deadline: Any, token: Any) -> None:
 
 
 _NONE: Any = None
-_NOT_AWAITABLE = object()
+#: In the place of the result of a call that returned nothing to await.
+NOT_AWAITABLE = object()
 
 
 def answer_of(progress: Progress) -> Any:
@@ -271,12 +259,17 @@ def refuse_awaitable(what: str, awaitable: Any, repeats: bool = False) -> None:
     raise TypeError(f"{what} returned a {type(awaitable).__name__}, which is not awaited here: use {awaits}")
 
 
-def _look_at_function(progress: Progress, error: BaseException) -> None:
+def look_at_function(progress: Progress, error: BaseException) -> None:
     """Refuses a function that raised before it returned anything to await, and is not a coroutine function."""
     fn: Any = progress.state.fn
     if progress.state.attempt_number == 1 and isinstance(error, Exception) and not is_async(unwrapped(fn)):
         plain = _plain(progress.settings.repeats)
         raise TypeError(f"{fn!r} raised before it returned anything to await: {plain} is for functions") from error
+
+
+def refuse_result(fn: Any, repeats: bool) -> None:
+    """Refuses a function that returned nothing to await."""
+    raise TypeError(f"{fn!r} returned nothing to await: {_plain(repeats)} is for functions")
 
 
 def _plain(repeats: bool) -> str:

@@ -113,6 +113,16 @@ def _attempt_timeout_follows(settings: Settings) -> None:
         raise TypeError(f"attempt_timeout: {told}, as by a timeout of its client")
 
 
+def _hedge_after_follows(settings: Settings) -> None:
+    settings.hedge_millis = _above_0("hedge_after", settings.hedge_after)
+    if settings.hedge_after is None:
+        return
+    if not settings.awaits:
+        raise TypeError("hedge_after: expected a coroutine function: the call of a thread can't be cancelled")
+    if settings.repeats:
+        raise TypeError("hedge_after: a repeat makes one call after the other; expected an AsyncRetrying")
+
+
 def _above_0(name: str, duration: Optional[Duration]) -> Optional[int]:
     """The milliseconds of a time, which may not be 0."""
     millis = None if duration is None else seconds(duration, name)
@@ -336,6 +346,15 @@ class Options:
         The attempt of a thread or of a loop can't be ended, so there it is a `TypeError`.""",
         _attempt_timeout_follows,
         _on_follows,
+    )
+    hedge_after: Optional[Duration] = option(
+        None,
+        """Only for calls that may be made twice at once: after how long, by the clock of asyncio or trio, an attempt of
+        a coroutine function is late, in seconds or as a `timedelta`. To the policy and the `limit` it has failed then,
+        with an `AttemptTimeout`, but it goes on. They say whether and when the next attempt begins beside it. The first
+        success is the result; the other attempts are cancelled and awaited. Of a late attempt that fails nobody hears,
+        but if it is the last to fail, the call raises that. For a function, a loop or a repeat it is a `TypeError`.""",
+        _hedge_after_follows,
     )
     stop: Optional[Stop] = option(
         None,

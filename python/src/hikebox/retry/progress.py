@@ -19,12 +19,12 @@ from .watch import watch
 if TYPE_CHECKING:
     from ..retrying import BaseRetrying
 
-__all__ = ["Progress"]
+__all__ = ["HeldProgress", "Progress"]
 
 
 class Progress:
-    """A retry from its first attempt to its end. The engine hears of it at its first failure; until then there is
-    nothing to decide. `hikebox.retry.steps` says what is done when."""
+    """A retry from its first attempt to its end, which whoever made it closes. The engine hears of it at its first
+    failure; until then there is nothing to decide. `hikebox.retry.steps` says what is done when."""
 
     __slots__ = (
         *("settings", "state", "answer", "ends_now", "is_accepted", "drawing", "holds_ticket", "ahead"),
@@ -99,6 +99,10 @@ class Progress:
         """The attempt is over, now or already."""
         if self._took is None:
             self._took = (self.settings.clock() - self._began) * 1000
+
+    def attempt_took(self, began: float, ended: float) -> None:
+        """The attempt that is looked at began and ended at these moments."""
+        self._began, self._took = began, (ended - began) * 1000
 
     def succeeds(self) -> None:
         """Tells the limit that an attempt succeeded, or failed where it took too long for a success."""
@@ -306,13 +310,6 @@ class Progress:
         if watch.watchers:
             watch.ended(self, is_finalized=not serves_others)
 
-    def __del__(self) -> None:
-        try:
-            if not self._closed:
-                self.close(False)  # (the collector may free its machine after this, so it serves no other retry)
-        except Exception:
-            pass  # it was never begun, or its budget is being freed with it
-
     # The engine's retry, and its clock
 
     def _begin(self, seconds: float) -> Machine:
@@ -356,6 +353,19 @@ class Progress:
         engine was told before, and at most as many as there are."""
         passed = int((seconds - self._first) * 1000 + self._rounds)
         return min(MAX_NUMBER - self._origin, max(self._last, passed))
+
+
+class HeldProgress(Progress):
+    """A retry that others hold between its attempts, as a loop does. It is closed once nobody holds it any more."""
+
+    __slots__ = ()
+
+    def __del__(self) -> None:
+        try:
+            if not self._closed:
+                self.close(False)  # (the collector may free its machine after this, so it serves no other retry)
+        except Exception:
+            pass  # it was never begun, or its budget is being freed with it
 
 
 #: No retry that comes this far is near the last moment that there is.

@@ -90,6 +90,8 @@ class Settings(HasOptions):
     most_wait: float
     #: The milliseconds after which an attempt is cancelled.
     attempt_millis: Optional[int]
+    #: The milliseconds after which an attempt is late, and another one may begin beside it.
+    hedge_millis: Optional[int]
     #: The milliseconds of the deadline.
     deadline_millis: Optional[int]
 
@@ -120,7 +122,7 @@ class Settings(HasOptions):
     def _derive_shape(self) -> None:
         """Works out what a retry can leave out."""
         self.asks = self.retry_after is not None or self.wait is not None
-        looks = self.on_result is not None or self.slow_millis is not None or self.per_key is not None
+        looks = self.on_result is not None or self.slow_millis is not None
         self.is_quiet = not (self.repeats or self.hooks_before or self.hooks_on_success or looks)
         self.draws_elsewhere = self.drawing is not None and not self.asks_limit
         self.takes_time = bool(self.hooks_after or self.asks or self.draws_elsewhere or self.stop is not None)

@@ -20,7 +20,21 @@ from .progress import Progress
 from .state import Ending, Outcome
 from .waits import switch
 
-__all__ = ["OVER", "RAISE", "RUN", "Ask", "Signal", "Steps", "Want", "asked", "steps"]
+__all__ = [
+    "OVER",
+    "RAISE",
+    "RUN",
+    "Ask",
+    "Part",
+    "Settled",
+    "Signal",
+    "Steps",
+    "Want",
+    "asked",
+    "ended",
+    "judged",
+    "steps",
+]
 
 
 class Signal(enum.Enum):
@@ -82,7 +96,7 @@ def steps(progress: Progress, is_counted: bool = False, is_judged: bool = False)
         yield 0.0 if switch.no_waits else delay
         goes_on = progress.wakes()
     outcome = None  # (which would hold the exception, and that the frames that drive these steps)
-    yield OVER if is_judged else (yield from _ended(progress, is_at_hand))
+    yield OVER if is_judged else (yield from ended(progress, is_at_hand))
 
 
 def _begins(progress: Progress, is_counted: bool) -> bool:
@@ -114,9 +128,20 @@ def _before(progress: Progress) -> Part:
 
 
 def _is_retried(progress: Progress, outcome: Outcome) -> Part:
+    """Whether an attempt is an event of the policy, which the limit is told. If not, the state has the ending."""
+    is_retried = yield from judged(progress, outcome)
+    if progress.settings.asks_limit:
+        if outcome.error is None and progress.is_accepted:
+            progress.succeeds()
+        elif outcome.error is None or is_retried or isinstance(outcome.error, Exception):
+            progress.drawing.failed()
+    return is_retried
+
+
+def judged(progress: Progress, outcome: Outcome) -> Part:
     """Whether an attempt is an event of the policy that gave a result, or whose exception is none of the types that are
     retried; if not, the state has the ending."""
-    settings, state, error = progress.settings, progress.state, outcome.error
+    settings, error = progress.settings, outcome.error
     if error is None:
         refuses, is_refused = settings.on_result, outcome.is_refused
         if is_refused is None:
@@ -129,16 +154,12 @@ def _is_retried(progress: Progress, outcome: Outcome) -> Part:
             is_retried = yield test, error
             if is_retried:
                 break
-    if settings.asks_limit and error is None and progress.is_accepted:
-        progress.succeeds()
-    elif settings.asks_limit and (error is None or is_retried or isinstance(error, Exception)):
-        progress.drawing.failed()
     if not is_retried:
-        state.ending = ending
+        progress.state.ending = ending
     return is_retried
 
 
-def _ended(progress: Progress, is_at_hand: bool) -> Part:
+def ended(progress: Progress, is_at_hand: bool = False) -> Part:
     """No attempt follows: how the retry ends, whose last exception may be at hand."""
     settings, state, outcome = progress.settings, progress.state, progress.state.outcome
     if state.ending is Ending.NOT_RETRIED:

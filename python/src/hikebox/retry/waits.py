@@ -13,7 +13,16 @@ from .._time import seconds_text
 from ..errors import AttemptTimeout
 from .kinds import is_async, look_at_function
 
-__all__ = ["in_time", "pause_of", "sleep_of", "switch"]
+__all__ = [
+    "in_time",
+    "library_here",
+    "pause_of",
+    "sleep_here",
+    "sleep_now",
+    "sleep_of",
+    "sleep_of_asyncio",
+    "switch",
+]
 
 Sleep = Callable[[float], Any]
 
@@ -74,7 +83,7 @@ def pause_of(sleep: Any, awaits: bool) -> Optional[Sleep]:
 
 
 @lru_cache(maxsize=None)
-def _sleep_of_asyncio() -> Sleep:
+def sleep_of_asyncio() -> Sleep:
     """What sleeps as asyncio.sleep does, by a future alone: many coroutines may wait at once."""
     from asyncio import Future, get_running_loop
 
@@ -104,6 +113,24 @@ def _sleep_of_asyncio() -> Sleep:
 
 def _sleep(seconds: float) -> None:
     time.sleep(min(seconds, _MAX_SECONDS))
+
+
+def sleep_now(seconds: float) -> None:
+    """Sleeps, unless waits are left out."""
+    if not switch.no_waits:
+        _sleep(seconds)
+
+
+async def sleep_here(seconds: float) -> None:
+    """Sleeps by the library that runs this coroutine, unless waits are left out."""
+    if switch.no_waits:
+        return
+    if library_here() == "trio":
+        await sys.modules["trio"].sleep(seconds)
+    else:
+        import asyncio
+
+        await asyncio.sleep(seconds)
 
 
 def _wait(event: Any, seconds: float) -> None:
@@ -143,7 +170,7 @@ async def _awaited(answer: Any) -> None:
 
 def _async_sleep_of(sleep: Any, event: Any) -> Sleep:
     if sleep is None:
-        sleep = _sleep_of_asyncio()
+        sleep = sleep_of_asyncio()
     if event is None:
         return sleep  # type: ignore[no-any-return]
     wait = getattr(event, "wait", None)
@@ -156,7 +183,7 @@ def _async_sleep_of(sleep: Any, event: Any) -> Sleep:
 
 async def _sleep_or_event(sleep: Sleep, event: Any, seconds: float) -> None:
     """Sleeps until an event of coroutines is set."""
-    library = _library()
+    library = library_here()
     if library == "asyncio":
         await _sleep_in_asyncio(sleep, event, event.wait, seconds)
     elif library == "trio":
@@ -167,13 +194,13 @@ async def _sleep_or_event(sleep: Sleep, event: Any, seconds: float) -> None:
 
 async def _sleep_or_blocking_event(sleep: Sleep, event: Any, watch: _Watch, seconds: float) -> None:
     """Sleeps until an event of threads or processes is set."""
-    if _library() == "asyncio":
+    if library_here() == "asyncio":
         await _sleep_in_asyncio(sleep, event, partial(watch.is_set, event), seconds)
     else:
         await _sleep_in_parts_async(sleep, event.is_set, seconds)
 
 
-def _library() -> str:
+def library_here() -> str:
     """Whose event loop runs the coroutine that is here: "asyncio", "trio", or "" where it is another one's."""
     trio = sys.modules.get("trio")
     if trio is not None:
@@ -191,7 +218,7 @@ def _library() -> str:
 
 def _pause(sleep: Sleep, _: float) -> Any:
     """Something to await that lets other coroutines go on, by the library that runs this one."""
-    library = _library()
+    library = library_here()
     if library == "asyncio":
         return sys.modules["asyncio"].sleep(0)
     return sys.modules["trio"].sleep(0) if library == "trio" else sleep(0)
@@ -199,7 +226,7 @@ def _pause(sleep: Sleep, _: float) -> Any:
 
 async def in_time(awaitable: Any, millis: int) -> Any:
     """Awaits something for at most so many milliseconds; then it is cancelled, and an `AttemptTimeout` is raised."""
-    library = _library()
+    library = library_here()
     if library == "trio":
         with sys.modules["trio"].move_on_after(millis / 1000):
             return await awaitable

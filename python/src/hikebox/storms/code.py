@@ -7,13 +7,13 @@ import re
 import shlex
 from typing import TYPE_CHECKING, Any, Dict, List, Sequence, Set, Tuple
 
-from .._engine.calls import ON_BUCKET, ON_IN_FLIGHT, ON_THROTTLE
+from .._engine.calls import ON_ADAPTIVE, ON_BUCKET, ON_IN_FLIGHT, ON_THROTTLE
 from .._time import seconds_text
 from ..budgets.terms import Terms
 from ..policy import Policy
 from ..policy import builders
 from ..policy.spelling import duration, spelt_in_rust
-from ..limits.terms import LimitTerms
+from ..limits.terms import NO_MOST, LimitTerms
 from .parameters import Parameters, Span
 from .populations import Clients
 
@@ -142,6 +142,8 @@ def _python_arguments(policy: Policy, parameters: Parameters) -> List[Tuple[str,
     if parameters.rates:
         spans = [f"({seconds_text(begins)}, {seconds_text(ends)}, {rate})" for begins, ends, rate in parameters.rates]
         found.append(("rates", f"[{', '.join(spans)}]"))
+    if parameters.arrivals:
+        found.append(("arrivals", f"[{', '.join(map(seconds_text, parameters.arrivals))}]"))
     if parameters.slow is not None:
         begins, ends, percent = parameters.slow
         found.append(("slow", f"({seconds_text(begins)}, {seconds_text(ends)}, {percent / 100!r})"))
@@ -212,6 +214,8 @@ def _rust_calls(parameters: Parameters) -> List[str]:
     if parameters.rates:
         spans = [f"({duration(begins)}..{duration(ends)}, {rate})" for begins, ends, rate in parameters.rates]
         found.append(f"rates([{', '.join(spans)}])")
+    if parameters.arrivals:
+        found.append(f"arrivals([{', '.join(map(duration, parameters.arrivals))}])")
     if parameters.slow is not None:
         begins, ends, percent = parameters.slow
         found.append(f"slow({duration(begins)}..{duration(ends)}, {percent})")
@@ -240,10 +244,15 @@ def _rust_limit(limit: LimitTerms) -> List[str]:
         found = [f"limit(Bucket {{ {members(**levels, cost='cost')}, refund: {refund} }})"]
         return found + [f"late_cost({numbers['late_cost'] / 1000!r})"] * (numbers["cost"] != numbers["late_cost"])
     if limit.draws_on == ON_IN_FLIGHT:
-        return [f"limit(InFlight {{ least: {numbers['least']}, {members(share='share')} }})"]
+        most = "None" if numbers["most"] == NO_MOST else f"Some({numbers['most']})"
+        return [f"limit(InFlight {{ least: {numbers['least']}, {members(share='share')}, most: {most} }})"]
+    if limit.draws_on == ON_ADAPTIVE:
+        counts = ", ".join(f"{name}: {numbers[name]}" for name in ("least", "most", "first"))
+        return [f"limit(Adaptive {{ {counts}, {members(backoff='backoff')} }})"]
     if limit.draws_on == ON_THROTTLE:
         return [f"limit(Throttle {{ {members(ratio='ratio')}, period: {duration(numbers['period'])} }})"]
     open_for = "open_for: Policy::new(&Schedule::spaced(Duration::from_secs(30)))?"
     deadline = f"probe_deadline: {duration(numbers['deadline'])}"
     probes = f"probes: {numbers['probes']}"
-    return [f"limit(Breaker {{ failures: {numbers['failures']}, {open_for}, {probes}, {deadline} }})"]
+    last = f"results: Some({numbers['results']})" if numbers["results"] else "results: None"
+    return [f"limit(Breaker {{ failures: {numbers['failures']}, {last}, {open_for}, {probes}, {deadline} }})"]

@@ -40,7 +40,8 @@ def _part_of(parameters: Parameters) -> Parameters:
     elif isinstance(tickets, int):
         tickets //= _PART
     queue, calls = parameters.queue // _PART, min(parameters.calls, _MOST_CALLS)
-    return parameters._replace(queue=queue, calls=calls, rates=rates, tickets=tickets, **numbers)
+    arrivals = parameters.arrivals[::_PART]
+    return parameters._replace(queue=queue, calls=calls, rates=rates, tickets=tickets, arrivals=arrivals, **numbers)
 
 
 def time_of_this_thread() -> Callable[[], float]:

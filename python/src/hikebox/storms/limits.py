@@ -5,7 +5,7 @@ from __future__ import annotations
 from typing import Dict, List, Optional, Tuple
 
 from ..errors import TermsError
-from ..limits.terms import LimitTerms, breaker, bucket, in_flight, throttle
+from ..limits.terms import LimitTerms, adaptive, breaker, bucket, in_flight, throttle
 
 __all__ = ["KINDS", "LIMIT_FORMS", "LIMIT_WANTED", "limit_of"]
 
@@ -14,23 +14,32 @@ _MAX_CAPACITY, _MAX_COUNT, _MAX_NUMBER = 2**40, 2**32 - 1, 2**62 - 1
 #: For how long a breaker is open where nothing is said, in milliseconds.
 _OPEN = (30_000,)
 
-#: How many numbers each kind of limit is spelt with.
-KINDS: Dict[str, int] = {"aws": 0, "bucket": 6, "grpc": 2, "inflight": 2, "breaker": 3, "throttle": 2}
+#: With how many numbers each kind of limit is spelt, each of these ways.
+KINDS: Dict[str, Tuple[int, ...]] = {
+    "aws": (0,),
+    "bucket": (6,),
+    "grpc": (2,),
+    "inflight": (2, 3),
+    "breaker": (3, 4),
+    "throttle": (2,),
+    "adaptive": (4,),
+}
 
 #: How each of them is spelt.
 LIMIT_FORMS = (
     "aws",
     "grpc:TOKENS/RATIO",
     "bucket:CAPACITY/FLOOR/COST/LATE/DEBIT/CREDIT[+refund]",
-    "inflight:LEAST/SHARE",
-    "breaker:FAILURES/PROBES/DEADLINE",
+    "inflight:LEAST/SHARE[/MOST]",
+    "breaker:FAILURES[/RESULTS]/PROBES/DEADLINE",
     "throttle:RATIO/PERIOD",
+    "adaptive:LEAST/MOST/FIRST/BACKOFF",
 )
 
 LIMIT_WANTED = (
     "expected bucket:CAPACITY/FLOOR/COST/LATE/DEBIT/CREDIT (in thousandths of a token, with +refund or without), "
-    "grpc:TOKENS/RATIO, aws, inflight:LEAST/SHARE, breaker:FAILURES/PROBES/DEADLINE or throttle:RATIO/PERIOD, "
-    "such as grpc:100/100"
+    "grpc:TOKENS/RATIO, aws, inflight:LEAST/SHARE[/MOST], breaker:FAILURES[/RESULTS]/PROBES/DEADLINE, "
+    "throttle:RATIO/PERIOD or adaptive:LEAST/MOST/FIRST/BACKOFF, such as grpc:100/100"
 )
 
 
@@ -45,7 +54,7 @@ def limit_of(text: str, times: Tuple[int, ...] = _OPEN) -> LimitTerms:
     numbers = _numbers(spelt) if colon else []
     if text == "aws":
         return bucket(500_000, 0, 5000, 10_000, 0, 1000, True, "aws")
-    fits = numbers is not None and colon and len(numbers) == KINDS.get(kind)
+    fits = numbers is not None and colon and len(numbers) in KINDS.get(kind, ())
     if numbers is None or not fits or (plus and (kind, refund) != ("bucket", "refund")) or not _in_range(kind, numbers):
         raise TermsError(f"{LIMIT_WANTED}, got {text[:300]!r}")
     if kind == "bucket":
@@ -57,9 +66,9 @@ def limit_of(text: str, times: Tuple[int, ...] = _OPEN) -> LimitTerms:
     if kind == "inflight":
         return in_flight(*numbers)
     if kind == "breaker":
-        failures, probes, deadline = numbers
-        return breaker(failures, probes, deadline, times)
-    return throttle(*numbers)
+        failures, results, probes, deadline = _breaker_of(numbers)
+        return breaker(failures, results, probes, deadline, times)
+    return throttle(*numbers) if kind == "throttle" else adaptive(*numbers)
 
 
 def _numbers(spelt: str) -> Optional[List[int]]:
@@ -67,6 +76,11 @@ def _numbers(spelt: str) -> Optional[List[int]]:
     if not all(word.isascii() and word.isdigit() and len(word) <= 20 for word in words):
         return None
     return [int(word) for word in words]
+
+
+def _breaker_of(numbers: List[int]) -> List[int]:
+    """The numbers of a breaker, with a 0 for the results that count where it has failures in a row."""
+    return numbers if len(numbers) == 4 else [numbers[0], 0, *numbers[1:]]
 
 
 def _in_range(kind: str, numbers: List[int]) -> bool:
@@ -77,9 +91,13 @@ def _in_range(kind: str, numbers: List[int]) -> bool:
         capacity = 1000 * tokens
         return capacity <= _MAX_CAPACITY and max(500 * tokens + 1, 1000, ratio) <= capacity
     if kind == "inflight":
-        return max(numbers) <= _MAX_COUNT
+        return max(numbers) <= _MAX_COUNT and numbers[2:] != [0]
+    if kind == "adaptive":
+        least, most, first, backoff = numbers
+        return 1 <= least <= first <= most <= 65_535 and 1 <= backoff <= 999
     if kind == "breaker":
-        failures, probes, deadline = numbers
-        return 1 <= failures <= _MAX_COUNT and 1 <= probes <= 15 and deadline <= _MAX_NUMBER
+        failures, results, probes, deadline = _breaker_of(numbers)
+        in_range = 1 <= failures <= (results or _MAX_COUNT) and (len(numbers) == 3 or 1 <= results <= 32)
+        return in_range and 1 <= probes <= 15 and deadline <= _MAX_NUMBER
     ratio, period = numbers
     return 1000 <= ratio <= _MAX_COUNT and 1 <= period <= _MAX_NUMBER

@@ -105,11 +105,17 @@ class Parameters(NamedTuple):
     rates: Tuple[RateSpan, ...] = ()
     #: The populations of clients beside the first one.
     beside: Tuple[Clients, ...] = ()
+    #: The moment of each request, in the place of the rate and its spans, of `together` and of `seconds`.
+    arrivals: Tuple[int, ...] = ()
 
     @property
     def last(self) -> int:
         """The moment after which nothing is played."""
-        return self.seconds * 1000 + 60_000 if self.until is None else self.until
+        if self.until is not None:
+            return self.until
+        if self.arrivals:
+            return min(self.arrivals[-1] + 60_000, RANGES["until"][1])
+        return self.seconds * 1000 + 60_000
 
     @property
     def over(self) -> int:
@@ -170,6 +176,7 @@ class Parameters(NamedTuple):
                 _look_at(name, number, *RANGES[name])
         _look_at("down", self.away, 1, self.replicas)
         self._look_at_rates()
+        self._look_at_arrivals()
         look_at_shares([each.share for each in self.beside])
         for index, each in enumerate(self.beside):
             _look_at(f"beside[{index}].patience", self.patience_of(each), 1, MAX_PATIENCE)
@@ -200,14 +207,29 @@ class Parameters(NamedTuple):
             if not 0 <= rate <= RANGES["rate"][1]:
                 raise StormError("rates", f"expected 0 to {RANGES['rate'][1]} requests a second, got {shown(rate)}")
             last = ends
-        if self.requests > MAX_REQUESTS:
+        if self.requests_by_rate > MAX_REQUESTS:
             spans = " and the spans" if self.rates else ""
-            asked = f"{self.rate} a second{spans} for {self.seconds} s are {self.requests} requests"
+            asked = f"{self.rate} a second{spans} for {self.seconds} s are {self.requests_by_rate} requests"
             raise StormError("rates" if spans else "rate", f"{asked}, and a storm has at most {MAX_REQUESTS}")
+
+    def _look_at_arrivals(self) -> None:
+        """Looks at the moments of requests."""
+        if len(self.arrivals) > MAX_REQUESTS:
+            raise StormError("arrivals", f"expected at most {MAX_REQUESTS} moments, got {len(self.arrivals)}")
+        last, most = 0, RANGES["until"][1]
+        for index, moment in enumerate(self.arrivals):
+            if not last <= moment <= most:
+                raise StormError(f"arrivals[{index}]", f"expected {last} to {most} ms, got {shown(moment)}")
+            last = moment
 
     @property
     def requests(self) -> int:
         """How many requests come in all, where the storm doesn't end before."""
+        return len(self.arrivals) or self.requests_by_rate
+
+    @property
+    def requests_by_rate(self) -> int:
+        """The same of those that come by the rate."""
         end = self.seconds * 1000
         begins = thousandths = 0
         for until, rate in [*self.phases(), (end, self.rate)]:

@@ -15,10 +15,13 @@ from ..limits.limit import CallLimit
 from ..policy import Policy
 from ..quota import Quota
 from .limits import limit_of
-from .parameters import MAX_SEED, Limited, Parameters, RateSpan, Slow, Span, look_at_picture, plural
+from .parameters import MAX_REQUESTS, MAX_SEED, Limited, Parameters, RateSpan, Slow, Span, look_at_picture, plural
 from .populations import MAX_PATIENCE, Clients, Population, percent_of
 
 __all__ = ["Population", "PopulationReport", "Storm", "StormRow", "StormTotals", "storm"]
+
+#: What a storm is played with where nothing is said.
+_PLAIN = Parameters()
 
 
 class StormRow(NamedTuple):
@@ -161,6 +164,8 @@ class Storm(_Report):
                 {"share": round(100 * each.share), "windows": each.rows, "totals": each.totals_dict()}
                 for each in self.populations
             ]
+        if self.parameters.arrivals:
+            told["arrivals"] = len(self.parameters.arrivals)
         return json.dumps(told, separators=(",", ":"))
 
     def svg(self, *others: Storm, width: int = 760, detail: bool = False, title: Optional[str] = None) -> str:
@@ -219,6 +224,7 @@ def storm(
     seed: int = 0,
     limit: Union[None, int, str, Budget, Quota, CallLimit] = None,
     beside: Sequence[Population] = (),
+    arrivals: Optional[Iterable[Duration]] = None,
 ) -> Storm:
     """Simulates many requests under one policy, on a peer that fails for a while. It makes no call and does not wait.
 
@@ -258,6 +264,10 @@ def storm(
     `beside`
         Up to three populations of clients beside those of `policy`, each with a share of the requests and a policy of
         its own. The storm's `populations` has a report on each.
+    `arrivals`
+        The moments at which requests come, one for each, in the place of `rate`, `rates`, `together` and `seconds`: at
+        most 1,048,576, none before the one in front of it and none after two hours. `until` is then a minute after the
+        last of them.
 
     Times are seconds, or a `timedelta`. A value out of range raises a `StormError`.
 
@@ -292,6 +302,8 @@ def storm(
         rates=_rate_spans(rates),
         beside=_beside(beside),
     )
+    if arrivals is not None:
+        parameters = parameters._replace(arrivals=_arrivals(arrivals, parameters))
     return play(Policy.of(policy), parameters.checked())
 
 
@@ -304,7 +316,7 @@ def _played(policy: Policy, parameters: Parameters, of: int = 0) -> Tuple[Tuple[
     """The rows and the totals of a population, from 1, or those of all requests."""
     # (with handles of their own, since other threads go on meanwhile)
     policies = [each.plan.share() for each in (policy, *(clients.policy for clients in parameters.beside))]
-    windows, totals = play_storm(policies, parameters.for_engine(of))
+    windows, totals = play_storm(policies, parameters.for_engine(of), parameters.arrivals)
     return tuple(StormRow(*window) for window in windows), _totals(totals)
 
 
@@ -352,6 +364,18 @@ def _parts(name: str, given: Any, count: int) -> List[Any]:
         wanted = "(from, to)" if count == 2 else f"(from, to, {third})"
         raise TypeError(f"{name}: expected {wanted}, got {given!r}")
     return list(given)
+
+
+def _arrivals(arrivals: Any, parameters: Parameters) -> Tuple[int, ...]:
+    if isinstance(arrivals, (str, bytes)) or not isinstance(arrivals, Iterable):
+        raise TypeError(f"arrivals: expected a list of moments, got {shown(arrivals)}")
+    for name in ("rate", "rates", "together", "seconds"):
+        if getattr(parameters, name) != getattr(_PLAIN, name):
+            raise StormError("arrivals", f"expected no {name} beside it, got {shown(getattr(parameters, name))}")
+    moments = tuple(_time(f"arrivals[{index}]", moment) for index, moment in enumerate(arrivals))
+    if not moments:
+        raise StormError("arrivals", f"expected 1 to {MAX_REQUESTS} moments, got none")
+    return moments
 
 
 def _rate_spans(rates: Any) -> Tuple[RateSpan, ...]:

@@ -26,6 +26,7 @@ __all__ = [
     "share_text",
     "side_by_side",
     "table",
+    "time_text",
 ]
 
 #: What the totals are called that stand side by side, where that is not their name.
@@ -42,10 +43,10 @@ _LABELS = {
 _MAX_ROWS = 200
 
 
-def _time(milliseconds: int) -> str:
+def time_text(milliseconds: int) -> str:
     """A time as a person reads it.
 
-    >>> _time(80), _time(1500)
+    >>> time_text(80), time_text(1500)
     ('80 ms', '1.5 s')
     """
     return f"{milliseconds} ms" if milliseconds < 1000 else f"{milliseconds / 1000:,.12g} s"
@@ -84,13 +85,13 @@ def recovery_mark(storm: Storm, totals: Optional[StormTotals] = None) -> Tuple[O
         return None, "not back by the end" if is_judged(storm) else "no window afterwards"
     if recovered == 0:  # (a surge that does no harm)
         return None, "never down"
-    return recovered, f"back at {_time(recovered)}"
+    return recovered, f"back at {time_text(recovered)}"
 
 
 def _recovery(storm: Storm) -> str:
     """When the storm recovered, if that can be known, in a sentence."""
     if storm.parameters.weather() and not is_judged(storm):
-        return f"no window begins at {_time(storm.parameters.over)} or later, so a recovery would not show"
+        return f"no window begins at {time_text(storm.parameters.over)} or later, so a recovery would not show"
     return recovery_mark(storm)[1]
 
 
@@ -104,7 +105,7 @@ def sentences(storm: Storm) -> List[str]:
     lines = [
         f"{totals.requests:,} {plural(totals.requests, 'request')}: {ended}",
         f"{totals.calls:,} {plural(totals.calls, 'call')}, {totals.calls_per_request:.2f} for each request; "
-        f"{most} in a window {totals.most_calls:,}, from {_time(totals.most_from_ms)} on",
+        f"{most} in a window {totals.most_calls:,}, from {time_text(totals.most_from_ms)} on",
         _took(totals),
     ]
     lines += [f"{said[0].upper()}{said[1:]}" for said in [_recovery(storm)] if said]
@@ -131,7 +132,7 @@ def population_names(storm: Storm) -> List[str]:
 def _population_text(storm: Storm, report: PopulationReport) -> str:
     said = [f"{round(100 * report.share)} %"]
     if report.patience_ms != storm.parameters.patience:
-        said.append(f"patience {_time(report.patience_ms)}")
+        said.append(f"patience {time_text(report.patience_ms)}")
     if storm.parameters.tickets is not None:
         said.append("limited" if report.limited else "not limited")
     return f"{', '.join(said)}: {report.policy!r}"
@@ -166,22 +167,24 @@ def _clients_text(parameters: Parameters, clients: Clients, share: str, is_brief
         return f"{share}{limited}"
     under = f"{limited}, under" if limited else " under"
     said = f"{share} of the requests{under} {clients.policy!r}"
-    return said if clients.patience is None else f"{said} with patience {_time(clients.patience)}"
+    return said if clients.patience is None else f"{said} with patience {time_text(clients.patience)}"
 
 
 def _took(totals: StormTotals) -> str:
     if totals.p50_ms is None or totals.p99_ms is None or totals.slowest_ms is None:
         return "None was won"
-    times = f"half within {_time(totals.p50_ms)}, 99 in 100 within {_time(totals.p99_ms)}"
-    return f"Won {times}, the slowest after {_time(totals.slowest_ms)}"
+    times = f"half within {time_text(totals.p50_ms)}, 99 in 100 within {time_text(totals.p99_ms)}"
+    return f"Won {times}, the slowest after {time_text(totals.slowest_ms)}"
 
 
 def setting(parameters: Parameters) -> str:
     """What a storm is played with, in a sentence."""
-    come = f"{parameters.rate:,} {plural(parameters.rate, 'request')} a second for {parameters.seconds:,} s"
-    come += "".join(f", {_rate_span(span)}" for span in parameters.rates)
-    if parameters.together > 1:
-        come += f", {parameters.together:,} at a time"
+    if parameters.arrivals:
+        come = _arrivals(parameters)
+    else:
+        come = f"{parameters.rate:,} {plural(parameters.rate, 'request')} a second for {parameters.seconds:,} s"
+        come += "".join(f", {_rate_span(span)}" for span in parameters.rates)
+        come += f", {parameters.together:,} at a time" if parameters.together > 1 else ""
     does = f"{parameters.capacity:,} {plural(parameters.capacity, 'call')} a second"
     peer = f"a peer that does {does}"
     if parameters.replicas > 1:
@@ -189,15 +192,20 @@ def setting(parameters: Parameters) -> str:
     outage, slow = parameters.outage, parameters.slow
     if outage.begins < outage.ends:
         which = f", {parameters.away} of them down" if parameters.away < parameters.replicas else ", is down"
-        peer += f"{which} from {_time(outage.begins)} to {_time(outage.ends)}"
+        peer += f"{which} from {time_text(outage.begins)} to {time_text(outage.ends)}"
     if slow is not None and slow.begins < slow.ends:
-        peer += f", works at {slow.percent} % from {_time(slow.begins)} to {_time(slow.ends)}"
-    said = f"{come} on {peer}; each call is given up after {_time(parameters.patience)}"
+        peer += f", works at {slow.percent} % from {time_text(slow.begins)} to {time_text(slow.ends)}"
+    said = f"{come} on {peer}; each call is given up after {time_text(parameters.patience)}"
     return f"{said}; {beside_text(parameters)}" if parameters.beside else said
 
 
+def _arrivals(parameters: Parameters) -> str:
+    moments = parameters.arrivals
+    return f"{len(moments):,} {plural(len(moments), 'request')} at given moments until {time_text(moments[-1])}"
+
+
 def _rate_span(span: RateSpan) -> str:
-    return f"{span.rate:,} a second from {_time(span.begins)} to {_time(span.ends)}"
+    return f"{span.rate:,} a second from {time_text(span.begins)} to {time_text(span.ends)}"
 
 
 def brief_setting(parameters: Parameters) -> str:
@@ -206,10 +214,12 @@ def brief_setting(parameters: Parameters) -> str:
     times = "".join(f"{_rate_span(span)}, " for span in parameters.rates if span not in surges)
     times += f"{parameters.together:,} at a time, " if parameters.together > 1 else ""
     come = f"{parameters.rate:,} {plural(parameters.rate, 'request')}/s for {parameters.seconds:,} s, {times}"
+    if parameters.arrivals:
+        come = f"{_arrivals(parameters)}, "
     each = f"{parameters.replicas} replicas, each of " if parameters.replicas > 1 else ""
     does = f"{parameters.capacity:,} {plural(parameters.capacity, 'call')}/s"
     peer = f"{each}capacity {does}, queue {parameters.queue:,}"
-    return f"{come}{peer}, patience {_time(parameters.patience)}"
+    return f"{come}{peer}, patience {time_text(parameters.patience)}"
 
 
 def table(storm: Storm) -> str:

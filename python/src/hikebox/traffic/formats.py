@@ -199,7 +199,7 @@ def _latency_of(spelt: Any, per_ms: float) -> Optional[int]:
     """A time in milliseconds, rounded up; None where it is none."""
     try:
         took = float(spelt) / per_ms
-    except (TypeError, ValueError):
+    except (TypeError, ValueError, OverflowError):
         return None
     return int(-(-took // 1)) if 0 <= took <= _MOST else None
 

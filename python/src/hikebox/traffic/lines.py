@@ -9,7 +9,7 @@ from typing import Any, Iterator, List, Optional
 
 from ..errors import StormError
 
-__all__ = ["TOO_LONG", "batches", "opened"]
+__all__ = ["TOO_LONG", "Blocks", "batches", "opened"]
 
 #: A longer line is none of a log, in bytes.
 MAX_LINE = 1 << 16
@@ -25,10 +25,10 @@ TOO_LONG = None
 def opened(name: str) -> Iterator[Any]:
     """The file of this name, or standard input for `-`, as a stream of its bytes."""
     with open(0 if name == "-" else name, "rb", closefd=name != "-", buffering=0) as file:
-        yield _Blocks(file, name)
+        yield Blocks(file, name)
 
 
-class _Blocks:
+class Blocks:
     """The bytes of a file, block by block; those of gzip are expanded. Nothing is sought, so it may be a pipe."""
 
     def __init__(self, file: io.RawIOBase, name: str) -> None:

@@ -1,4 +1,4 @@
-"""The seconds of a log as spans, in each of which requests come at an even pace."""
+"""The seconds of a log as moments of requests, or as spans in each of which requests come at an even pace."""
 
 from __future__ import annotations
 
@@ -6,7 +6,7 @@ from typing import Counter as Counts, List, NamedTuple, Optional, Sequence, Tupl
 
 from ..storms.parameters import MAX_REQUESTS, MAX_SPANS, RANGES, RateSpan
 
-__all__ = ["Paces", "paces_of", "stretch_of"]
+__all__ = ["Paces", "moments_of", "paces_of", "stretch_of"]
 
 #: The seconds of a log are looked at in so many parts at most.
 _PARTS = 240
@@ -33,20 +33,22 @@ class Paces(NamedTuple):
 def stretch_of(requests: Counts[int], seconds: Optional[int] = None) -> Tuple[int, int]:
     """The part of a log that is played: its first second, and how many seconds it has. That is the whole log if a storm
     can be as long and have as many requests, or else its busiest part."""
-    first, last = min(requests), max(requests)
-    whole = last - first + 1
+    known = sorted(requests)
+    whole = known[-1] - known[0] + 1
     most = min(whole, RANGES["seconds"][1]) if seconds is None else seconds
     if seconds is None and (whole > most or sum(requests.values()) > MAX_REQUESTS):
         least = 1
         while least < most:
             middle = (least + most + 1) // 2
-            least, most = (middle, most) if _busiest(requests, middle)[1] <= MAX_REQUESTS else (least, middle - 1)
-    return _busiest(requests, most)[0], most
+            least, most = (
+                (middle, most) if _busiest(requests, known, middle)[1] <= MAX_REQUESTS else (least, middle - 1)
+            )
+    return _busiest(requests, known, most)[0], most
 
 
-def _busiest(requests: Counts[int], seconds: int) -> Tuple[int, int]:
-    """Where the so many seconds with the most requests begin, and how many these are: the first of equals."""
-    known = sorted(requests)
+def _busiest(requests: Counts[int], known: Sequence[int], seconds: int) -> Tuple[int, int]:
+    """Where the so many seconds with the most requests begin, and how many these are: the first of equals. `known` are
+    the seconds that have some, in their order."""
     best, most, count, begins = known[0], 0, 0, 0
     for second in known:
         count += requests[second]
@@ -74,6 +76,15 @@ def paces_of(counts: Sequence[int], most: int = MAX_SPANS + 1) -> Paces:
         spans.append(RateSpan(1000 * begins * step, 1000 * (begins * step + len(inside)), rate))
     fastest = max(1, *(span.rate for span in spans))
     return Paces(fastest, tuple(span for span in spans if span.rate != fastest), len(counts))
+
+
+def moments_of(counts: Sequence[int]) -> Tuple[int, ...]:
+    """The moments of the requests of each second, evenly spread in it, in milliseconds.
+
+    >>> moments_of([2, 0, 3])
+    (0, 500, 2000, 2333, 2666)
+    """
+    return tuple(1000 * second + 1000 * place // count for second, count in enumerate(counts) for place in range(count))
 
 
 def _cuts(parts: Sequence[Sequence[int]], most: int) -> List[Tuple[int, int]]:

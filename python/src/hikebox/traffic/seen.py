@@ -4,13 +4,13 @@ from __future__ import annotations
 
 from collections import Counter
 from itertools import compress
-from typing import Callable, Counter as Counts, List, NamedTuple, Optional, Tuple
+from typing import Any, Callable, Counter as Counts, List, NamedTuple, Optional, Tuple
 
 from ..errors import StormError
 from .formats import Fields, Format, format_of
 from .lines import MAX_LINE, TOO_LONG, batches, opened
 
-__all__ = ["Traffic", "traffic_of"]
+__all__ = ["Traffic", "traffic_in", "traffic_of"]
 
 #: So many seconds may have requests at most: a month.
 _MOST_SECONDS = 31 * 86_400
@@ -91,7 +91,11 @@ class _Reader:
 
     def take(self, lines: List[Optional[bytes]]) -> None:
         """Takes some lines."""
-        plain = [line for line in lines if line]
+        empty = lines.count(b"")
+        if empty:
+            self._skipped["empty"] += empty
+            lines = [line for line in lines if line != b""]
+        plain = [line for line in lines if line is not None]
         columns = self._format.reads_all(plain) if self._format and plain and len(plain) == len(lines) else None
         if columns is not None and None not in columns[0]:
             self._add(*columns)
@@ -104,7 +108,7 @@ class _Reader:
     def _take_one(self, line: Optional[bytes]) -> None:
         if line is TOO_LONG:
             self._skipped[f"longer than {MAX_LINE} bytes"] += 1
-        elif not line or line == b"\r":
+        elif line == b"\r":
             self._skipped["empty"] += 1
         elif self._format is None:
             self._find(line)
@@ -152,13 +156,26 @@ class _Reader:
 WANTED = "lines of an access log (nginx's or Apache's, JSON lines, or CSV)"
 
 
-def traffic_of(name: str, fields: Fields = Fields(), told: Callable[[int], None] = lambda lines: None) -> Traffic:
-    """The traffic of the log of this name, or on standard input for `-`. `told` hears how many lines are read."""
+#: Hears how many lines are read.
+Told = Callable[[int], None]
+
+
+def _silent(lines: int) -> None:
+    """Tells nothing."""
+
+
+def traffic_of(name: str, fields: Fields = Fields(), told: Told = _silent) -> Traffic:
+    """The traffic of the log of this name, or on standard input for `-`."""
+    with opened(name) as blocks:
+        return traffic_in(blocks, fields, told)
+
+
+def traffic_in(blocks: Any, fields: Fields = Fields(), told: Told = _silent) -> Traffic:
+    """The traffic of a log, of which these are the bytes, block by block."""
     reader = _Reader(fields)
     count = 0
-    with opened(name) as blocks:
-        for lines in batches(blocks):
-            reader.take(lines)
-            count += len(lines)
-            told(count)
+    for lines in batches(blocks):
+        reader.take(lines)
+        count += len(lines)
+        told(count)
     return reader.traffic()

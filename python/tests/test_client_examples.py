@@ -1,0 +1,98 @@
+"""The examples of other clients, in examples/clients: with a redis-server, with SQLite, and with botocore's stub."""
+
+from __future__ import annotations
+
+import sqlite3
+from pathlib import Path
+from typing import Any, Dict
+
+import pytest
+
+from conftest import TOP
+from hikebox import state_of
+from hikebox.testing import VirtualClock
+
+
+def names_of(example: str) -> Dict[str, Any]:
+    """What an example defines."""
+    path = TOP / "examples" / "clients" / example
+    # (on a busy machine a server may take longer than a second to answer)
+    text = path.read_text().replace("socket_timeout=1,", "socket_timeout=60,")
+    names: Dict[str, Any] = {}
+    exec(compile(text, str(path), "exec"), names)
+    return names
+
+
+def test_redis_comes_back(redis_server: Any, monkeypatch: Any) -> None:
+    server = redis_server()
+    monkeypatch.setenv("REDIS_PORT", str(server.port))
+    names = names_of("with_redis.py")
+    assert names["write"]("name", "Ada") is True
+    server.stop()
+    clock = VirtualClock()
+    again = {"before_sleep": lambda state: server.start(), "clock": clock, "sleep": clock.sleep}
+    # (the server keeps nothing over its end)
+    assert names["read"].retry_with(**again)("name") is None and len(clock.slept) == 1
+    assert names["write"]("name", "Grace") is True and names["read"]("name") == b"Grace"
+
+
+def test_redis_says_what_is_wrong_at_once(redis_server: Any, monkeypatch: Any) -> None:
+    redis = pytest.importorskip("redis")
+    monkeypatch.setenv("REDIS_PORT", str(redis_server().port))
+    names = names_of("with_redis.py")
+    names["client"].lpush("list", "one")
+    with pytest.raises(redis.ResponseError):
+        names["read"]("list")
+    assert names["read"].retry.statistics.not_retried == 1
+
+
+def test_sqlite_is_locked_for_a_while(tmp_path: Path, monkeypatch: Any) -> None:
+    pytest.importorskip("sqlalchemy")
+    path = tmp_path / "names.sqlite"
+    monkeypatch.setenv("DATABASE", f"sqlite:///{path}?timeout=0")
+    names = names_of("with_sqlalchemy.py")
+    other = sqlite3.connect(str(path))
+    other.execute("create table names (name text)")
+    other.execute("begin exclusive")
+    clock, attempts = VirtualClock(), []
+
+    def unlock(state: Any) -> None:
+        attempts.append(state.attempt_number)
+        if state.attempt_number == 2:
+            other.rollback()
+
+    names["add"].retry_with(before_sleep=unlock, clock=clock, sleep=clock.sleep)("Ada")
+    assert attempts == [1, 2] and other.execute("select name from names").fetchall() == [("Ada",)]
+    other.close()
+    names["engine"].dispose()
+
+
+def test_sqlalchemy_says_what_is_wrong_at_once(monkeypatch: Any) -> None:
+    exceptions = pytest.importorskip("sqlalchemy.exc")
+    monkeypatch.delenv("DATABASE", raising=False)
+    names = names_of("with_sqlalchemy.py")
+    with pytest.raises(exceptions.OperationalError, match="no such table"):
+        names["add"]("Ada")
+    assert names["add"].retry.statistics.not_retried == 1
+    names["engine"].dispose()
+
+
+def test_aws_throttles_and_then_answers(monkeypatch: Any) -> None:
+    exceptions: Any = pytest.importorskip("botocore.exceptions")
+    stub: Any = pytest.importorskip("botocore.stub")
+    for name in ("AWS_ACCESS_KEY_ID", "AWS_SECRET_ACCESS_KEY"):
+        monkeypatch.setenv(name, "an example")
+    names = names_of("with_botocore.py")
+    clock = VirtualClock()
+    get = names["get"].retry_with(clock=clock, sleep=clock.sleep, random=lambda: 0.5)
+    with stub.Stubber(names["client"]) as service:
+        service.add_client_error("get_item", "ThrottlingException", http_status_code=400)
+        service.add_client_error("get_item", "InternalServerError", http_status_code=500)
+        service.add_response("get_item", {"Item": {"name": {"S": "Ada"}}})
+        assert get("Ada") == {"name": {"S": "Ada"}}
+        # (full jitter: halves of 50 and of 100 ms)
+        assert clock.slept == [0.025, 0.05]
+        service.add_client_error("get_item", "ResourceNotFoundException", http_status_code=400)
+        with pytest.raises(exceptions.ClientError) as raised:
+            get("Ada")
+    assert state_of(raised.value) is None and get.retry.statistics.not_retried == 1
