@@ -1,7 +1,8 @@
 #!/usr/bin/env python3
 """What an attempt costs by the Python package, beside tenacity's: processor time, the least of several runs each.
 
-Started by hand at the top of the repository, with the engine's library and an interpreter that has tenacity:
+Started by hand at the top of the repository, with the engine's library and an interpreter that has tenacity and
+prometheus_client:
 
     HIKEBOX_LIBRARY=dist/libhikebox.so PYTHONPATH=python/src /usr/bin/python3 bench/python.py
 
@@ -20,10 +21,12 @@ import sys
 import time
 from typing import Any, Callable, List
 
+import prometheus_client
 import tenacity
 
 import hikebox
-from hikebox import Breaker, Bucket, Budget, InFlight, Quota, both, exponential, recurs, spaced
+from hikebox import Breaker, Bucket, Budget, InFlight, Quota, both, exponential, metrics, recurs, spaced
+from hikebox.retry.watch import watch
 
 ATTEMPTS = 11
 RUNS = 100
@@ -98,6 +101,23 @@ def loops(retrying: Any, fails: Fails) -> Callable[[int], None]:
 def tell(what: str, ours: Callable[[int], Any], theirs: Callable[[int], Any], attempts: int) -> None:
     own, other = (each / attempts for each in least(1000 // attempts, ours, theirs))
     print(f"{what}: an attempt {own / 1000:.2f} us, of tenacity {other / 1000:.2f} us, ratio {own / other:.2f}")
+
+
+def counted(what: str, run: Callable[[int], Any], attempts: int) -> None:
+    """Tells what an attempt takes while Prometheus counts it, and while nothing does."""
+    counting = metrics.prometheus(prometheus_client.CollectorRegistry())
+    watchers = watch.watchers
+
+    def counts(count: int) -> None:
+        watch.watchers = watchers
+        run(count)
+        watch.watchers = ()
+
+    watch.watchers = ()
+    own, bare = (each / attempts for each in least(1000 // attempts, counts, run))
+    watch.watchers = watchers
+    counting.stop()
+    print(f"{what}: an attempt {own / 1000:.2f} us with metrics, {bare / 1000:.2f} us without, ratio {own / bare:.2f}")
 
 
 def made(policy: Any) -> None:
@@ -202,6 +222,9 @@ def main() -> None:
     ours = hikebox.Retrying(policy, sleep=nothing).wraps(Fails())
     theirs = tenacity.Retrying(sleep=nothing, **their).wraps(Fails())
     tell("ten failures", calls(ours), calls(theirs), ATTEMPTS)
+
+    counted("a call that succeeds", calls(hikebox.Retrying(policy).wraps(nothing)), 1)
+    counted("ten failures", calls(hikebox.Retrying(policy, sleep=nothing).wraps(Fails())), ATTEMPTS)
 
     ours = hikebox.Retrying(policy, sleep=nothing, limit=Bucket(2**20)).wraps(Fails())
     tell("ten failures on a limit, Bucket", calls(ours), calls(theirs), ATTEMPTS)

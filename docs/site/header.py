@@ -10,7 +10,7 @@ ITEM = re.compile(
     r"|^#define (?P<macro>HIKEBOX_\w+(?:\([^)]*\))?)(?:\\\n|[^\n])*"
     r"|^typedef struct \{(?P<members>.*?)\} (?P<struct>\w+);"
     r"|^typedef \w+ (?P<type>\w+);"
-    r"|^enum \{(?P<values>.*?)\};"
+    r"|^(?:typedef )?enum \{(?P<values>.*?)\}(?: (?P<enum>\w+))?;"
     r"|^(?:HIKEBOX_(?:CHECKED|IMPORTED) )?(?P<func>(?:hikebox_status |const char \*)hikebox_\w+\([^;]*\));",
     re.M | re.S,
 )
@@ -34,7 +34,7 @@ def role_of(header):
     """The role of Sphinx for each name that the header declares."""
     roles = {}
     for item in ITEM.finditer(header):
-        for kind in ("macro", "struct", "type", "func"):
+        for kind in ("macro", "struct", "type", "enum", "func"):
             if item[kind]:
                 roles[re.sub(r"\(.*", "", item[kind], flags=re.S).split()[-1].lstrip("*")] = kind
         if item["values"]:
@@ -73,7 +73,8 @@ def declared(item, text, roles):
         members = "".join(parts_of(item["members"], "member", roles))
         return directive("struct", item["struct"], f"{text}\n\n{members}", "````")
     if item["values"]:
-        return f"{text}\n\n" + "".join(parts_of(item["values"], "enumerator", roles))
+        above = directive("enum", item["enum"], text) if item["enum"] else f"{text}\n\n"
+        return above + "".join(parts_of(item["values"], "enumerator", roles))
     (kind,) = [kind for kind in ("macro", "type", "func") if item[kind]]
     return directive("function" if kind == "func" else kind, item[kind], text)
 

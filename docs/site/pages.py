@@ -9,7 +9,13 @@ import shutil
 CONTENTS = {
     "Guides": ["docs/INSTALL", "docs/PYTHON", "docs/RUST", "docs/C", "docs/COOKBOOK"],
     "Limits": ["docs/BUDGETS", "docs/LIMITS", "docs/MACHINES", "docs/STORMS"],
-    "Moving here": ["docs/FROM-TENACITY", "docs/FROM-BACKOFF-PYTHON", "docs/FROM-BACKOFF", "docs/FROM-TOWER"],
+    "Moving here": [
+        "docs/FROM-TENACITY",
+        "docs/FROM-BACKOFF-PYTHON",
+        "docs/FROM-BACKOFF",
+        "docs/FROM-TOWER",
+        "docs/FROM-RESILIENCE4J",
+    ],
     "Reference": ["reference/python", "reference/rust", "reference/c", "reference/programs", "docs/GLOSSARY"],
     "The engine": ["docs/RATTLE", "docs/ARCHITECTURE", "docs/DESIGN", "docs/DECISIONS", "docs/decisions/*"],
     "Proofs and tests": ["docs/PROOFS", "docs/TESTING", "docs/BENCHMARKS", "docs/reports/*"],
@@ -66,7 +72,10 @@ def lay_out(top, folder):
         to.write_text(text, encoding="utf-8")
         for name in files:
             (folder / name).parent.mkdir(parents=True, exist_ok=True)
-            shutil.copy(top / name, folder / name)
+            if (top / name).is_dir():
+                shutil.copytree(top / name, folder / name, dirs_exist_ok=True)
+            else:
+                shutil.copy(top / name, folder / name)
 
 
 def add_contents(folder):
