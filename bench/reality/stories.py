@@ -6,7 +6,7 @@ import time
 from dataclasses import dataclass, replace
 from typing import Callable, Dict, Iterator, Optional, Tuple, Union
 
-from hikebox import Breaker, Bucket, CallLimit, InFlight, Quota, Throttle, spaced
+from hikebox import Adaptive, Breaker, Bucket, CallLimit, InFlight, Quota, Throttle, spaced
 
 Clock = Callable[[], float]
 Limit = Union[None, Quota, CallLimit]
@@ -98,6 +98,7 @@ LIMITS: Dict[str, Callable[[Clock], Limit]] = {
     "breaker": lambda clock: Breaker(5, spaced(30), probe_deadline=1, clock=clock),
     "throttle": lambda clock: Throttle(2.0, 60, clock=clock),
     "in flight": lambda clock: InFlight.envoy(),
+    "adaptive": lambda clock: Adaptive(),
 }
 
 

@@ -151,13 +151,13 @@ def test_the_advice_of_the_usual_limits_is_the_breaker_that_is_open_for_five_sec
 def test_what_the_page_says_of_its_advice_is_so() -> None:
     page = (TOP / "docs" / "STORMS.md").read_text()
     found = json.loads(told("--json", FULL)[1])
-    assert len(found["trials"]) == 56 and "under 56 limits" in page
+    assert len(found["trials"]) == 73 and "under 73 limits" in page
     best, other = found["trials"][found["take"]], found["trials"][found["runner_up"]]
-    assert (best["limit"], other["limit"][:5]) == ("breaker:5/1/1000, open 1 s", "grpc:")
+    assert (best["limit"], other["limit"]) == ("inflight:300/0/300", "breaker:5/32/1/1000, open 1 s")
     worst = [min(1000 * each["won"] // each["requests"] for each in trial["stories"]) for trial in (best, other)]
-    assert worst == [814, 479]  # 81.45.. and 47.96..
-    said = "A breaker that is open for a second brings the peer back in all four stories, with 81.5 % in the worst; "
-    assert f"{said}gRPC's bucket has 48.0 % there" in page
+    assert worst == [839, 814]  # 83.95.. and 81.45..
+    said = "A bulkhead of 300 calls brings the peer back in all four stories, with 84.0 % in the worst; "
+    assert f"{said}a breaker that is open for a second has 81.5 % in its worst" in page
     rule = advised.__doc__ or ""
     assert "the one with the fewest calls" in rule and "the one with the fewest calls" in page
 
@@ -175,7 +175,7 @@ def looks_the_same(terms: LimitTerms, limit: Candidate) -> None:
 def test_each_limit_is_spelt_as_it_is_played(tmp_path: Path) -> None:
     tried = candidates(500)
     assert [kind for kind in KINDS if kind not in {each.kind for each in tried}] == []
-    assert len(tried) == len({each.name for each in tried}) == 56
+    assert len(tried) == len({each.name for each in tried}) == 73
     for each in tried:
         made = eval(each.python, dict(vars(hikebox)))
         if isinstance(made, CallLimit):
@@ -191,7 +191,7 @@ def test_each_limit_is_spelt_as_it_is_played(tmp_path: Path) -> None:
                 looks_the_same(read._replace(times=times), each)
             else:
                 assert read == each.tickets, each.name
-    assert {each.kind for each in tried if not each.shell} == {"none", "inflight", "throttle"}
+    assert {each.kind for each in tried if not each.shell} == {"none", "inflight", "throttle", "adaptive"}
 
 
 def test_a_probe_has_as_long_as_the_clients_wait() -> None:
@@ -347,8 +347,8 @@ def test_a_terminal_has_a_bar_and_about_the_time_that_is_left() -> None:
         pass
     os.close(ours)
     assert process.wait(timeout=600) == 0
-    bars = re.findall(r"\r\[(#*)(-*)\] (\d+) of 224 storms, about \d+ s left", shown.decode())
-    assert bars and all(len(full + rest) == 24 and len(full) == 24 * int(done) // 224 for full, rest, done in bars)
+    bars = re.findall(r"\r\[(#*)(-*)\] (\d+) of 292 storms, about \d+ s left", shown.decode())
+    assert bars and all(len(full + rest) == 24 and len(full) == 24 * int(done) // 292 for full, rest, done in bars)
     assert shown.endswith(b"\r\x1b[K")
 
 
@@ -370,7 +370,7 @@ def test_the_lines_to_paste_run(limit: Candidate, tmp_path: Path) -> None:
     exec(in_python(policy, limit), names)
     assert names["retrying"](lambda: 7) == 7 and names["policy"] == policy
     line = in_shell(policy, limit)
-    if limit.kind in ("inflight", "throttle"):
+    if limit.kind in ("inflight", "throttle", "adaptive"):
         assert line == f"# hikebox run can't share {limit.name}\n"
         return
     assert line.startswith("hikebox run --policy ") and line.endswith(" -- COMMAND\n")

@@ -177,6 +177,8 @@ fn the_lines_of_each_limit_run() {
     advised_8::main().unwrap();
     advised_9::main().unwrap();
     advised_10::main().unwrap();
+    advised_11::main().unwrap();
+    advised_12::main().unwrap();
 }
 
 mod storm_0 {
@@ -351,7 +353,7 @@ mod advised_6 {
         use hikebox::{CallLimit, InFlight, Policy, Schedule};
         use std::time::Duration;
         let policy = Policy::new(&(Schedule::recurs(8) & Schedule::exponential(Duration::from_millis(100), 2).cap(Duration::from_secs(10)).jittered(0.0..1.0)))?;
-        let limit = CallLimit::new(InFlight { least: 10, share: 0.2, most: None })?;
+        let limit = CallLimit::new(InFlight::bulkhead(1000))?;
         assert_eq!(hikebox::retry(&policy, &limit, || Ok::<_, std::io::Error>(7))?, 7);
         Ok(())
     }
@@ -373,7 +375,7 @@ mod advised_8 {
         use hikebox::{Breaker, CallLimit, Policy, Schedule};
         use std::time::Duration;
         let policy = Policy::new(&(Schedule::recurs(8) & Schedule::exponential(Duration::from_millis(100), 2).cap(Duration::from_secs(10)).jittered(0.0..1.0)))?;
-        let limit = CallLimit::new(Breaker { failures: 20, results: None, open_for: Policy::new(&Schedule::spaced(Duration::from_secs(30)))?, probes: 1, probe_deadline: Duration::from_secs(1) })?;
+        let limit = CallLimit::new(Breaker { failures: 16, results: Some(32), open_for: Policy::new(&Schedule::spaced(Duration::from_secs(30)))?, probes: 1, probe_deadline: Duration::from_secs(1) })?;
         assert_eq!(hikebox::retry(&policy, &limit, || Ok::<_, std::io::Error>(7))?, 7);
         Ok(())
     }
@@ -396,6 +398,28 @@ mod advised_10 {
         use std::time::Duration;
         let policy = Policy::new(&(Schedule::recurs(8) & Schedule::exponential(Duration::from_millis(100), 2).cap(Duration::from_secs(10)).jittered(0.0..1.0)))?;
         let limit = CallLimit::new(Throttle { ratio: 2.0, period: Duration::from_secs(60) })?;
+        assert_eq!(hikebox::retry(&policy, &limit, || Ok::<_, std::io::Error>(7))?, 7);
+        Ok(())
+    }
+}
+
+mod advised_11 {
+    pub fn main() -> Result<(), Box<dyn std::error::Error>> {
+        use hikebox::{Adaptive, CallLimit, Policy, Schedule};
+        use std::time::Duration;
+        let policy = Policy::new(&(Schedule::recurs(8) & Schedule::exponential(Duration::from_millis(100), 2).cap(Duration::from_secs(10)).jittered(0.0..1.0)))?;
+        let limit = CallLimit::new(Adaptive { least: 1, most: 200, first: 20, backoff: 0.5 })?;
+        assert_eq!(hikebox::retry(&policy, &limit, || Ok::<_, std::io::Error>(7))?, 7);
+        Ok(())
+    }
+}
+
+mod advised_12 {
+    pub fn main() -> Result<(), Box<dyn std::error::Error>> {
+        use hikebox::{Adaptive, CallLimit, Policy, Schedule};
+        use std::time::Duration;
+        let policy = Policy::new(&(Schedule::recurs(8) & Schedule::exponential(Duration::from_millis(100), 2).cap(Duration::from_secs(10)).jittered(0.0..1.0)))?;
+        let limit = CallLimit::new(Adaptive { least: 1, most: 10000, first: 20, backoff: 0.9 })?;
         assert_eq!(hikebox::retry(&policy, &limit, || Ok::<_, std::io::Error>(7))?, 7);
         Ok(())
     }

@@ -14,7 +14,7 @@ from ..storms.parameters import Limited, limit_text
 __all__ = ["KINDS", "Candidate", "candidates"]
 
 #: The kinds of limits, in the order in which they are tried.
-KINDS = ("none", "quota", "bucket", "inflight", "breaker", "throttle")
+KINDS = ("none", "quota", "bucket", "inflight", "breaker", "throttle", "adaptive")
 
 #: A quota's reserve, share in thousandths and period in milliseconds.
 _QUOTAS = (*product((1, 10), (10, 20, 50, 100, 200, 500), (1000,)), *product((10, 100), (20, 50, 100, 200), (10_000,)))
@@ -22,10 +22,15 @@ _QUOTAS = (*product((1, 10), (10, 20, 50, 100, 200, 500), (1000,)), *product((10
 _BUCKETS = tuple(product((10, 100, 1000), (10, 100)))
 #: The least retries in flight, and the share in thousandths.
 _IN_FLIGHT = tuple(product((1, 3, 10), (50, 100, 200)))
-#: The failures that open a breaker, and for how many seconds.
-_BREAKERS = tuple(product((5, 20), (1, 2, 5, 10, 30)))
+#: The calls in flight.
+_BULKHEADS = (10, 30, 100, 300, 1000)
+#: The failures that open a breaker, among how many of its last results, or 0 for those in a row; and for how many
+#: seconds.
+_BREAKERS = (*product((5, 20), (0,), (1, 2, 5, 10, 30)), *product((5, 16), (32,), (1, 5, 30)))
 #: The ratio in thousandths, and the period in milliseconds.
 _THROTTLES = tuple(product((1100, 1500, 2000), (5000, 10_000, 60_000)))
+#: The most calls of an adaptive limit, and what a failure leaves of its level, in thousandths.
+_ADAPTIVE = tuple(product((200, 1000, 10_000), (500, 900)))
 
 
 class Candidate(NamedTuple):
@@ -52,9 +57,10 @@ def candidates(patience: int, kinds: Sequence[str] = KINDS) -> List[Candidate]:
         "none": iter([Candidate("none", None, "None", "Unlimited", "")]),
         "quota": (_quota(*terms) for terms in _QUOTAS),
         "bucket": iter([_aws(), *(_grpc(*terms) for terms in _BUCKETS)]),
-        "inflight": (_in_flight(*terms) for terms in _IN_FLIGHT),
+        "inflight": iter([*(_in_flight(*terms) for terms in _IN_FLIGHT), *(_bulkhead(most) for most in _BULKHEADS)]),
         "breaker": (_breaker(*terms, deadline=max(1000, patience)) for terms in _BREAKERS),
         "throttle": (_throttle(*terms) for terms in _THROTTLES),
+        "adaptive": (_adaptive(*terms) for terms in _ADAPTIVE),
     }
     return [candidate for kind in KINDS if kind in kinds for candidate in made[kind]]
 
@@ -82,13 +88,19 @@ def _in_flight(least: int, share: int) -> Candidate:
     return Candidate("inflight", limit_of(f"inflight:{least}/{share}"), python, rust, "")
 
 
-def _breaker(failures: int, open_for: int, deadline: int) -> Candidate:
-    spelt = f"breaker:{failures}/1/{deadline}"
-    python = f"Breaker({failures}, spaced({open_for}), probe_deadline={seconds_text(deadline)})"
+def _bulkhead(most: int) -> Candidate:
+    rust = f"CallLimit::new(InFlight::bulkhead({most}))?"
+    return Candidate("inflight", limit_of(f"inflight:{most}/0/{most}"), f"InFlight.bulkhead({most})", rust, "")
+
+
+def _breaker(failures: int, results: int, open_for: int, deadline: int) -> Candidate:
+    spelt = f"breaker:{failures}/{results}/1/{deadline}" if results else f"breaker:{failures}/1/{deadline}"
+    among = f"results={results}, " if results else ""
+    python = f"Breaker({failures}, spaced({open_for}), {among}probe_deadline={seconds_text(deadline)})"
     waits = f"Policy::new(&Schedule::spaced({duration(1000 * open_for)}))?"
     rust = (
-        f"CallLimit::new(Breaker {{ failures: {failures}, results: None, open_for: {waits}, probes: 1, "
-        f"probe_deadline: {duration(deadline)} }})?"
+        f"CallLimit::new(Breaker {{ failures: {failures}, results: {f'Some({results})' if results else 'None'}, "
+        f"open_for: {waits}, probes: 1, probe_deadline: {duration(deadline)} }})?"
     )
     return Candidate("breaker", limit_of(spelt, (1000 * open_for,)), python, rust, spelt, open_for)
 
@@ -97,3 +109,9 @@ def _throttle(ratio: int, period: int) -> Candidate:
     python = f"Throttle({thousandths_text(ratio)}, {seconds_text(period)})"
     rust = f"CallLimit::new(Throttle {{ ratio: {ratio / 1000!r}, period: {duration(period)} }})?"
     return Candidate("throttle", limit_of(f"throttle:{ratio}/{period}"), python, rust, "")
+
+
+def _adaptive(most: int, backoff: int) -> Candidate:
+    python = f"Adaptive(most={most}, backoff={thousandths_text(backoff)})"
+    rust = f"CallLimit::new(Adaptive {{ least: 1, most: {most}, first: 20, backoff: {backoff / 1000!r} }})?"
+    return Candidate("adaptive", limit_of(f"adaptive:1/{most}/20/{backoff}"), python, rust, "")

@@ -28,7 +28,7 @@ def in_rust(policy: Policy, limit: Candidate) -> str:
     """Lines of a function that make the policy and the limit."""
     schedule = spelt_in_rust(policy.to_dict())
     spelt = f"{schedule} {limit.rust}"
-    names = {name for name in re.findall(r"\b[A-Z]\w+", spelt) if name not in ("Duration", "None")}
+    names = {name for name in re.findall(r"\b[A-Z]\w+", spelt) if name not in ("Duration", "None", "Some")}
     names |= {"Policy", "Schedule"}
     timed = "use std::time::Duration;\n" if "Duration::" in spelt else ""
     return (
