@@ -2,8 +2,11 @@
 
 use hikebox::RefusalReason::{BreakerOpen, RequestsFull};
 use hikebox::{
-    both, Adaptive, Breaker, Bucket, CallLimit, InFlight, LimitError, LimitState, Policy, Request, Throttle,
+    both, Adaptive, Breaker, BreakerState, Bucket, CallLimit, InFlight, LimitError, LimitState, Policy, Request,
+    Throttle,
 };
+use std::panic::{catch_unwind, AssertUnwindSafe};
+use std::sync::{Arc, Mutex};
 use std::thread;
 use std::time::Duration;
 
@@ -117,6 +120,114 @@ fn a_breaker_is_opened_and_closed_by_hand() {
     before.failed();
     assert_eq!(one(&breaker), LimitState::Closed { failures: 0 });
     assert!(limit.request().unwrap().admit().is_ok());
+}
+
+use BreakerState::{Closed, HalfOpen, Open};
+
+type Heard = Arc<Mutex<Vec<(BreakerState, BreakerState)>>>;
+
+/// A breaker of two failures that is open for a millisecond, and the changes that it tells.
+fn heard_breaker() -> (CallLimit, Heard) {
+    let heard = Heard::default();
+    let hears = heard.clone();
+    let terms = Breaker::consecutive(2, policy(r#"{"spaced":1}"#));
+    let breaker = CallLimit::with_on_change(terms, move |before, after| hears.lock().unwrap().push((before, after)));
+    (breaker.unwrap(), heard)
+}
+
+fn taken(heard: &Heard) -> Vec<(BreakerState, BreakerState)> {
+    std::mem::take(&mut heard.lock().unwrap())
+}
+
+/// A request that is admitted as soon as the limit does.
+fn admitted_in_time(limit: &CallLimit) -> Request {
+    let mut request = limit.request().unwrap();
+    while request.admit().is_err() {
+        thread::sleep(Duration::from_millis(1));
+    }
+    request
+}
+
+#[test]
+fn each_change_is_told_once() {
+    let (breaker, heard) = heard_breaker();
+    let mut first = admitted(&breaker);
+    first.failed();
+    assert_eq!(taken(&heard), []);
+    first.failed();
+    assert_eq!(taken(&heard), [(Closed, Open)]);
+    let mut probe = admitted_in_time(&breaker);
+    assert_eq!(taken(&heard), [(Open, HalfOpen)]);
+    probe.failed();
+    assert_eq!(taken(&heard), [(HalfOpen, Open)]);
+    admitted_in_time(&breaker).succeeded();
+    assert_eq!(taken(&heard), [(Open, HalfOpen), (HalfOpen, Closed)]);
+    breaker.open(Duration::from_secs(60)).unwrap();
+    breaker.open(Duration::from_secs(90)).unwrap();
+    breaker.close().unwrap();
+    assert_eq!(taken(&heard), [(Closed, Open), (Open, Closed)]);
+}
+
+#[test]
+fn a_retry_tells_the_change_that_it_makes() {
+    let (breaker, heard) = heard_breaker();
+    let limit = both(&CallLimit::new(Bucket::aws()).unwrap(), &breaker).unwrap();
+    let answer = hikebox::retry(&policy(r#"{"recurs":9}"#), &limit, || Err::<(), _>("down"));
+    assert_eq!(answer, Err(hikebox::RetryError::LimitRefused("down")));
+    assert_eq!(taken(&heard), [(Closed, Open)]);
+    limit.close().unwrap();
+    assert_eq!(taken(&heard), [(Open, Closed)]);
+}
+
+#[test]
+fn threads_tell_changes_in_their_order() {
+    let (breaker, heard) = heard_breaker();
+    let calls = |thread: usize| {
+        for number in 0..300 {
+            let mut request = breaker.request().unwrap();
+            match (request.admit(), (thread + number) % 3) {
+                (Ok(()), 0) => request.succeeded(),
+                (Ok(()), _) => request.failed(),
+                (Err(_), 0) => breaker.close().unwrap(),
+                (Err(_), _) => thread::yield_now(),
+            }
+        }
+    };
+    let calls = &calls;
+    thread::scope(|scope| (0..8).for_each(|number| drop(scope.spawn(move || calls(number)))));
+    breaker.close().unwrap();
+    let heard = taken(&heard);
+    assert!(heard.len() > 2, "{heard:?}");
+    assert_eq!((heard[0].0, heard[heard.len() - 1].1), (Closed, Closed));
+    assert!(heard.iter().all(|(before, after)| before != after));
+    assert!(heard.windows(2).all(|two| two[0].1 == two[1].0), "{heard:?}");
+}
+
+#[test]
+fn what_hears_of_a_change_may_change_it_again_or_panic() {
+    let heard = Heard::default();
+    let hears = heard.clone();
+    let made = Arc::new(Mutex::new(None::<CallLimit>));
+    let limit = made.clone();
+    let on_change = move |before, after| {
+        let mut all = hears.lock().unwrap();
+        all.push((before, after));
+        let count = all.len();
+        drop(all);
+        assert!(count != 3, "heard enough");
+        if count == 1 {
+            let breaker = limit.lock().unwrap().clone();
+            breaker.unwrap().close().unwrap();
+        }
+    };
+    let terms = Breaker::consecutive(2, policy(r#"{"spaced":30000}"#));
+    let breaker = CallLimit::with_on_change(terms, on_change).unwrap();
+    *made.lock().unwrap() = Some(breaker.clone());
+    breaker.open(Duration::from_secs(60)).unwrap();
+    assert_eq!(*heard.lock().unwrap(), [(Closed, Open), (Open, Closed)]);
+    assert!(catch_unwind(AssertUnwindSafe(|| breaker.open(Duration::from_secs(60)))).is_err());
+    breaker.close().unwrap();
+    assert_eq!(taken(&heard)[2..], [(Closed, Open), (Open, Closed)]);
 }
 
 #[test]

@@ -3,13 +3,14 @@
 use crate::clock::{beginning, whole_millis, Moment};
 use crate::engine::{Handle, LimitKind, MAX_NUMBER};
 use crate::limits::asked::Quiet;
+use crate::limits::changes::{self, BreakerState, Changes, OnChange};
 use crate::limits::error::LimitError;
 use crate::limits::grants::Tickets;
 use crate::limits::per_key::Counted;
 use crate::limits::refused::{RefusalReason, Refused};
 use crate::limits::seen::LimitState;
 use crate::limits::slots::Slots;
-use crate::limits::terms::{fault, thousandths, Terms};
+use crate::limits::terms::{fault, thousandths, Breaker, Terms};
 use crate::limits::ticket::{NoTicket, Ticket};
 use crate::random;
 use crate::system::{generation, is_generation, PerProcess};
@@ -56,7 +57,16 @@ struct Shared {
     reads: Reads,
     /// Whether it can be quiet.
     rests: bool,
+    tells: Tells,
     handles: PerProcess<Handles>,
+}
+
+/// Who hears of a breaker's changes.
+enum Tells {
+    Nobody,
+    This(Box<OnChange>),
+    /// Some of several limits tell theirs.
+    Parts,
 }
 
 /// What a limit reads of a call: one that does not read the clock, or a random word, is asked with 0 in its place.
@@ -74,11 +84,12 @@ enum Made {
     All(Vec<CallLimit>),
 }
 
-/// The first handle of a limit, those that no request uses now, and those that look.
+/// The first handle of a limit, those that no request uses now, and those that look; and what is told of a breaker.
 struct Handles {
     root: Mutex<Handle<LimitKind>>,
     idle: Mutex<Vec<Handle<LimitKind>>>,
     looks: Slots<Handle<LimitKind>>,
+    changes: Mutex<Changes>,
 }
 
 impl CallLimit {
@@ -88,14 +99,58 @@ impl CallLimit {
     ///
     /// [`LimitError::OutOfRange`] if a number is out of its range, and [`LimitError::NoMemory`].
     pub fn new(terms: impl Into<Terms>) -> Result<Self, LimitError> {
-        Self::of(Made::Of(terms.into()))
+        Self::of(Made::Of(terms.into()), Tells::Nobody)
     }
 
-    fn of(made: Made) -> Result<Self, LimitError> {
+    /// A breaker that tells each change that a call of this process makes or finds: what it was, and what it is. Each is
+    /// told once, in their order, by one thread at a time.
+    ///
+    /// ```
+    /// use hikebox::{Breaker, CallLimit};
+    /// use std::time::Duration;
+    ///
+    /// let terms = Breaker::consecutive(5, r#"{"spaced":30000}"#.parse()?);
+    /// let breaker = CallLimit::with_on_change(terms, |before, after| println!("{before:?} to {after:?}"))?;
+    /// breaker.open(Duration::from_secs(60))?; // prints: Closed to Open
+    /// # Ok::<(), Box<dyn std::error::Error>>(())
+    /// ```
+    ///
+    /// A panic of the function is one of the call that told it; the changes after it are told later.
+    ///
+    /// # Errors
+    ///
+    /// As of [`new`](Self::new).
+    pub fn with_on_change(
+        breaker: Breaker,
+        on_change: impl Fn(BreakerState, BreakerState) + Send + Sync + 'static,
+    ) -> Result<Self, LimitError> {
+        Self::of(Made::Of(breaker.into()), Tells::This(Box::new(on_change)))
+    }
+
+    fn of(made: Made, tells: Tells) -> Result<Self, LimitError> {
         let began = beginning();
         let handles = PerProcess::new(Handles::of(made.handle(moment_of(began))?));
         let (reads, rests) = (made.reads(), made.rests());
-        Ok(Self { shared: Arc::new(Shared { made, began, reads, rests, handles }) })
+        Ok(Self { shared: Arc::new(Shared { made, began, reads, rests, tells, handles }) })
+    }
+
+    /// Tells what has changed, where somebody hears of it.
+    #[inline]
+    fn tell_changes(&self) {
+        if !matches!(self.shared.tells, Tells::Nobody) {
+            self.tell_of_each();
+        }
+    }
+
+    #[cold]
+    fn tell_of_each(&self) {
+        if let Tells::This(on_change) = &self.shared.tells {
+            let see = || self.seen().first().and_then(BreakerState::of);
+            changes::tell(&self.handles().changes, see, on_change);
+        }
+        if let (Tells::Parts, Made::All(limits)) = (&self.shared.tells, &self.shared.made) {
+            limits.iter().for_each(Self::tell_changes);
+        }
     }
 
     #[inline]
@@ -162,7 +217,9 @@ impl CallLimit {
     }
 
     fn by_hand(&self, change: impl FnOnce(&mut Handle<LimitKind>) -> bool) -> Result<(), LimitError> {
-        match change(&mut lock(&self.handles().root)) {
+        let is_changed = change(&mut lock(&self.handles().root));
+        self.tell_changes();
+        match is_changed {
             true => Ok(()),
             false => Err(LimitError::NoBreaker),
         }
@@ -302,7 +359,11 @@ pub fn both(first: &CallLimit, second: &CallLimit) -> Result<CallLimit, LimitErr
     if buckets.any(|bucket| bucket.cost() != cost) {
         return Err(LimitError::CostsDiffer);
     }
-    CallLimit::of(Made::All(limits))
+    let tells = match limits.iter().all(|limit| matches!(limit.shared.tells, Tells::Nobody)) {
+        true => Tells::Nobody,
+        false => Tells::Parts,
+    };
+    CallLimit::of(Made::All(limits), tells)
 }
 
 impl Made {
@@ -345,7 +406,7 @@ impl Made {
 
 impl Handles {
     fn of(root: Handle<LimitKind>) -> Self {
-        Self { root: Mutex::new(root), idle: Mutex::new(Vec::new()), looks: Slots::default() }
+        Self { root: Mutex::new(root), idle: Mutex::default(), looks: Slots::default(), changes: Mutex::default() }
     }
 
     /// A handle that looks, put here, unless there is no memory for one.
@@ -402,6 +463,7 @@ impl Request {
         let (now, word) = (self.limit.moment(), self.limit.word());
         let answer = self.handle().admit(now, word);
         self.is_admitted |= answer.is_ok();
+        self.limit.tell_changes();
         answer.map_err(|refusal| Refused::of(refusal, now))
     }
 
@@ -427,6 +489,7 @@ impl Request {
     fn draw_of(&mut self, cost: u64) -> Result<(), Refused> {
         let (now, word) = (self.limit.moment(), self.limit.word());
         let answer = self.handle().draw(now, cost, word);
+        self.limit.tell_changes();
         answer.map_err(|refusal| Refused::of(refusal, now))
     }
 
@@ -434,12 +497,14 @@ impl Request {
     pub fn failed(&mut self) {
         let now = self.limit.moment();
         self.handle().failed(now);
+        self.limit.tell_changes();
     }
 
     /// Tells that a run succeeded.
     pub fn succeeded(&mut self) {
         let now = self.limit.moment_of_success();
         self.handle().succeeded(now);
+        self.limit.tell_changes();
     }
 
     /// Tells that the latest retry is cancelled while it waits. What it cost and its slot come back, once.

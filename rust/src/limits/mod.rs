@@ -3,6 +3,7 @@
 pub(crate) mod asked;
 pub(crate) mod budget;
 pub(crate) mod call_limit;
+mod changes;
 mod counters;
 pub(crate) mod error;
 pub(crate) mod grants;
@@ -18,6 +19,7 @@ pub(crate) mod uses;
 
 pub use budget::{Budget, Pass};
 pub use call_limit::{both, CallLimit, Request};
+pub use changes::BreakerState;
 pub use error::LimitError;
 pub use grants::{AnyLimit, Grants, MayRefuse, Tickets, Unlimited};
 pub use per_key::{Keyed, PerKey};
