@@ -178,6 +178,8 @@ def _terms_and_steps(of: CallLimit) -> Tuple[str, Step]:
         *levels, refund = of.terms
         return f"bucket {'/'.join(map(str, levels))}{'+refund' * refund}", bucket_steps(*of.terms)
     if isinstance(of, Breaker):
+        if of.tells_changes:
+            raise TypeError(f"on_change: processes share {of!r}, and what others change is not told here")
         failures, results, probes, deadline, times = of.terms
         while len(times) > 1 and times[-1] == times[-2]:
             times = times[:-1]  # the last one is used again

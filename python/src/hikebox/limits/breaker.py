@@ -116,9 +116,14 @@ class Breaker(CallLimit):
         return self._failures, self._results, self._probes, self._deadline, self._times
 
     @property
+    def tells_changes(self) -> bool:
+        """Whether somebody hears of its changes."""
+        return self._on_change is not None
+
+    @property
     def REQUEST(self) -> Type[Request]:  # type: ignore[override]
         """What its requests are."""
-        return Request if self._on_change is None else WatchedRequest
+        return WatchedRequest if self.tells_changes else Request
 
     def make(self) -> LimitHandle:
         return LimitHandle.of_breaker(moment(self.clock()), *self.terms)
