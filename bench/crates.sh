@@ -2,7 +2,8 @@
 # The instructions that a call takes which succeeds at once, what its first failure takes more, and a retry that is
 # granted after others: by the Rust crate, with a policy of one node and of six, by backoff, by tower with a policy of
 # its own and by the layer of this crate for tower. Then what a refused call takes, and a success on a quota, a bucket, a
-# breaker, two of each at once, and a bound on what is in flight. Started by hand at the top of the repository:
+# breaker, two of each at once, and a bound on what is in flight; and a turn of a pace that comes at once, beside one by
+# hand. Started by hand at the top of the repository:
 # bench/crates.sh. With --check it counts tower's alone, and fails where they take too much more by this crate's layer
 # than by its own: more than 1.2 times for a success, and 2.5 times for a granted retry. It needs cargo, valgrind, what
 # tests/rust.sh installs, and librust-retry-dev of Debian. Instructions don't depend on what else the machine does.
@@ -52,3 +53,4 @@ printf 'hikebox-refused: a refused call %.0f instructions\n' "$(of hikebox-refus
 for case in quota bucket breaker four in-flight; do
   printf 'hikebox-%s: a success %.0f instructions\n' "$case" "$(of "hikebox-$case" 0)"
 done
+printf 'hikebox-pace: a turn that comes at once %.0f instructions, by hand %.0f\n' "$(of hikebox-pace 0)" "$(of plain-pace 0)"

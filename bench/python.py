@@ -18,6 +18,7 @@ import os
 import resource
 import subprocess
 import sys
+import threading
 import time
 from typing import Any, Callable, List
 
@@ -25,7 +26,7 @@ import prometheus_client
 import tenacity
 
 import hikebox
-from hikebox import Breaker, Bucket, Budget, InFlight, Quota, both, exponential, metrics, recurs, spaced
+from hikebox import Breaker, Bucket, Budget, InFlight, Pace, Quota, both, exponential, metrics, recurs, spaced
 from hikebox.retry.watch import watch
 
 ATTEMPTS = 11
@@ -156,6 +157,32 @@ def made(policy: Any) -> None:
         print(f"{what}: {own / 1000:.1f} us, of tenacity {other / 1000:.1f} us, ratio {own / other:.2f}")
 
 
+class PlainPace:
+    """A pace by hand: one number under a lock."""
+
+    def __init__(self, each: float, burst: int) -> None:
+        self.each = each
+        self.room = burst * each
+        self.due = 0.0
+        self.lock = threading.Lock()
+
+    def wait(self) -> float:
+        with self.lock:
+            now = time.monotonic()
+            self.due = max(self.due, now) + self.each
+            left = self.due - self.room - now
+        if left <= 0.0:
+            return 0.0
+        time.sleep(left)
+        return left
+
+
+def paced() -> None:
+    """Tells what a call takes that may begin at once."""
+    own, other = least(1000, calls(Pace(10**6, 1, burst=2**20).wait), calls(PlainPace(1e-6, 2**20).wait))
+    print(f"a turn of a pace that comes at once: {own / 1000:.2f} us, by hand {other / 1000:.2f} us")
+
+
 def imports(name: str) -> int:
     """The least nanoseconds of processor time in which a new interpreter imports this."""
     text = f"import time; began = time.process_time_ns(); import {name}; print(time.process_time_ns() - began)"
@@ -252,6 +279,7 @@ def main() -> None:
 
     with Budget(2**32) as budget:
         print(f"a draw: {least(1000, calls(budget.draw))[0] / 1000:.2f} us")
+    paced()
     made(policy)
     own, other = imports("hikebox"), imports("tenacity")
     print(f"the import: {own / 1e6:.1f} ms, of tenacity {other / 1e6:.1f} ms")

@@ -131,7 +131,7 @@ def test_open_times_by_their_last_one_and_long_ones(tmp_path: Path) -> None:
 
 def test_only_buckets_and_breakers_that_tell_no_changes(tmp_path: Path) -> None:
     breaker = Breaker(1, spaced(30), on_change=print)
-    with pytest.raises(TypeError, match="^on_change: processes share <Breaker.*, and what others change is not told here"):
+    with pytest.raises(TypeError, match="^on_change: processes share <Breaker.*, and what others change is not told"):
         SharedLimit(FileStore(tmp_path), "a", breaker)
     with pytest.raises(TypeError, match="expected a Bucket or a Breaker, got <InFlight"):
         SharedLimit(FileStore(tmp_path), "a", InFlight.envoy())

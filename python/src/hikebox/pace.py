@@ -98,28 +98,31 @@ class Pacing(OfOneProcess):
         once if that would be longer than `longest`, or past the deadline of the retry that makes this call. If the wait
         is ended by an exception, such as a `KeyboardInterrupt`, the call's place goes to the next one."""
         wait, left = self._taken(cost)
-        with wait:
-            if left > 0.0:
+        if left > 0.0:
+            with wait:
                 (self.sleep or sleep_now)(left)
         return left
 
     async def wait_async(self, cost: int = 1) -> float:
         """The same for a coroutine of asyncio or trio; one that is cancelled while it waits gives its place back."""
         wait, left = self._taken(cost)
-        with wait:
-            if left > 0.0:
+        if left > 0.0:
+            with wait:
                 slept = (self.sleep or sleep_here)(left)
                 if hasattr(type(slept), "__await__"):
                     await slept
         return left
 
     def _taken(self, cost: int) -> Tuple[Wait, float]:
-        """What was taken, and the seconds until then."""
+        """What was taken, and the seconds until then. Where there are none, the call begins."""
         wait = self.take(count_of("cost", cost, 1, self.terms.burst))
-        now, most = self.clock(), seconds_left()
-        left = wait.at - now
+        left = wait.at - self.clock()
+        if left <= 0.0:
+            wait.begins()
+            return wait, 0.0
+        most = seconds_left()
         if most is None or left <= most:
-            return wait, max(0.0, left)
+            return wait, left
         wait.give_back()
         wait.begins()
         raise TooSoon(left, most)

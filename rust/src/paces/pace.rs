@@ -84,18 +84,40 @@ impl Pace {
     ///
     /// If the cost is 0, or above the burst.
     pub fn take_of(&self, cost: u32) -> Result<Turn, TooSoon> {
-        let Numbers { burst, longest, .. } = self.shared.numbers;
+        let burst = self.shared.numbers.burst;
         assert!((1..=burst).contains(&cost), "expected a cost from 1 to the burst, {burst}, got {cost}");
+        let (handle, _, at) = self.taken(cost)?;
+        Ok(self.turn(handle, at))
+    }
+
+    /// A handle that took a turn, the present moment, and that of the turn.
+    #[inline]
+    fn taken(&self, cost: u32) -> Result<(Handle<PaceKind>, u64, u64), TooSoon> {
         let mut handle = self.handles().lent();
         let now = self.moment();
         match handle.take(now, cost.into()) {
-            Ok(at) => Ok(Turn::new(self.clone(), handle, self.shared.began.after(Duration::from_millis(at)))),
+            Ok(at) => Ok((handle, now, at)),
             Err(again) => {
                 self.put_back(handle);
                 let again = Duration::from_millis(again.saturating_sub(now));
-                Err(TooSoon::new(again, Duration::from_millis(longest)))
+                Err(TooSoon::new(again, Duration::from_millis(self.shared.numbers.longest)))
             }
         }
+    }
+
+    fn turn(&self, handle: Handle<PaceKind>, at: u64) -> Turn {
+        Turn::new(self.clone(), handle, self.shared.began.after(Duration::from_millis(at)))
+    }
+
+    /// Takes a turn; `None` where it is now, and so is used.
+    #[inline]
+    fn later(&self) -> Result<Option<Turn>, TooSoon> {
+        let (handle, now, at) = self.taken(1)?;
+        if at > now {
+            return Ok(Some(self.turn(handle, at)));
+        }
+        self.put_back(handle);
+        Ok(None)
     }
 
     /// Waits until a call may begin, and returns for how long it slept. It blocks the thread. (By [`Turn::within`] the
@@ -105,7 +127,7 @@ impl Pace {
     ///
     /// [`TooSoon`], at once, if that would be longer than it may.
     pub fn wait(&self) -> Result<Duration, TooSoon> {
-        self.take().map(Turn::wait)
+        Ok(self.later()?.map_or(Duration::ZERO, Turn::wait))
     }
 
     /// [`Pace::wait`] by tokio's timer. If its future is dropped while it waits, the turn is given back.
@@ -115,7 +137,10 @@ impl Pace {
     /// As of [`Pace::wait`].
     #[cfg(feature = "tokio")]
     pub async fn wait_async(&self) -> Result<Duration, TooSoon> {
-        let turn = self.take()?;
+        let turn = match self.later()? {
+            None => return Ok(Duration::ZERO),
+            Some(turn) => turn,
+        };
         Ok(turn.wait_async().await)
     }
 

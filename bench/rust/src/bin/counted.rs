@@ -2,12 +2,14 @@
 //! case names, for bench/crates.sh, which counts the instructions. No run waits.
 
 use hikebox::{
-    both, Breaker, Bucket, Budget, CallLimit, InFlight, Policy, Quota, RetryLayer, Retrying, Schedule, Terms,
+    both, Breaker, Bucket, Budget, CallLimit, InFlight, Pace, Policy, Quota, Rate, RetryLayer, Retrying, Schedule,
+    Terms,
 };
 use std::convert::Infallible;
 use std::future::{ready, Future, Ready};
+use std::sync::atomic::{AtomicU64, Ordering};
 use std::sync::{Arc, Mutex};
-use std::time::Duration;
+use std::time::{Duration, Instant};
 use tower::retry::budget;
 use tower::{service_fn, Layer, Service, ServiceExt};
 
@@ -35,6 +37,18 @@ fn main() {
             limited_calls(&both(&two(), &two()).expect("four limits"), failures, count);
         }
         "hikebox-in-flight" => limited_calls(&limit(InFlight::envoy(20.0, 3).expect("a share")), failures, count),
+        "hikebox-pace" => {
+            let pace = Pace::new(Rate::new(1_000_000, Duration::from_secs(1)).burst(1 << 20)).expect("a pace");
+            for _ in 0..count {
+                black_box(pace.wait().expect("a turn"));
+            }
+        }
+        "plain-pace" => {
+            let pace = PlainPace { began: Instant::now(), due: AtomicU64::new(0), each: 1000, burst: 1000 << 20 };
+            for _ in 0..count {
+                black_box(pace.wait());
+            }
+        }
         "backoff" => backoff_calls(failures, count),
         "tower" => {
             let budget = Arc::new(budget::Budget::new(WINDOW, 1_000_000, 1.0));
@@ -116,6 +130,35 @@ fn refused_calls(policy: &Policy, count: u32) {
     let budget = Budget::new(0).expect("a budget");
     for _ in 0..count {
         black_box(hikebox::retry(policy, &budget, || Err::<(), u32>(black_box(2))).expect_err("no ticket"));
+    }
+}
+
+/// A pace by hand: the formula of the crate governor, in nanoseconds.
+struct PlainPace {
+    began: Instant,
+    /// Up to when the calls so far use the rate up.
+    due: AtomicU64,
+    each: u64,
+    burst: u64,
+}
+
+impl PlainPace {
+    fn wait(&self) -> Duration {
+        let now = self.began.elapsed().as_nanos() as u64;
+        let mut due = self.due.load(Ordering::Acquire);
+        loop {
+            let next = due.max(now) + self.each;
+            match self.due.compare_exchange_weak(due, next, Ordering::AcqRel, Ordering::Acquire) {
+                Ok(_) => {
+                    let left = Duration::from_nanos(next.saturating_sub(now + self.burst));
+                    if !left.is_zero() {
+                        std::thread::sleep(left);
+                    }
+                    return left;
+                }
+                Err(other) => due = other,
+            }
+        }
     }
 }
 
