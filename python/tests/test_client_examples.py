@@ -1,10 +1,17 @@
-"""The examples of other clients, in examples/clients: with a redis-server, with SQLite, and with botocore's stub."""
+"""The examples of other clients, in examples/clients: with a redis-server, with SQLite, with PostgreSQL where it is
+installed, and with botocore's stub."""
 
 from __future__ import annotations
 
+import os
+import shutil
 import sqlite3
+import subprocess
+import tempfile
+import threading
+import time
 from pathlib import Path
-from typing import Any, Dict
+from typing import Any, Dict, Iterator
 
 import pytest
 
@@ -75,6 +82,90 @@ def test_sqlalchemy_says_what_is_wrong_at_once(monkeypatch: Any) -> None:
         names["add"]("Ada")
     assert names["add"].retry.statistics.not_retried == 1
     names["engine"].dispose()
+
+
+@pytest.fixture
+def postgres() -> Iterator[str]:
+    """A server of PostgreSQL of its own: what a client connects to."""
+    pytest.importorskip("psycopg")
+    programs = sorted(Path("/usr/lib/postgresql").glob("*/bin"))
+    if not programs:
+        pytest.skip("there is no server of PostgreSQL")
+    folder = tempfile.mkdtemp(prefix="hikebox-", dir="/tmp")  # (the name of a socket is short)
+    how: Dict[str, Any] = {"stdout": subprocess.DEVNULL, "stderr": subprocess.DEVNULL}
+    if os.getuid() == 0:  # (it does not run as root)
+        shutil.chown(folder, "postgres", "postgres")
+        how.update(user="postgres", group="postgres", extra_groups=[])
+    made = [
+        f"{programs[-1]}/initdb",
+        "-D",
+        f"{folder}/data",
+        "-A",
+        "trust",
+        "-U",
+        "postgres",
+        "--no-sync",
+        "--locale=C",
+        "-EUTF8",
+    ]
+    subprocess.run(made, check=True, cwd=folder, **how)
+    words = [f"{programs[-1]}/postgres", "-D", f"{folder}/data", "-k", folder, "-c", "listen_addresses=", "-F"]
+    server = subprocess.Popen(words, cwd=folder, **how)
+    try:
+        yield f"host={folder} user=postgres dbname=postgres"
+    finally:
+        server.send_signal(2)
+        server.wait()
+        shutil.rmtree(folder)
+
+
+def connected(database: str) -> Any:
+    """A connection, as soon as the server answers."""
+    import psycopg
+
+    while True:
+        try:
+            return psycopg.connect(database, autocommit=True)
+        except psycopg.OperationalError:
+            time.sleep(0.05)
+
+
+#: Each row that is inserted waits for a lock, which a transaction holds up to its end.
+NAMES = """
+create table names (number integer, name text);
+create function waits() returns trigger language plpgsql as $$
+    begin perform pg_advisory_xact_lock(1); return new; end $$;
+create trigger waits before insert on names for each row execute function waits()
+"""
+
+
+def test_postgres_finds_a_conflict(postgres: str, monkeypatch: Any) -> None:
+    other = connected(postgres)
+    other.execute(NAMES)
+    monkeypatch.setenv("DATABASE", postgres)
+    names = names_of("with_psycopg.py")
+    clock, errors = VirtualClock(), []
+
+    def note(state: Any) -> None:
+        errors.append(type(state.outcome.exception()).__name__)
+
+    add = names["add"].retry_with(before_sleep=note, clock=clock, sleep=clock.sleep)
+    # The first attempt has counted, and waits for the lock; then another transaction, which counted too, commits.
+    other.execute("select pg_advisory_lock(1)")
+    thread = threading.Thread(target=add, args=("Ada",))
+    thread.start()
+    while other.execute("select count(*) from pg_locks where locktype = 'advisory' and not granted").fetchone() != (1,):
+        time.sleep(0.01)
+    other.execute("begin isolation level serializable")
+    other.execute("select count(*) from names")
+    other.execute("insert into names values (1, 'Grace')")
+    other.execute("commit")
+    other.execute("select pg_advisory_unlock(1)")
+    thread.join()
+    assert errors == ["SerializationFailure"]
+    assert other.execute("select * from names order by number").fetchall() == [(1, "Grace"), (2, "Ada")]
+    other.close()
+    names["connection"].close()
 
 
 def test_aws_throttles_and_then_answers(monkeypatch: Any) -> None:

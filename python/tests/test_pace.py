@@ -439,7 +439,7 @@ def test_a_signal_ends_the_wait_for_a_pace(tmp_path: Path, start: Any) -> None: 
 @pytest.mark.parametrize(
     ("pace", "told"),
     [
-        ("10/1s", "--pace: expected RUNS/PERIOD@FOLDER, such as 10/1s@/run/lock/jobs, got '10/1s'"),
+        ("10/1s", "--pace: expected RUNS/PERIOD[/BURST]@FOLDER, such as 10/1s@/run/lock/jobs, got '10/1s'"),
         ("10/1@/tmp", "--pace: expected RUNS/PERIOD or RUNS/PERIOD/BURST, such as 10/1s or 100/1m/20"),
         ("0/1s@/tmp", "--pace: calls: expected 1 to 1099511627776, got 0"),
     ],

@@ -71,7 +71,7 @@ def pace(text: str) -> LeasedPace:
     """The pace that all runs keep which name it and its folder, as `10/1s@/run/lock/jobs`."""
     spelt, at, path = text.partition("@")
     if not (at and path):
-        raise LimitError(f"--pace: expected RUNS/PERIOD@FOLDER, such as 10/1s@/run/lock/jobs, got {text!r}")
+        raise LimitError(f"--pace: expected RUNS/PERIOD[/BURST]@FOLDER, such as 10/1s@/run/lock/jobs, got {text!r}")
     try:
         calls, per, burst = values.pace(spelt)
         return LeasedPace(FileStore(os.path.expanduser(path)), "run", calls, per, burst=burst)
