@@ -3,12 +3,13 @@
 use hikebox::RefusalReason::{BreakerOpen, RequestsFull};
 use hikebox::{
     both, Adaptive, Breaker, BreakerState, Bucket, CallLimit, InFlight, LimitError, LimitState, Policy, Request,
-    Throttle,
+    RetryError, Retrying, Throttle,
 };
+use std::cell::Cell;
 use std::panic::{catch_unwind, AssertUnwindSafe};
 use std::sync::{Arc, Mutex};
 use std::thread;
-use std::time::Duration;
+use std::time::{Duration, Instant};
 
 fn policy(json: &str) -> Policy {
     json.parse().unwrap()
@@ -245,5 +246,109 @@ fn terms_out_of_range() {
     out_of_range(Adaptive { first: 300, ..adaptive }.into(), "first");
     for backoff in [0.0, 1.0, 1.5, f64::NAN] {
         out_of_range(Adaptive { backoff, ..adaptive }.into(), "backoff");
+    }
+}
+
+/// A clock that stands still but for what it is told, and a breaker that two failures open.
+fn slow_world() -> (Cell<Duration>, CallLimit) {
+    let breaker = CallLimit::new(Breaker::consecutive(2, policy(r#"{"spaced":30000}"#))).unwrap();
+    (Cell::new(Duration::ZERO), breaker)
+}
+
+#[test]
+fn a_success_that_takes_longer_is_a_failure_to_its_limit() {
+    let (passed, breaker) = slow_world();
+    let began = Instant::now();
+    let plan = policy(r#"{"recurs":3}"#);
+    let retrying = Retrying::new(&plan, &breaker).slow(Duration::from_secs(2)).clock(|| began + passed.get());
+    let answers_after = |millis: u64| {
+        let answer = retrying.call(|| {
+            passed.set(passed.get() + Duration::from_millis(millis));
+            Ok::<_, String>(millis)
+        });
+        assert_eq!(answer, Ok(millis));
+        one(&breaker)
+    };
+    assert_eq!(answers_after(2000), LimitState::Closed { failures: 0 });
+    assert_eq!(answers_after(2001), LimitState::Closed { failures: 1 });
+    assert_eq!(answers_after(2000), LimitState::Closed { failures: 0 });
+    assert_eq!(answers_after(2001), LimitState::Closed { failures: 1 });
+    assert!(matches!(answers_after(9000), LimitState::Open { trip: 1, .. }));
+    let answer = retrying.call(|| Ok::<(), String>(()));
+    assert!(matches!(answer, Err(RetryError::NotAdmitted(refused)) if refused.reason() == BreakerOpen));
+}
+
+#[test]
+fn each_run_is_slow_from_its_own_beginning() {
+    let (passed, breaker) = slow_world();
+    let began = Instant::now();
+    let plan = policy(r#"{"meet":[{"recurs":1},{"spaced":9000}]}"#);
+    let sleeps = |time: Duration| passed.set(passed.get() + time);
+    let retrying = Retrying::new(&plan, &breaker).slow(Duration::from_secs(2)).clock(|| began + passed.get());
+    let retrying = retrying.sleep(sleeps);
+    for (second, failures) in [(1500, 0), (2500, 2)] {
+        let answer = retrying.call_with(|attempt| {
+            sleeps(Duration::from_millis([1500, second][attempt.number() as usize - 1]));
+            match attempt.number() {
+                1 => Err("down"),
+                _ => Ok(5),
+            }
+        });
+        assert_eq!(answer, Ok(5));
+        match failures {
+            0 => assert_eq!(one(&breaker), LimitState::Closed { failures }),
+            _ => assert!(matches!(one(&breaker), LimitState::Open { trip: 1, .. })),
+        }
+    }
+}
+
+#[cfg(feature = "tokio")]
+#[tokio::test(start_paused = true)]
+async fn of_hedged_runs_the_one_that_wins_is_looked_at() {
+    use hikebox::AttemptTimeout;
+    use tokio::time::{sleep, Instant};
+
+    #[derive(Debug, PartialEq)]
+    struct Late;
+
+    impl From<AttemptTimeout> for Late {
+        fn from(_: AttemptTimeout) -> Self {
+            Self
+        }
+    }
+
+    // The first run is late at 100 ms, and then the second begins, which is over at 150, or else the first at 300.
+    for (second, failures) in [(50, 0), (900, 2)] {
+        let breaker = CallLimit::new(Breaker::consecutive(2, policy(r#"{"spaced":30000}"#))).unwrap();
+        let plan = policy(r#"{"meet":[{"recurs":1},{"spaced":0}]}"#);
+        let retrying = Retrying::new(&plan, &breaker).slow(Duration::from_millis(200));
+        let retrying = retrying.hedge_after(Duration::from_millis(100));
+        let began = Instant::now();
+        let answer = retrying.call_async_with(|attempt| async move {
+            sleep(Duration::from_millis([300, second][attempt.number() as usize - 1])).await;
+            Ok::<_, Late>(attempt.number())
+        });
+        assert_eq!(answer.await, Ok(if failures == 0 { 2 } else { 1 }), "{:?}", began.elapsed());
+        match failures {
+            0 => assert_eq!(one(&breaker), LimitState::Closed { failures }),
+            _ => assert!(matches!(one(&breaker), LimitState::Open { trip: 1, .. })),
+        }
+    }
+}
+
+#[cfg(feature = "tower")]
+#[tokio::test(start_paused = true)]
+async fn a_slow_response_of_a_service_is_a_failure_to_its_limit() {
+    use tower::{Layer, Service, ServiceExt};
+
+    let (_, breaker) = slow_world();
+    let slow = hikebox::RetryLayer::new(policy(r#"{"recurs":1}"#), breaker.clone()).slow(Duration::from_millis(200));
+    let mut service = slow.layer(tower::service_fn(|millis: u64| async move {
+        tokio::time::sleep(Duration::from_millis(millis)).await;
+        Ok::<_, std::io::Error>(millis)
+    }));
+    for (millis, failures) in [(200, 0), (201, 1), (50, 0), (300, 1)] {
+        assert_eq!(service.ready().await.unwrap().call(millis).await.unwrap(), millis);
+        assert_eq!(one(&breaker), LimitState::Closed { failures });
     }
 }

@@ -9,6 +9,7 @@ use crate::retry::host::{Host, Random};
 use crate::retry::machine::Ending;
 use crate::retry::progress::{Lost, Progress};
 use crate::retry::retrying::Retrying;
+use std::mem;
 use std::time::Duration;
 
 /// A run of a call, as [`Retrying::call_with`] passes it.
@@ -60,9 +61,14 @@ impl<E, H: Hooked<E>, K: Clock, S, R: Random, T, L: MayRefuse> Retrying<'_, E, (
 
     /// A request whose first run succeeded.
     #[inline]
-    pub(crate) fn succeeds_at_once(&self, held: &mut L::Held, course: &mut Course) {
-        course.won();
-        held.succeeded_at_once(self.rules.limit(), &|| self.host.clock.moment());
+    pub(crate) fn succeeds_at_once(&self, began: Moment, held: &mut L::Held, course: &mut Course) {
+        match self.rules.options.slow {
+            None => {
+                course.won();
+                held.succeeded_at_once(self.rules.limit(), &|| self.host.clock.moment());
+            }
+            Some(_) => self.succeeds(&mut Progress::new(began, mem::take(held)), course),
+        }
     }
 
     /// The first run, which begins with the retry.
@@ -128,13 +134,13 @@ impl<E, H: Hooked<E>, K: Clock, S, R: Random, T, L: MayRefuse> Retrying<'_, E, (
 
     #[cold]
     fn succeeded(&self, progress: &mut Progress) {
-        progress.succeeded(self.rules.limit(), &|| self.host.clock.moment());
+        progress.succeeded(self.rules.limit(), &self.rules.options, &|| self.host.clock.moment());
     }
 
     /// The next run, which begins after the wait for it, or how the retry ended.
     #[inline]
     pub(crate) fn next(&self, progress: &mut Progress, last: Attempt) -> Result<Attempt, Ending> {
-        let began = progress.resume(|| self.host.clock.moment())?;
+        let began = progress.resume(&self.rules.options, || self.host.clock.moment())?;
         let left = |(deadline, now): (Duration, Moment)| deadline.saturating_sub(progress.passed(now));
         Ok(Attempt { number: last.number + 1, left: self.rules.options.deadline.zip(began).map(left) })
     }

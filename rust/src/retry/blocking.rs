@@ -119,7 +119,7 @@ impl<E, H: Hooked<E>, K: Clock, S: Sleep, R: Random, L: MayRefuse> Retrying<'_, 
         let ((began, mut held), first) = (self.begins(&mut course)?, self.first());
         match course.run(|| call(first)) {
             Ok(value) => {
-                self.succeeds_at_once(&mut held, &mut course);
+                self.succeeds_at_once(began, &mut held, &mut course);
                 Ok(value)
             }
             Err(error) => self.calls_again(Progress::new(began, held), course, error, call),

@@ -154,6 +154,15 @@ impl<Request, Response, E> RetryLayer<Request, Response, E> {
     }
 }
 
+impl<Request, Response, E> RetryLayer<Request, Response, E, Refused> {
+    /// How long a run may take: to the [`CallLimit`](crate::CallLimit) a response that took longer is a failure. The
+    /// service answers it all the same.
+    pub fn slow(mut self, time: Duration) -> Self {
+        self.set().rules.options.slow = Some(time);
+        self
+    }
+}
+
 impl<Request, Response, E, L> RetryLayer<Request, Response, E, L> {
     /// Retries only the errors for which this returns true.
     pub fn when(mut self, when: impl Fn(&E) -> bool + Send + Sync + 'static) -> Self {

@@ -1,6 +1,6 @@
 //! The options that retries of all kinds have.
 
-use crate::clock::whole_millis;
+use crate::clock::{whole_millis, Moment};
 use std::time::Duration;
 
 /// The options of a retry, with what they are unless a builder says otherwise.
@@ -8,6 +8,8 @@ use std::time::Duration;
 pub(crate) struct Options {
     /// How long after the first run began the last one may begin.
     pub(crate) deadline: Option<Duration>,
+    /// After how long a success is a failure to a limit that is asked before the first run.
+    pub(crate) slow: Option<Duration>,
     /// How long an error may ask to wait.
     pub(crate) max_retry_after: Duration,
     /// Whether a function is called before each retry, which may take its time.
@@ -22,6 +24,12 @@ impl Options {
     #[inline]
     pub(crate) fn whole_deadline(&self) -> Option<Duration> {
         self.deadline.map(|deadline| Duration::from_millis(whole_millis(deadline)))
+    }
+
+    /// Whether a run that began then and succeeded now was slow.
+    #[inline]
+    pub(crate) fn was_slow(&self, began: Moment, clock: impl FnOnce() -> Moment) -> bool {
+        self.slow.map_or(false, |slow| clock().since(began) > slow)
     }
 
     /// The wait that is granted to an error that asks for this one so long after the first run began; `None` where the
@@ -44,6 +52,7 @@ impl Default for Options {
     fn default() -> Self {
         Self {
             deadline: None,
+            slow: None,
             max_retry_after: Duration::from_secs(6 * 3600),
             notifies: false,
             #[cfg(any(feature = "prometheus", feature = "tracing"))]

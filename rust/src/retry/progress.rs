@@ -28,6 +28,8 @@ pub(crate) struct Lost {
 #[derive(Debug)]
 pub(crate) struct Progress {
     began: Moment,
+    /// When the run began that is under way, where somebody wants to know whether it is slow.
+    run_began: Moment,
     running: Option<Running>,
     /// What admitted it, of a limit that was looked at before the first run, until that fails.
     quiet: Option<Quiet>,
@@ -53,7 +55,7 @@ impl Progress {
     #[inline]
     pub(crate) fn new(now: Moment, held: impl Held) -> Self {
         let (quiet, request) = held.parted();
-        Self { began: now, running: None, quiet, request }
+        Self { began: now, run_began: now, running: None, quiet, request }
     }
 
     /// How long ago the first run began.
@@ -119,10 +121,26 @@ impl Progress {
         }
     }
 
-    /// The run under way succeeded, and ends the retry: this limit counts it, or the one that was asked.
-    pub(crate) fn succeeded(&mut self, limit: &dyn Limit, clock: &dyn Fn() -> Moment) {
+    /// When the run under way began, or that of these that succeeded.
+    pub(crate) fn run_began(&self) -> Moment {
+        self.run_began
+    }
+
+    /// The run that succeeded is the one that began then.
+    pub(crate) fn won_by(&mut self, run_began: Moment) {
+        self.run_began = run_began;
+    }
+
+    /// The run under way succeeded, and ends the retry: this limit counts it, or the one that was asked, to which a slow
+    /// one is a failure.
+    pub(crate) fn succeeded(&mut self, limit: &dyn Limit, options: &Options, clock: &dyn Fn() -> Moment) {
         let last = self.running.as_mut().and_then(|running| running.machine.succeeded());
+        let was_slow = self.has_request() && options.was_slow(self.run_began, clock);
+        if was_slow {
+            self.failed(limit);
+        }
         match (&self.request, self.quiet.take().zip(limit.call_limit())) {
+            (Some(_), _) if was_slow => {}
             (Some(request), _) => request.succeeded(),
             (None, Some((quiet, limit))) => limit.settle(&quiet),
             (None, None) => limit.count_success(last, clock),
@@ -145,7 +163,10 @@ impl Progress {
     /// Begins the run that was waited for. Past the deadline the retry is over. `None` is answered where nobody had to
     /// look at the clock: a retry without a deadline takes the run to begin when it is due.
     #[inline]
-    pub(crate) fn resume(&mut self, clock: impl FnOnce() -> Moment) -> Result<Option<Moment>, Ending> {
+    pub(crate) fn resume(&mut self, options: &Options, clock: impl Fn() -> Moment) -> Result<Option<Moment>, Ending> {
+        if options.slow.is_some() {
+            self.run_began = clock();
+        }
         let began = self.began;
         let running = match &mut self.running {
             Some(running) => running,

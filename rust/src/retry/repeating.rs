@@ -280,7 +280,8 @@ impl<T, C: Fn(&T) -> u64, K: Clock, S, R: Random> Repeating<'_, T, C, Host<K, S,
 
     /// Begins the next run, which was waited for after this value.
     fn resume<E>(&self, progress: &mut Progress, value: T) -> Result<(), RepeatError<T, E>> {
-        progress.resume(|| self.host.clock.moment()).map(|_| ()).map_err(|ended| RepeatError::of(ended, value))
+        let resumed = progress.resume(&self.rules.options, || self.host.clock.moment());
+        resumed.map(|_| ()).map_err(|ended| RepeatError::of(ended, value))
     }
 }
 

@@ -1,6 +1,7 @@
 //! Retries of calls: their settings.
 
 use crate::limits::grants::Grants;
+use crate::limits::refused::Refused;
 use crate::policy::Policy;
 use crate::retry::hooks::{Hooked, Hooks, PlainHooks, SharedHooks};
 use crate::retry::host::{Host, SystemHost};
@@ -200,6 +201,28 @@ impl<'a, E, F, H, M, L> Retrying<'a, E, F, H, M, L> {
     pub(super) fn parted(self) -> (Retrying<'a, E, (), H, M, L>, F) {
         let Self { rules, call, hooks, host, error } = self;
         (Retrying { rules, call: (), hooks, host, error }, call)
+    }
+}
+
+impl<E, F, H, M> Retrying<'_, E, F, H, M, Refused> {
+    /// How long a run may take: to the [`CallLimit`](crate::CallLimit) a success that took longer is a failure. The call
+    /// answers it all the same.
+    ///
+    /// ```
+    /// use hikebox::{Breaker, CallLimit, LimitState, Policy, Retrying};
+    /// use std::{thread::sleep, time::Duration};
+    ///
+    /// let policy: Policy = r#"{"recurs":3}"#.parse()?;
+    /// let breaker = CallLimit::new(Breaker::consecutive(2, r#"{"spaced":30000}"#.parse()?))?;
+    /// let retrying = Retrying::new(&policy, &breaker).slow(Duration::from_millis(1));
+    /// let answer = retrying.call(|| Ok::<_, String>(sleep(Duration::from_millis(2))));
+    /// assert_eq!(answer, Ok(()));
+    /// assert_eq!(breaker.seen(), [LimitState::Closed { failures: 1 }]);
+    /// # Ok::<(), Box<dyn std::error::Error>>(())
+    /// ```
+    pub fn slow(mut self, time: Duration) -> Self {
+        self.rules.options.slow = Some(time);
+        self
     }
 }
 

@@ -1,5 +1,6 @@
 //! The runs of a call that are under way at once.
 
+use crate::clock::Moment;
 use crate::retry::asynchronous::AsyncSleep;
 use crate::retry::timed::{AttemptTimeout, Timed};
 use std::future::Future;
@@ -19,8 +20,8 @@ pub(super) struct Runs<'h, P, E, S: AsyncSleep> {
 
 /// What happened.
 pub(super) enum Event<T, E> {
-    /// A run succeeded.
-    Won(T),
+    /// A run succeeded, which began then.
+    Won(T, Moment),
     /// A run failed, or took too long.
     Lost { error: E, was_late: bool },
     /// The latest run is late, and goes on.
@@ -31,6 +32,7 @@ pub(super) enum Event<T, E> {
 
 struct Run<P, E, Z> {
     call: Pin<Box<P>>,
+    began: Moment,
     /// Until it takes too long.
     ends: Timer<Z>,
     is_late: bool,
@@ -55,11 +57,11 @@ impl<'h, P, E, S: AsyncSleep> Runs<'h, P, E, S> {
     }
 
     /// This one begins.
-    pub(super) fn begin(&mut self, call: P) {
+    pub(super) fn begin(&mut self, call: P, began: Moment) {
         let Self { sleep, timed, .. } = self;
         let ends = Timer::after(*sleep, timed.attempt_timeout);
         self.timer = Timer::after(*sleep, timed.hedge_after);
-        self.under_way.push(Run { call: Box::pin(call), ends, is_late: false, lost: None });
+        self.under_way.push(Run { call: Box::pin(call), began, ends, is_late: false, lost: None });
     }
 
     /// The next one is due after this wait.
@@ -90,7 +92,7 @@ where
         let is_due = runs.timer.is_over(cx);
         for run in &mut runs.under_way {
             if let Some(value) = run.won(runs.timed, cx) {
-                return Poll::Ready(Event::Won(value));
+                return Poll::Ready(Event::Won(value, run.began));
             }
         }
         for place in 0..runs.under_way.len() {

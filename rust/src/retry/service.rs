@@ -147,10 +147,11 @@ impl<S: Service<Request>, Request, L: MayRefuse> Retries<S, Request, L> {
     #[inline]
     fn succeeded(&mut self) {
         self.course.won();
-        let source = &self.settings.source;
+        let (source, options) = (&self.settings.source, &self.settings.rules.options);
         match &mut self.progress {
-            Some(progress) => progress.succeeded(source, &Moment::now),
-            None => self.held.succeeded_at_once(source, &Moment::now),
+            Some(progress) => progress.succeeded(source, options, &Moment::now),
+            None if options.slow.is_none() => self.held.succeeded_at_once(source, &Moment::now),
+            None => Progress::new(self.began, mem::take(&mut self.held)).succeeded(source, options, &Moment::now),
         }
     }
 
@@ -167,7 +168,7 @@ impl<S: Service<Request>, Request, L: MayRefuse> Retries<S, Request, L> {
 
     /// Begins the next run, unless the deadline has come.
     fn begin(&mut self) -> Option<S::Future> {
-        if let Err(ended) = self.progress.as_mut()?.resume(Moment::now) {
+        if let Err(ended) = self.progress.as_mut()?.resume(&self.settings.rules.options, Moment::now) {
             self.gave_up(ended);
             return None;
         }

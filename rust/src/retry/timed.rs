@@ -175,13 +175,14 @@ impl<E, H: Hooked<E>, K: Clock, S: AsyncSleep, R: Random, L: MayRefuse>
         let mut progress = self.begin(&mut course)?;
         let mut attempt = self.first();
         let mut runs = Runs::new(&self.host.sleep, self.host.timed);
-        runs.begin(course.run_of(call(attempt)));
+        runs.begin(course.run_of(call(attempt)), progress.run_began());
         // how the retry ended, while runs are still under way, and the latest error
         let (mut ended, mut last) = (None, None);
         loop {
             let follows = match (&mut runs).await {
-                Event::Won(value) => {
+                Event::Won(value, began) => {
                     progress.withdraw();
+                    progress.won_by(began);
                     self.succeeds(&mut progress, &mut course);
                     return Ok(value);
                 }
@@ -195,7 +196,7 @@ impl<E, H: Hooked<E>, K: Clock, S: AsyncSleep, R: Random, L: MayRefuse>
                 },
                 Event::Due => self.next(&mut progress, attempt).map(|next| {
                     attempt = next;
-                    runs.begin(course.run_of(call(attempt)));
+                    runs.begin(course.run_of(call(attempt)), progress.run_began());
                     None
                 }),
             };
