@@ -3,6 +3,7 @@
 use super::sys::*;
 use super::{Handle, Kind, Status};
 use std::mem;
+use std::mem::MaybeUninit;
 
 /// The kind of a limit.
 #[derive(Debug)]
@@ -86,13 +87,24 @@ impl Handle<LimitKind> {
         debug_assert_eq!(status, OK);
     }
 
-    /// What a look sees of its limits, where these are quiet and it has no request.
+    /// Looks whether its limits are quiet, where it has no request; what it sees of them is put here.
     #[inline]
-    pub(crate) fn look(&mut self) -> Option<Seen> {
-        let (mut seen, mut quiet) = (Seen::default(), false);
-        let status = unsafe { hikebox_limit_look(self.raw(), &mut seen, &mut quiet) };
+    pub(crate) fn look(&mut self, seen: &mut Seen) -> bool {
+        self.looks(seen)
+    }
+
+    /// Whether its limits are quiet, where it has no request.
+    #[inline]
+    pub(crate) fn is_quiet(&mut self) -> bool {
+        self.looks(MaybeUninit::uninit().as_mut_ptr())
+    }
+
+    #[inline]
+    fn looks(&mut self, seen: *mut Seen) -> bool {
+        let mut quiet = false;
+        let status = unsafe { hikebox_limit_look(self.raw(), seen, &mut quiet) };
         debug_assert_eq!(status, OK);
-        quiet.then_some(seen)
+        quiet
     }
 
     /// A request begins that was admitted when a quiet look saw this; whether it does.

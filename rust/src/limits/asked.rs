@@ -41,11 +41,20 @@ impl Quiet {
 impl Asked {
     /// Looks at the limit, and asks it where it is not quiet.
     #[inline]
-    pub(crate) fn of(limit: &CallLimit) -> Result<Self, Refused> {
+    pub(crate) fn ask(&mut self, limit: &CallLimit) -> Result<(), Refused> {
         match limit.look() {
-            Some(quiet) => Ok(Self::Quiet(quiet)),
-            None => limit.admitted().map(Self::Admitted),
+            Some(quiet) => {
+                *self = Self::Quiet(quiet);
+                Ok(())
+            }
+            None => self.ask_for_a_request(limit),
         }
+    }
+
+    #[inline(never)]
+    fn ask_for_a_request(&mut self, limit: &CallLimit) -> Result<(), Refused> {
+        *self = Self::Admitted(limit.admitted()?);
+        Ok(())
     }
 }
 

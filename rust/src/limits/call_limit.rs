@@ -1,7 +1,7 @@
 //! Limits of other systems, which a call asks before its first run too.
 
 use crate::clock::{beginning, whole_millis, Moment};
-use crate::engine::{Handle, LimitKind, MAX_NUMBER};
+use crate::engine::{Handle, LimitKind, Seen, MAX_NUMBER};
 use crate::limits::asked::Quiet;
 use crate::limits::changes::{self, BreakerState, Changes, OnChange};
 use crate::limits::error::LimitError;
@@ -228,19 +228,15 @@ impl CallLimit {
     /// What a look of this thread's handle sees, where the limit is quiet.
     #[inline]
     pub(crate) fn look(&self) -> Option<Quiet> {
-        if !self.shared.rests {
-            return None;
-        }
-        let seen = self.by_looks(Handle::look)??;
-        Some(Quiet::of(seen))
+        let mut seen = Seen::default();
+        (self.shared.rests && self.by_looks(|handle| handle.look(&mut seen))).then(|| Quiet::of(seen))
     }
 
     /// The first run of a call succeeded that a look admitted. Where the limit is quiet again, all calls of its request
     /// are made at this look.
     #[inline]
     pub(crate) fn settle(&self, quiet: &Quiet) {
-        let is_settled = quiet.is_of_this_process() && self.by_looks(Handle::look).flatten().is_some();
-        if !is_settled {
+        if !(quiet.is_of_this_process() && self.by_looks(Handle::is_quiet)) {
             self.begun(quiet).succeeded();
         }
     }
@@ -256,15 +252,15 @@ impl CallLimit {
         request
     }
 
-    /// What the call gives, which has the handle of this thread that looks; `None` where another thread uses that.
-    #[inline]
-    fn by_looks<R>(&self, call: impl FnOnce(&mut Handle<LimitKind>) -> R) -> Option<R> {
+    /// Whether the handle of this thread that looks finds it so; not where another thread uses that.
+    #[inline(always)]
+    fn by_looks(&self, look: impl FnOnce(&mut Handle<LimitKind>) -> bool) -> bool {
         let handles = self.handles();
         let of = |own: &mut Option<Handle<LimitKind>>| match own {
-            Some(handle) => Some(call(handle)),
-            None => handles.looker(own).map(call),
+            Some(handle) => look(handle),
+            None => handles.looker(own).map_or(false, look),
         };
-        handles.looks.own(of).flatten()
+        handles.looks.own(of).unwrap_or(false)
     }
 
     /// A request that is admitted.

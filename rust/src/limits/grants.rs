@@ -216,8 +216,8 @@ mod sealed {
         /// What a call that is admitted holds.
         type Held: Held;
 
-        /// Asks, where the limit is one that is asked.
-        fn admitted(limit: &dyn Limit) -> Result<Self::Held, Self>;
+        /// Asks, where the limit is one that is asked; what the call then holds is put here.
+        fn admit(limit: &dyn Limit, held: &mut Self::Held) -> Result<(), Self>;
 
         /// Why it refused, by the name that is told.
         fn why(&self) -> &'static str;
@@ -244,7 +244,7 @@ mod sealed {
         type Held = ();
 
         #[inline]
-        fn admitted(_: &dyn Limit) -> Result<(), Self> {
+        fn admit(_: &dyn Limit, _: &mut ()) -> Result<(), Self> {
             Ok(())
         }
 
@@ -269,8 +269,11 @@ mod sealed {
         type Held = Asked;
 
         #[inline]
-        fn admitted(limit: &dyn Limit) -> Result<Asked, Self> {
-            limit.call_limit().map_or(Ok(Asked::Nothing), Asked::of)
+        fn admit(limit: &dyn Limit, held: &mut Asked) -> Result<(), Self> {
+            match limit.call_limit() {
+                Some(limit) => held.ask(limit),
+                None => Ok(()),
+            }
         }
 
         fn why(&self) -> &'static str {

@@ -43,20 +43,21 @@ impl<E, H: Hooked<E>, K: Clock, S, R: Random, T, L: MayRefuse> Retrying<'_, E, (
     /// A request, and its retry, whose first run begins.
     #[inline]
     pub(crate) fn begin(&self, course: &mut Course) -> Result<Progress, RetryError<E, L>> {
-        let (now, held) = self.begins(course)?;
+        let mut held = L::Held::default();
+        let now = self.begins(&mut held, course)?;
         Ok(Progress::new(now, held))
     }
 
-    /// The moment at which a request begins, which is counted, and what it holds of a limit that is asked.
+    /// The moment at which a request begins, which is counted; what it holds of a limit that is asked is put here.
     #[inline]
-    pub(crate) fn begins(&self, course: &mut Course) -> Result<(Moment, L::Held), RetryError<E, L>> {
-        let held = L::admitted(self.rules.limit()).map_err(|refused| {
+    pub(crate) fn begins(&self, held: &mut L::Held, course: &mut Course) -> Result<Moment, RetryError<E, L>> {
+        if let Err(refused) = L::admit(self.rules.limit(), held) {
             course.not_admitted(refused.why(), self.rules.limit());
-            RetryError::NotAdmitted(refused)
-        })?;
+            return Err(RetryError::NotAdmitted(refused));
+        }
         let now = self.host.clock.moment();
         self.rules.limit().count_request(now);
-        Ok((now, held))
+        Ok(now)
     }
 
     /// A request whose first run succeeded.

@@ -116,7 +116,8 @@ impl<E, H: Hooked<E>, K: Clock, S: Sleep, R: Random, L: MayRefuse> Retrying<'_, 
     #[inline]
     pub fn call_with<T>(&self, mut call: impl FnMut(Attempt) -> Result<T, E>) -> Result<T, RetryError<E, L>> {
         let mut course = self.course();
-        let ((began, mut held), first) = (self.begins(&mut course)?, self.first());
+        let mut held = L::Held::default();
+        let (began, first) = (self.begins(&mut held, &mut course)?, self.first());
         match course.run(|| call(first)) {
             Ok(value) => {
                 self.succeeds_at_once(began, &mut held, &mut course);

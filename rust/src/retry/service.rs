@@ -99,13 +99,11 @@ impl<S: Service<Request> + Clone, Request, L: LayerError<S::Error>> At<S, Reques
     #[inline]
     fn begun(service: &mut S, settings: &Arc<Settings<Request, S::Response, S::Error>>, request: Request) -> Self {
         let mut course = Course::begun(&settings.rules.options);
-        let held = match L::admitted(&settings.source) {
-            Ok(held) => held,
-            Err(refused) => {
-                course.not_admitted(refused.why(), &settings.source);
-                return Self::NotAdmitted { refused };
-            }
-        };
+        let mut held = L::Held::default();
+        if let Err(refused) = L::admit(&settings.source, &mut held) {
+            course.not_admitted(refused.why(), &settings.source);
+            return Self::NotAdmitted { refused };
+        }
         let began = Moment::now();
         settings.source.count_request(began);
         let next = (settings.copy)(&request);
