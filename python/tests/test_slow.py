@@ -18,6 +18,7 @@ from hikebox import (
     CallLimit,
     Ending,
     InFlight,
+    Pace,
     RefusalReason,
     Repeating,
     Retrying,
@@ -231,6 +232,36 @@ def test_a_response_that_comes_late_is_a_failure(clock: VirtualClock) -> None:
             assert reason(breaker.request().admit()) is OPEN
             clock.advance(60)
             assert asks(0, awaits) == 200
+
+
+@pytest.mark.parametrize("awaits", [False, True])
+def test_a_wait_for_a_pace_takes_no_time_of_the_attempt(awaits: bool, clock: VirtualClock) -> None:
+    httpx = pytest.importorskip("httpx")
+    from hikebox.adapters.httpx import AsyncPolicyTransport, PolicyTransport
+
+    breaker = Breaker(1, spaced(60), clock=clock)
+    pace = Pace(1, 10, clock=clock, sleep=clock.sleep_async if awaits else clock.sleep)
+    begun: List[float] = []
+
+    def answers(request: Any) -> Any:
+        begun.append(clock())
+        clock.advance(float(request.url.path[1:]))
+        return httpx.Response(200)
+
+    how: Any = {"limit": breaker, "slow": 1, "pace": pace, "clock": clock, "transport": httpx.MockTransport(answers)}
+    client: Any = AsyncPolicyTransport(recurs(2), **how) if awaits else PolicyTransport(recurs(2), **how)
+
+    def asks(seconds: float) -> int:
+        request = httpx.Request("GET", f"http://one.example/{seconds}")
+        if awaits:
+            return int(asyncio.run(client.handle_async_request(request)).status_code)
+        return int(client.handle_request(request).status_code)
+
+    # The second one waits for 9 seconds, and its answer comes in time.
+    assert [asks(1), asks(1)] == [200, 200] and begun == [0.0, 10.0]
+    assert breaker.request().admit() is None
+    assert asks(1.5) == 200 and begun[2] == 20.0
+    assert reason(breaker.request().admit()) is OPEN
 
 
 @pytest.mark.parametrize("limit", [None, Budget(5)])

@@ -217,6 +217,8 @@ class PolicyClient:
         progress.ends_now = call.is_spent()
         if self._waits is not None:
             yield self._waits, 1
+            if progress.settings.slow_millis is not None:
+                progress.attempt_begins()  # (the wait for its pace is no part of it)
         try:
             response = yield self._attempt, request
             is_refused = self.is_refused(response)
