@@ -359,6 +359,16 @@ def test_an_open_breaker_admits_no_call(kind: str) -> None:
     assert len(calls) == 4
 
 
+def test_a_call_that_is_not_admitted_makes_no_retry() -> None:
+    breaker = Breaker(1, spaced(30))
+    retrying = Retrying(recurs(3), limit=breaker)
+    for raised in (KeyError, *[NotAdmitted] * 100):
+        with pytest.raises(raised):
+            retrying({}.__getitem__, "a")
+    seen = retrying.statistics
+    assert (seen.calls, seen.attempts, seen.not_admitted, seen.retries) == (101, 1, 100, 0)
+
+
 def test_a_loop_is_not_admitted() -> None:
     breaker = Breaker(1, spaced(30))
     admitted(breaker).failed()
