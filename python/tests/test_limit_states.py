@@ -307,3 +307,12 @@ def test_a_forked_child_tells_of_its_own(clock: Any) -> None:
     assert told == [("closed", "open")]
     with pytest.raises(TypeError, match="^on_change: expected a function, got 5$"):
         Breaker(1, spaced(1), on_change=5)  # type: ignore[arg-type]
+
+
+def test_a_coroutine_function_hears_of_no_change() -> None:
+    async def hears(*two: BreakerState) -> None:
+        raise AssertionError("nobody awaits it")
+
+    said = "^on_change: expected a plain function, got <function .*>, which is a coroutine function$"
+    with pytest.raises(TypeError, match=said):
+        Breaker(1, spaced(1), on_change=hears)

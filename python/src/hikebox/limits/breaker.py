@@ -12,6 +12,7 @@ from .._time import Duration, moment, seconds_text
 from ..budgets.terms import count_of, duration_of
 from ..errors import TermsError
 from ..policy import Policy
+from ..retry.kinds import look_at_function
 from .kinds import MAX_COUNT
 from .limit import CallLimit, Request, WatchedRequest
 from .seen import BreakerSeen, BreakerState
@@ -92,8 +93,7 @@ class Breaker(CallLimit):
         self._failures = count_of("failures", failures, 1, self._results or MAX_COUNT)
         if isinstance(open_for, (int, float)):
             raise TypeError(f"open_for: expected a policy, as spaced({open_for}), got {open_for!r}")
-        if on_change is not None and not callable(on_change):
-            raise TypeError(f"on_change: expected a function, got {on_change!r}")
+        look_at_function("on_change", on_change, awaits=False)
         self._policy = Policy.of(open_for)
         self._probes = count_of("probes", probes, 1, 15)
         self._deadline = duration_of("probe_deadline", probe_deadline)
