@@ -6,6 +6,7 @@ import asyncio
 import copy
 import pickle
 import random
+import re
 import signal
 import subprocess
 import sys
@@ -386,6 +387,8 @@ def test_an_exception_of_a_signal_at_any_moment_breaks_nothing() -> None:
     [
         ((0, 1), {}, "calls: expected 1 to 1099511627776, got 0"),
         ((1, 0), {}, "expected from a microsecond to 1099511 seconds a call, got 1 in 0"),
+        ((1_000_001, 1), {}, "expected from a microsecond to 1099511 seconds a call, got 1000001 in 1"),
+        ((10**7, 1), {"burst": 20}, "expected from a microsecond to 1099511 seconds a call, got 10000000 in 1"),
         ((1, 2_000_000), {}, "expected from a microsecond to 1099511 seconds a call, got 1 in 2000000"),
         ((1, 1), {"burst": 0}, "burst: expected 1 to 1048576, got 0"),
         ((1, 1), {"burst": 2**20 + 1}, "burst: expected 1 to 1048576, got 1048577"),
@@ -406,6 +409,11 @@ def test_terms_of_other_types() -> None:
         Pace(1, 1).wait(True)
     with pytest.raises(TermsError, match="^cost: expected 1 to 3, got 4$"):
         Pace(1, 1, burst=3).wait(4)
+    with pytest.raises(TypeError, match="^clock: expected a function, got 5$"):
+        Pace(1, 1, clock=5)  # type: ignore[arg-type]
+    with pytest.raises(TypeError, match="^sleep: expected a function, got 5$"):
+        Pace(1, 1, sleep=5)  # type: ignore[arg-type]
+    assert Pace(10**6, 1).terms.each == 1  # microsecond, the least
     assert repr(Pace(10, 1, burst=20, longest=2.5)) == "<Pace(10, 1, burst=20, longest=2.5)>"
 
 
@@ -511,7 +519,8 @@ def test_runs_keep_a_pace(tmp_path: Path) -> None:
     assert hikebox(*words) == (0, "", "")
     status, output, errors = hikebox(*words)
     assert (status, output) == (75, "")
-    assert errors.startswith("hikebox: not run: the pace asks for a wait of 3") and "deadline leaves 5.000 s" in errors
+    told = r"hikebox: not run: the pace asks for a wait of 3\d{3}\.\d{3} s, and the deadline leaves [45]\.\d{3} s\n"
+    assert re.fullmatch(told, errors)
 
 
 def test_a_run_that_has_failed_ends_with_that_status(tmp_path: Path) -> None:
@@ -548,6 +557,7 @@ def test_a_signal_ends_the_wait_for_a_pace(tmp_path: Path, start: Any) -> None: 
         ("10/1s", "--pace: expected RUNS/PERIOD[/BURST]@FOLDER, such as 10/1s@/run/lock/jobs, got '10/1s'"),
         ("10/1@/tmp", "--pace: expected RUNS/PERIOD or RUNS/PERIOD/BURST, such as 10/1s or 100/1m/20"),
         ("0/1s@/tmp", "--pace: calls: expected 1 to 1099511627776, got 0"),
+        ("10000000/1s@/tmp", "--pace: expected from a microsecond to 1099511 seconds a call, got 10000000 in 1.0"),
     ],
 )
 def test_paces_that_are_wrongly_spelt(pace: str, told: str) -> None:

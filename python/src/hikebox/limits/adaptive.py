@@ -26,7 +26,7 @@ class Adaptive(CallLimit):
         What a failure leaves of it, from 0.001 to 0.999. It is counted in thousandths.
 
     A success raises the bound by its reciprocal, and only while at least half as many calls are under way as it allows:
-    an idle client learns nothing. It grants each retry, which is a part of its call; put a quota beside it for those.
+    an idle client learns nothing. It grants each retry, which is a part of its call; put a bucket beside it for those.
 
     >>> from hikebox import recurs, retry
     >>> @retry(recurs(3), limit=Adaptive())
