@@ -322,6 +322,12 @@ def test_states_of_limits(counted: Counted, monkeypatch: Any) -> None:
     metrics.opentelemetry(meter).stop()
 
 
+def test_what_is_no_registry() -> None:
+    pytest.importorskip("prometheus_client")
+    with pytest.raises(TypeError, match="^registry: expected a CollectorRegistry, got 9090$"):
+        metrics.prometheus(9090)
+
+
 def test_the_wait_of_a_pace(counted: Counted, tmp_path: Path, clock: VirtualClock) -> None:
     pace = Pace(1, 10, clock=clock, sleep=clock.sleep)
     counted.counting.follow("peer", pace)

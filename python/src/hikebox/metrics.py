@@ -117,6 +117,8 @@ def prometheus(registry: Any = None) -> Counting:
     """
     client = _imported("prometheus_client", "prometheus", "prometheus-client")
     registry = client.REGISTRY if registry is None else registry
+    if not callable(getattr(registry, "register", None)):
+        raise TypeError(f"registry: expected a CollectorRegistry, got {registry!r}")
     return _counting_in(registry) or _begun(_in_prometheus(client, registry))
 
 
