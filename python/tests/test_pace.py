@@ -393,7 +393,7 @@ def test_an_exception_of_a_signal_at_any_moment_breaks_nothing() -> None:
         ((1, 1), {"burst": 0}, "burst: expected 1 to 1048576, got 0"),
         ((1, 1), {"burst": 2**20 + 1}, "burst: expected 1 to 1048576, got 1048577"),
         ((1, 1), {"longest": 10**9}, "longest: expected at most 137438953 seconds, got 1000000000"),
-        ((1, -1), {}, "per: expected 0 to 4611686018427387903 milliseconds, got -1"),
+        ((1, -1), {}, "per: expected 0 to 4611686018427387.903 seconds, got -1"),
     ],
 )
 def test_terms_out_of_range(terms: Any, how: Any, told: str) -> None:
