@@ -284,7 +284,7 @@ def test_wrong_times() -> None:
     limit: CallLimit = InFlight.envoy()
     with pytest.raises(TermsError, match="^slow: expected a time above 0, got 0$"):
         Retrying(recurs(3), limit=limit, slow=0)
-    with pytest.raises(ValueError, match="slow: expected 0 to"):
+    with pytest.raises(TermsError, match=r"^slow: expected 0 to 4611686018427387\.903 seconds, got -1$"):
         Retrying(recurs(3), limit=limit, slow=-1)
     anything: Any = "soon"
     with pytest.raises(TypeError, match="^slow: expected seconds or a timedelta, got 'soon'$"):

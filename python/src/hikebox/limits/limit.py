@@ -35,8 +35,10 @@ from ..budgets.tickets import Refusal, RefusalReason
 from ..policy.preview import word_of
 from .terms import LimitTerms
 
-__all__ = ["CallLimit", "Request", "WatchedRequest", "look_at_no_limit"]
+__all__ = ["CallLimit", "Request", "WatchedRequest", "look_at_no_limit", "of_pace"]
 
+#: What is told of a call that is out of its turn.
+_NONE_UNDER_WAY = "expected a request that was admitted, got none under way"
 _REASONS = {
     LEVEL_LOW: RefusalReason.LEVEL_LOW,
     REQUESTS_FULL: RefusalReason.REQUESTS_FULL,
@@ -261,7 +263,7 @@ class Request(OfOneProcess):
         if status != OUT_OF_TURN:
             return limit.refused(_refusal_of("draw", status), handle.number.value)
         if self._refusal is None:
-            raise RuntimeError("expected a request that was admitted, got none under way")
+            raise RuntimeError(_NONE_UNDER_WAY)
         return self._refusal
 
     def failed(self) -> None:
@@ -269,6 +271,8 @@ class Request(OfOneProcess):
         handle, limit = self._handle, self._limit
         if handle is None or handle.home is not limit.idle:
             handle = self._held()
+        if not self._is_admitted and self._refusal is None:
+            raise RuntimeError(_NONE_UNDER_WAY)
         if handle.now is not NO_NUMBER:
             handle.now.value = limit.now()
         status = failed(handle.at, handle.now)
@@ -280,6 +284,8 @@ class Request(OfOneProcess):
         handle, limit = self._handle, self._limit
         if handle is None or handle.home is not limit.idle:
             handle = self._held()
+        if not self._is_admitted and self._refusal is None:
+            raise RuntimeError(_NONE_UNDER_WAY)
         if handle.won_at is not NO_NUMBER:
             handle.won_at.value = limit.now()
         status = succeeded(handle.at, handle.won_at)
@@ -378,6 +384,13 @@ def _refusal_of(call: str, status: int) -> int:
 
 
 CallLimit.REQUEST = Request
+
+
+def of_pace(given: object) -> str:
+    """What an error says besides, where a pace is given for a limit."""
+    from ..pace import Pacing  # which others need not load
+
+    return "; a pace goes under retry, as a decorator" if isinstance(given, Pacing) else ""
 
 
 def look_at_no_limit(called: str, limit: object, client: str) -> None:
