@@ -129,6 +129,17 @@ def test_open_times_by_their_last_one_and_long_ones(tmp_path: Path) -> None:
     assert admitted(long).draw() is None
 
 
+def test_a_request_that_is_not_under_way_tells_nothing(tmp_path: Path) -> None:
+    limit = SharedLimit(FileStore(tmp_path), "a", Breaker(1, spaced(30)))
+    request = limit.request()
+    for tells in (request.failed, request.succeeded):
+        with pytest.raises(RuntimeError, match="^expected a request that was admitted, got none under way$"):
+            tells()
+    assert request.admit() is None
+    request.failed()
+    assert reason(limit.request().admit()) is RefusalReason.BREAKER_OPEN
+
+
 def test_only_buckets_and_breakers_that_tell_no_changes(tmp_path: Path) -> None:
     breaker = Breaker(1, spaced(30), on_change=print)
     with pytest.raises(TypeError, match="^on_change: processes share <Breaker.*, and what others change is not told"):

@@ -135,7 +135,8 @@ class EngineError(HikeboxError, RuntimeError):
 
 
 class NotAdmitted(HikeboxError):
-    """A limit did not admit a call, so its first attempt was not made. `refusal` says why."""
+    """A limit did not admit a call, so its first attempt was not made. `refusal` says why, and when to try again: at
+    its `again_at`, by `limit.clock()`, where that is known."""
 
     def __init__(self, refusal: Refusal) -> None:
         super().__init__(f"the call was not admitted: {refusal.reason.value}")

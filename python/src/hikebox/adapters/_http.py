@@ -53,8 +53,8 @@ _COMMON = """
         as a stream, is retried only if no connection was made.
 
     `pace`
-        A `Pace`, or a `LeasedPace`, for which each attempt waits. A request that it would let wait too long raises a
-        `TooSoon`.
+        A `Pace`, or a `LeasedPace`, for which each attempt waits; `slow` does not count the wait. A request that it
+        would let wait too long raises a `TooSoon`.
 
     It takes the options of `Retrying` too, such as `limit` and `deadline`. With a `PerHost` as the limit, each host has
     one of its own; the key of another `PerKey` is told the request. A request that a limit doesn't admit raises
