@@ -27,7 +27,7 @@ MAX_NUMBER = 2**62 - 1
 
 #: The most whole seconds of a duration.
 _MAX_SECONDS = MAX_NUMBER // 1000
-#: All of them.
+#: The longest duration, as an error tells it.
 _MOST_SECONDS = f"{_MAX_SECONDS}.{MAX_NUMBER % 1000} seconds"
 
 #: A float within so many milliseconds of a whole one counts as that: its last digits may be off.
