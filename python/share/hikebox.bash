@@ -22,7 +22,7 @@ _hikebox_options() {
       echo --log:file --fields:text --rate:text --rates:text --together:text --seconds:text --capacity:text \
         --patience:text --queue:text \
         --replicas:text --words:text --outage:text --slow:text --surge:text \
-        --kind:none,quota,bucket,inflight,breaker,throttle --cookbook --all --json --svg:file --width:text --title:text
+        --kind:none,quota,bucket,inflight,breaker,throttle,adaptive --cookbook --all --json --svg:file --width:text --title:text
       ;;
     lab) echo --port:text --no-browser ;;
   esac

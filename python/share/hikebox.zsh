@@ -101,7 +101,7 @@ case $state in
           '--outage[when the peer or a replica is down]:FROM..TO:' \
           '--slow[when the peer works at a part of its capacity]:FROM..TO@PERCENT:' \
           '--surge[when more requests come]:FROM..TO@N:' \
-          '*--kind[try limits of this kind alone]:kind:(none quota bucket inflight breaker throttle)' \
+          '*--kind[try limits of this kind alone]:kind:(none quota bucket inflight breaker throttle adaptive)' \
           '--cookbook[try the policies of the cookbook]' \
           '(--json --svg)--all[print all limits that were tried]' \
           '(--all --svg)--json[print all that was tried as JSON]' \

@@ -281,7 +281,10 @@ def test_several_policies_are_told_by_their_numbers() -> None:
 
 def test_a_limit_that_is_none_is_said_to_be_none() -> None:
     output = told(*BRIEF, "--kind", "none", "recurs(0)")[1]
-    assert "\nTake no limit: " in output and "With no limit of another kind does it come back in every story." in output
+    assert "\nTake no limit: " in output and output.count("\nNo limit of another kind was tried.\n") == 1
+    others = told(*BRIEF, "--kind", "none", "--kind", "breaker", FULL)[1]
+    assert "\nTake breaker:" in others
+    assert "\nWith no limit of another kind does it come back in every story.\n" in others
     assert "retrying = Retrying(policy)\n" in output and "let limit = Unlimited;\n" in output
     assert output.endswith("hikebox run --policy 'recurs(0)' -- COMMAND\n")
 

@@ -214,6 +214,9 @@ def test_wrong_times() -> None:
     anything: Any = "soon"
     with pytest.raises(TermsError, match=f"^{re.escape('attempt_timeout: expected a time above 0, got 0')}$"):
         AsyncRetrying(recurs(3), attempt_timeout=0)
+    told = "attempt_timeout: expected 0 to 4611686018427387.903 seconds, got -1"
+    with pytest.raises(TermsError, match=f"^{re.escape(told)}$"):
+        AsyncRetrying(recurs(3), attempt_timeout=-1)
     with pytest.raises(TypeError, match="^attempt_timeout: expected seconds or a timedelta, got 'soon'$"):
         AsyncRetrying(recurs(3), attempt_timeout=anything)
 

@@ -14,7 +14,7 @@ MARKS = [
     # the text, with the mark in brackets; what is said, and the hint
     ("recurs(5) & ⟦exponental(0.1, 2)⟧.cap(1)", "no builder is called 'exponental'; did you mean 'exponential'?"),
     ("⟦recurs(5).capp(1)⟧ & spaced(1)", "no method is called 'capp'; did you mean 'cap'?"),
-    ("  recurs(5) &\n  ⟦spaced(-1)⟧", "expected 0 to 4611686018427387903 milliseconds, got -1"),
+    ("  recurs(5) &\n  ⟦spaced(-1)⟧", "expected 0 to 4611686018427387.903 seconds, got -1"),
     ("recurs(5) & ⟦spaced()⟧", "spaced() missing 1 required positional argument: 'delay'"),
     ("recurs(5) & ⟦7⟧", None),
     ("recurs(5) + ⟦spaced(1)⟧", None),

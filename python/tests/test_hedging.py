@@ -696,6 +696,18 @@ def test_wrong_times() -> None:
     anything: Any = "soon"
     with pytest.raises(TermsError, match=f"^{re.escape('hedge_after: expected a time above 0, got 0')}$"):
         AsyncRetrying(recurs(3), hedge_after=0)
+    awaiting = AsyncRetrying(recurs(3), hedge_after=1.5, attempt_timeout=1.5)
+    makes: List[Callable[[], Any]] = [
+        lambda: AsyncRetrying(recurs(3), hedge_after=2, attempt_timeout=1.5),
+        lambda: AsyncRetrying(recurs(3), attempt_timeout=1.5, hedge_after=2),
+        lambda: awaiting.copy(hedge_after=2),
+    ]
+    for make in makes:
+        with pytest.raises(TermsError, match="^hedge_after: expected at most attempt_timeout, 1.5, got 2$"):
+            make()
+    with pytest.raises(TermsError, match="^hedge_after: expected at most attempt_timeout, 1, got 1.5$"):
+        awaiting.copy(attempt_timeout=1)
+    assert awaiting.copy(hedge_after=2, attempt_timeout=None).hedge_after == 2
     with pytest.raises(TypeError, match="^hedge_after: expected seconds or a timedelta, got 'soon'$"):
         AsyncRetrying(recurs(3), hedge_after=anything)
 

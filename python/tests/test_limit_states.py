@@ -116,6 +116,9 @@ def test_terms_of_more_limits() -> None:
         (lambda: InFlight(1, 0.2, most=0), "most: expected 1 to 4294967295, got 0"),
         (lambda: Adaptive(least=5, first=4), "expected least <= first <= most, got 5, 4 and 200"),
         (lambda: Adaptive(most=65_536), "most: expected 1 to 65535, got 65536"),
+        (lambda: Adaptive(most=10), "expected least <= first <= most, got 1, 20 and 10 (first is 20 by default)"),
+        (lambda: Adaptive(backoff=1), "backoff: expected 0.001 to 0.999, got 1"),
+        (lambda: Adaptive(backoff=0.0001), "backoff: expected 0.001 to 0.999, got 0.0001"),
     ]
     for make, told in wrong:
         with pytest.raises(TermsError) as raised:
@@ -307,3 +310,12 @@ def test_a_forked_child_tells_of_its_own(clock: Any) -> None:
     assert told == [("closed", "open")]
     with pytest.raises(TypeError, match="^on_change: expected a function, got 5$"):
         Breaker(1, spaced(1), on_change=5)  # type: ignore[arg-type]
+
+
+def test_a_coroutine_function_hears_of_no_change() -> None:
+    async def hears(*two: BreakerState) -> None:
+        raise AssertionError("nobody awaits it")
+
+    said = "^on_change: expected a plain function, got <function .*>, which is a coroutine function$"
+    with pytest.raises(TypeError, match=said):
+        Breaker(1, spaced(1), on_change=hears)

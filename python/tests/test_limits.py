@@ -10,6 +10,7 @@ import pickle
 import re
 import sys
 import threading
+from datetime import timedelta
 from typing import Any, Callable, List, Optional
 
 import pytest
@@ -20,10 +21,13 @@ from hikebox import (
     AsyncRetrying,
     Breaker,
     Bucket,
+    Budget,
     CallLimit,
     Ending,
     InFlight,
     NotAdmitted,
+    Pace,
+    Quota,
     RefusalReason,
     Retrying,
     TermsError,
@@ -43,6 +47,10 @@ from hikebox.testing import VirtualClock, no_waits
 THREADS = 8
 #: What the types would refuse.
 ANY_FIVE: Any = 5
+ANY_NONE: Any = None
+ANY_PACE: Any = Pace(10, 1)
+ANY_QUOTA: Any = Quota(1, 0.1, 60)
+ANY_BUDGET: Any = Budget(5)
 ANY_CLASS: Any = Bucket
 ANY_NO: Any = "no"
 ANY_ONE: Any = 1
@@ -359,6 +367,16 @@ def test_an_open_breaker_admits_no_call(kind: str) -> None:
     assert len(calls) == 4
 
 
+def test_a_call_that_is_not_admitted_makes_no_retry() -> None:
+    breaker = Breaker(1, spaced(30))
+    retrying = Retrying(recurs(3), limit=breaker)
+    for raised in (KeyError, *[NotAdmitted] * 100):
+        with pytest.raises(raised):
+            retrying({}.__getitem__, "a")
+    seen = retrying.statistics
+    assert (seen.calls, seen.attempts, seen.not_admitted, seen.retries) == (101, 1, 100, 0)
+
+
 def test_a_loop_is_not_admitted() -> None:
     breaker = Breaker(1, spaced(30))
     admitted(breaker).failed()
@@ -546,13 +564,23 @@ def test_terms_out_of_range(make: Callable[[], Any]) -> None:
         (lambda: Bucket.grpc(10, 11), "expected token_ratio from 0 to 10, got 11"),
         (lambda: InFlight.envoy(20, -1), "min_retry_concurrency: expected 0 to 4294967295, got -1"),
         (lambda: InFlight(3, 20), "expected the share from 0 to 1, got 20"),
-        (lambda: Breaker(1, spaced(1), probe_deadline=-1), "probe_deadline: expected 0 to 4611686018427387903 milli"),
+        (lambda: Breaker(1, spaced(1), probe_deadline=-1), "probe_deadline: expected 0 to 4611686018427387.903 sec"),
         (lambda: Breaker(5, 30), "open_for: expected a policy, as spaced(30), got 30"),
+        (lambda: Breaker(5, timedelta(minutes=1)), "open_for: expected a policy, as spaced(60), got datetime."),
+        (lambda: Breaker(5, "30s"), "open_for: not JSON: line 1, column "),
+        (lambda: Breaker(5, "spaced(30)"), "open_for: not JSON: line 1, column 1: 'spaced(30)' is an expression, w"),
+        (lambda: Breaker(5, None), "open_for: expected a policy, its JSON text or a dict, got None"),
+        (lambda: InFlight.bulkhead(ANY_NONE), "most: expected a whole number, got None"),
+        (lambda: InFlight.bulkhead(0), "most: expected 1 to 4294967295, got 0"),
         (lambda: Breaker(5, spaced(30).jittered(0, 1)), f"open_for: {NEVER_OPEN.format('spaced(30).jittered(0, 1)')}"),
         (lambda: Breaker(5, spaced(30), clock=ANY_FIVE), "clock: expected a function, got 5"),
         (lambda: Throttle(2, 60, random=ANY_FIVE), "random: expected a function, got 5"),
         (lambda: Retrying(recurs(1), limit=ANY_CLASS), "limit: expected an object, got the class Bucket"),
         (lambda: Retrying(recurs(1), limit=ANY_LIST), "both(..) makes one of several limits"),
+        (lambda: Retrying(recurs(1), limit=ANY_PACE), "<Pace(10, 1)>; a pace goes under retry, as a decorator"),
+        (lambda: both(Bucket.aws(), ANY_PACE), "Adaptive, got <Pace(10, 1)>; a pace goes under retry, as a decorator"),
+        (lambda: both(Bucket.aws(), ANY_QUOTA), "Adaptive, got <Quota(1, 0.1, per=60)>; a quota can't be joined"),
+        (lambda: both(Bucket.aws(), ANY_BUDGET), "Adaptive, got <Budget(5)>; a budget can't be joined"),
     ],
 )
 def test_what_is_told_of_wrong_terms(make: Callable[[], Any], told: str) -> None:
@@ -579,6 +607,26 @@ def test_open_times_are_the_waits_of_the_policy() -> None:
         clock.sleep(refusal.again_at - clock())
         assert request.draw() is None
     assert until == [1, 3, 6, 9]
+
+
+@pytest.mark.parametrize("way", ["new", "refused", "ended"])
+def test_a_request_that_is_not_under_way_tells_nothing(way: str) -> None:
+    breaker = Breaker(1, spaced(1))
+    request = breaker.request()
+    if way == "refused":
+        breaker.open(60)
+        assert reason(request.admit()) is RefusalReason.BREAKER_OPEN
+        breaker.close()
+    elif way == "ended":
+        assert request.admit() is None
+        request.ended()
+    for tells in (request.failed, request.succeeded):
+        with pytest.raises(RuntimeError, match="^expected a request that was admitted, got none under way$"):
+            tells()
+    assert breaker.seen().failures == 0 and breaker.state.value == "closed"
+    assert request.admit() is None
+    request.failed()
+    assert breaker.state.value == "open"
 
 
 def test_misuse() -> None:

@@ -8,6 +8,7 @@ import gc
 import logging
 import sys
 from functools import partial
+from pathlib import Path
 from types import SimpleNamespace
 from typing import Any, Dict, Iterator, List, Tuple
 
@@ -18,6 +19,7 @@ from hikebox import (
     Breaker,
     Bucket,
     Budget,
+    Pace,
     PerKey,
     Quota,
     Retrying,
@@ -30,6 +32,7 @@ from hikebox import (
     stop,
 )
 from hikebox.adapters.tenacity import stop_and_wait
+from hikebox.leased import FileStore, LeasedPace
 from hikebox.retry.watch import name_of, watch
 from hikebox.testing import VirtualClock
 
@@ -317,6 +320,26 @@ def test_states_of_limits(counted: Counted, monkeypatch: Any) -> None:
         with pytest.raises(TypeError, match="^expected one limit that tells its state, such as a Breaker, got "):
             counted.counting.follow("wrong", wrong)
     metrics.opentelemetry(meter).stop()
+
+
+def test_what_is_no_registry() -> None:
+    pytest.importorskip("prometheus_client")
+    with pytest.raises(TypeError, match="^registry: expected a CollectorRegistry, got 9090$"):
+        metrics.prometheus(9090)
+
+
+def test_the_wait_of_a_pace(counted: Counted, tmp_path: Path, clock: VirtualClock) -> None:
+    pace = Pace(1, 10, clock=clock, sleep=clock.sleep)
+    counted.counting.follow("peer", pace)
+    assert counted.value("limit_state", limit="peer", what="wait") == 0
+    pace.wait()
+    clock.advance(4)
+    assert counted.all("limit_state") == {("peer", "wait"): 6}
+    clock.advance(60)
+    assert counted.all("limit_state") == {("peer", "wait"): 0}
+    leased: Any = LeasedPace(FileStore(tmp_path), "peer", 1, 10)
+    with pytest.raises(TypeError, match="^expected one limit that tells .*; a LeasedPace has no seen\\(\\)$"):
+        counted.counting.follow("peer", leased)
 
 
 def test_several_count_the_same(counted: Counted) -> None:

@@ -6,22 +6,35 @@ import asyncio
 import copy
 import pickle
 import random
+import re
 import signal
 import subprocess
 import sys
 import threading
 import time
 from pathlib import Path
-from typing import Any, List, Tuple
+from typing import Any, List, Optional, Tuple
 
 import pytest
 from conftest import python_environment
 from processes import in_a_forked_child
 from test_cli import hikebox, start  # noqa: F401
 
-from hikebox import Pace, TooSoon, recurs, retry, spaced
+from hikebox import (
+    Adaptive,
+    AsyncRetrying,
+    Breaker,
+    Bucket,
+    Pace,
+    Retrying,
+    TooSoon,
+    recurs,
+    retry,
+    spaced,
+)
 from hikebox.errors import StoreError, TermsError
 from hikebox.leased import FileStore, LeasedPace, RedisStore
+from hikebox.pace import Pacing
 from hikebox.testing import VirtualClock, no_waits
 
 
@@ -127,6 +140,8 @@ def test_each_attempt_waits_and_a_deadline_bounds_the_wait(clock: Any) -> None:
         fetch()
     assert begun == [0.0, 10.0, 20.0]
     assert (raised.value.wait, raised.value.longest) == pytest.approx((9, 4)) and raised.value.again_at is None
+    said = "the pace asks for a wait of 9.000 s, and the deadline leaves 4.000 s"
+    assert str(raised.value) == str(pickle.loads(pickle.dumps(raised.value))) == said
     assert pace.seen() == 30.0  # the call that did not begin has given its place back
 
 
@@ -178,6 +193,79 @@ def test_a_decorated_function_is_the_one_it_was() -> None:
         @pace
         def several() -> Any:
             yield 1
+
+
+# A limit beside a pace
+
+WAYS = ["calls", "a loop", "coroutines", "an async loop", "hedged"]
+
+
+def calls_once(way: str, waits: Pacing, raises: Optional[Exception] = None, **how: Any) -> None:
+    """One call that waits for this pace, and then raises this."""
+
+    @waits
+    def call() -> None:
+        if raises is not None:
+            raise raises
+
+    @waits
+    async def call_later() -> None:
+        if raises is not None:
+            raise raises
+
+    async def in_an_async_loop() -> None:
+        async for attempt in AsyncRetrying(recurs(1), **how):
+            with attempt:
+                await call_later()
+
+    if way == "calls":
+        Retrying(recurs(1), **how)(call)
+    elif way == "a loop":
+        for attempt in Retrying(recurs(1), **how):
+            with attempt:
+                call()
+    elif way == "an async loop":
+        asyncio.run(in_an_async_loop())
+    else:
+        hedge: Any = {"hedge_after": 60} if way == "hedged" else {}
+        awaited: Any = AsyncRetrying(recurs(1), **how, **hedge)(call_later)
+        asyncio.run(awaited)
+
+
+@pytest.mark.parametrize("on", [OSError, TooSoon])
+@pytest.mark.parametrize("way", WAYS)
+def test_a_limit_hears_of_no_call_that_its_pace_does_not_let_begin(way: str, on: Any) -> None:
+    breaker, spent = Breaker(1, spaced(60)), Pace(1, 3600, longest=1)
+    spent.wait()
+    with pytest.raises(TooSoon):
+        calls_once(way, spent, limit=breaker, on=on)
+    assert breaker.state.value == "closed"
+    with pytest.raises(ValueError, match="^the peer's$"):
+        calls_once(way, Pace(1000, 1, burst=1000), ValueError("the peer's"), limit=breaker, on=on)
+    assert breaker.state.value == "open"
+
+
+def test_a_call_that_does_not_begin_takes_nothing_of_a_limit() -> None:
+    bucket, adaptive, spent = Bucket.grpc(4, 0.5), Adaptive(first=20), Pace(1, 3600, longest=1)
+    spent.wait()
+    for limit in (bucket, adaptive):
+        for _ in range(3):
+            with pytest.raises(TooSoon):
+                calls_once("calls", spent, limit=limit, on=OSError)
+    assert (bucket.seen().level, adaptive.seen()) == (4.0, (0, 20.0))
+
+
+@pytest.mark.parametrize("way", WAYS)
+def test_a_limit_hears_of_no_store_that_a_pace_cannot_reach(way: str, tmp_path: Path) -> None:
+    breaker, pace = Breaker(1, spaced(60)), LeasedPace(FileStore(tmp_path / "paces"), "peer", 10, 1)
+    (tmp_path / "paces").write_text("no folder")
+    with pytest.raises(StoreError):
+        calls_once(way, pace, limit=breaker)
+    assert breaker.state.value == "closed"
+    # (a store that the call itself asks is its peer)
+    with pytest.raises(StoreError, match="^its own$"):
+        calls_once(way, Pace(1000, 1, burst=1000), StoreError("its own"), limit=breaker)
+    assert breaker.state.value == "open"
 
 
 # Coroutines
@@ -299,11 +387,13 @@ def test_an_exception_of_a_signal_at_any_moment_breaks_nothing() -> None:
     [
         ((0, 1), {}, "calls: expected 1 to 1099511627776, got 0"),
         ((1, 0), {}, "expected from a microsecond to 1099511 seconds a call, got 1 in 0"),
+        ((1_000_001, 1), {}, "expected from a microsecond to 1099511 seconds a call, got 1000001 in 1"),
+        ((10**7, 1), {"burst": 20}, "expected from a microsecond to 1099511 seconds a call, got 10000000 in 1"),
         ((1, 2_000_000), {}, "expected from a microsecond to 1099511 seconds a call, got 1 in 2000000"),
         ((1, 1), {"burst": 0}, "burst: expected 1 to 1048576, got 0"),
         ((1, 1), {"burst": 2**20 + 1}, "burst: expected 1 to 1048576, got 1048577"),
         ((1, 1), {"longest": 10**9}, "longest: expected at most 137438953 seconds, got 1000000000"),
-        ((1, -1), {}, "per: expected 0 to 4611686018427387903 milliseconds, got -1"),
+        ((1, -1), {}, "per: expected 0 to 4611686018427387.903 seconds, got -1"),
     ],
 )
 def test_terms_out_of_range(terms: Any, how: Any, told: str) -> None:
@@ -319,6 +409,11 @@ def test_terms_of_other_types() -> None:
         Pace(1, 1).wait(True)
     with pytest.raises(TermsError, match="^cost: expected 1 to 3, got 4$"):
         Pace(1, 1, burst=3).wait(4)
+    with pytest.raises(TypeError, match="^clock: expected a function, got 5$"):
+        Pace(1, 1, clock=5)  # type: ignore[arg-type]
+    with pytest.raises(TypeError, match="^sleep: expected a function, got 5$"):
+        Pace(1, 1, sleep=5)  # type: ignore[arg-type]
+    assert Pace(10**6, 1).terms.each == 1  # microsecond, the least
     assert repr(Pace(10, 1, burst=20, longest=2.5)) == "<Pace(10, 1, burst=20, longest=2.5)>"
 
 
@@ -424,7 +519,27 @@ def test_runs_keep_a_pace(tmp_path: Path) -> None:
     assert hikebox(*words) == (0, "", "")
     status, output, errors = hikebox(*words)
     assert (status, output) == (75, "")
-    assert errors.startswith("hikebox: not run: expected a wait of at most ") and "for the pace, got one of 3" in errors
+    told = r"hikebox: not run: the pace asks for a wait of 3\d{3}\.\d{3} s, and the deadline leaves [45]\.\d{3} s\n"
+    assert re.fullmatch(told, errors)
+
+
+def test_a_run_that_has_failed_ends_with_that_status(tmp_path: Path) -> None:
+    words = ["run", "--verbose", "--deadline", "5", "--policy", "recurs(3)", "--pace"]
+    said = "hikebox: attempt 1: status 7; next in 0.000 s\nhikebox: attempt 1: status 7; "
+    fails = [f"1/1h@{tmp_path / 'jobs'}", "--", "sh", "-c", "echo up; exit 7"]
+    assert hikebox(*words, *fails) == (7, "up\n", f"{said}its pace leaves no time for another attempt\n")
+    assert hikebox(*words, *fails)[0] == 75
+    breaks = [f"2/1h/2@{tmp_path / 'other'}", "--", "sh", "-c", 'rm -r "$1"; : > "$1"; exit 7', "-", tmp_path / "other"]
+    status, output, errors = hikebox(*words, *map(str, breaks))
+    assert (status, output) == (7, "") and errors.startswith(f"{said}{tmp_path / 'other'}: ")
+
+
+def test_runs_that_their_pace_does_not_let_begin_open_no_breaker(tmp_path: Path) -> None:
+    limits = ["--limit", f"breaker:1/1/30000@{tmp_path}", "--pace", f"1/1h@{tmp_path}", "--deadline", "5"]
+    assert hikebox("run", *limits, "--", "true") == (0, "", "")
+    for _ in range(2):
+        status, _, errors = hikebox("run", *limits, "--", "true")
+        assert status == 75 and errors.startswith("hikebox: not run: the pace asks for a wait of 3")
 
 
 def test_a_signal_ends_the_wait_for_a_pace(tmp_path: Path, start: Any) -> None:  # noqa: F811
@@ -442,6 +557,7 @@ def test_a_signal_ends_the_wait_for_a_pace(tmp_path: Path, start: Any) -> None: 
         ("10/1s", "--pace: expected RUNS/PERIOD[/BURST]@FOLDER, such as 10/1s@/run/lock/jobs, got '10/1s'"),
         ("10/1@/tmp", "--pace: expected RUNS/PERIOD or RUNS/PERIOD/BURST, such as 10/1s or 100/1m/20"),
         ("0/1s@/tmp", "--pace: calls: expected 1 to 1099511627776, got 0"),
+        ("10000000/1s@/tmp", "--pace: expected from a microsecond to 1099511 seconds a call, got 10000000 in 1.0"),
     ],
 )
 def test_paces_that_are_wrongly_spelt(pace: str, told: str) -> None:

@@ -8,6 +8,7 @@ import copy
 import gc
 import importlib
 import pickle
+import re
 import signal
 import threading
 import time
@@ -129,8 +130,16 @@ def test_a_loop_has_a_key_without_arguments() -> None:
 
     asyncio.run(awaits())
     assert asked(limits, "a", "b") == [3, 1]
-    with pytest.raises(TypeError, match="positional argument"):
-        next(iter(Retrying(recurs(3), limit=per_tenant())))
+    for keyed in (per_tenant(), PerHost(quota_of)):
+        told = f"limit: expected the limit of one key, as per_key[..], got {keyed!r}: a loop has no arguments of "
+        with pytest.raises(TypeError, match=f"^{re.escape(told)}which its key is a function$"):
+            next(iter(Retrying(recurs(3), limit=keyed)))
+
+    def broken() -> str:
+        raise TypeError("its own")
+
+    with pytest.raises(TypeError, match="^its own$"):
+        next(iter(Retrying(recurs(3), limit=PerKey(quota_of, key=broken))))
 
 
 def test_a_breaker_of_one_host_stops_no_other(clock: VirtualClock) -> None:

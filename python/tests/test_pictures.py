@@ -40,6 +40,7 @@ from hikebox.storms.picture import storm_picture
 from hikebox.storms.parameters import RANGES
 from hikebox.sweeps import sweep
 from hikebox.budgets.terms import Terms
+from hikebox.limits.terms import LimitTerms
 
 SVG = "{http://www.w3.org/2000/svg}"
 BACK_OFF = recurs(5) & exponential(0.1, 2).cap(1).jittered()
@@ -570,6 +571,8 @@ def zsched_prints(played: Storm) -> str:
         words.append("--slow={}..{}@{}".format(*parameters.slow))
     if isinstance(parameters.tickets, Terms):
         words.append("--quota={}/{}/{}".format(*parameters.tickets))
+    elif isinstance(parameters.tickets, LimitTerms):
+        words.append(f"--limit={parameters.tickets.text}")
     elif parameters.tickets is not None:
         words.append(f"--budget={parameters.tickets}")
     with tempfile.TemporaryDirectory() as folder:
@@ -589,7 +592,7 @@ def test_the_storms_of_the_page_on_storms_are_those_that_zsched_prints(monkeypat
     if not program or subprocess.run([program, "storm", "--help"], capture_output=True).returncode:
         pytest.skip("HIKEBOX_ZSCHED names no zsched with storms")
     commands = re.findall(r"^hikebox (storm [^\n]*)$", (TOP / "docs" / STORMS).read_text(), flags=re.M)
-    assert len(commands) == 16
+    assert len(commands) == 17
     for command in commands:
         given = _parser().parse_args(shlex.split(command))
         for played in play_all(wanted_of(given, _policy).storms):

@@ -56,8 +56,8 @@ def test_a_quota_without_units_is_refused_with_both_spellings() -> None:
     status, output, errors = hikebox("run", "--limit", "1/500/100@f", "--", "true")
     assert (status, output) == (2, "")
     assert errors == (
-        "hikebox: '1/500/100' has no units: write 1/50000%/100s (retries a request, and seconds) or 1/50%/100ms "
-        "(thousandths and milliseconds, as zsched reads it)\n"
+        "hikebox: --limit: '1/500/100' has no units: write 1/50000%/100s (retries a request, and seconds) or "
+        "1/50%/100ms (thousandths and milliseconds, as zsched reads it)\n"
     )
     assert "1/20%/60s" in hikebox("run", "--limit", "1/0.2/60@f", "--", "true")[2]
 

@@ -162,7 +162,7 @@ BAD_TERMS: List[Any] = [
     ((0, 0, 0.099), "expected a window of at least 0.1 s, got 0.099"),
     ((0, 0, 0.0001), "the window of a quota: 0.0001 s is less than a millisecond"),
     ((0, 0, timedelta(0)), "expected a window of at least 0.1 s, got datetime.timedelta(0)"),
-    ((0, 0, -1), "the window of a quota: expected 0 to 4611686018427387903 milliseconds, got -1"),
+    ((0, 0, -1), "the window of a quota: expected 0 to 4611686018427387.903 seconds, got -1"),
     ((0, 0, float("inf")), "the window of a quota: a duration of inf seconds"),
 ]
 

@@ -129,6 +129,17 @@ def test_open_times_by_their_last_one_and_long_ones(tmp_path: Path) -> None:
     assert admitted(long).draw() is None
 
 
+def test_a_request_that_is_not_under_way_tells_nothing(tmp_path: Path) -> None:
+    limit = SharedLimit(FileStore(tmp_path), "a", Breaker(1, spaced(30)))
+    request = limit.request()
+    for tells in (request.failed, request.succeeded):
+        with pytest.raises(RuntimeError, match="^expected a request that was admitted, got none under way$"):
+            tells()
+    assert request.admit() is None
+    request.failed()
+    assert reason(limit.request().admit()) is RefusalReason.BREAKER_OPEN
+
+
 def test_only_buckets_and_breakers_that_tell_no_changes(tmp_path: Path) -> None:
     breaker = Breaker(1, spaced(30), on_change=print)
     with pytest.raises(TypeError, match="^on_change: processes share <Breaker.*, and what others change is not told"):
@@ -382,17 +393,27 @@ def test_eight_runs_at_once_are_retried_as_often_as_there_are_tokens(tmp_path: P
                 "aws:",
                 "azure",
                 "grpc:10",
-                "grpc:0/0",
                 "grpc:-1/0",
                 "grpc:10/0.1",
-                "bucket:1000/2000/1000/1000/0/0",
                 "bucket:1000/0/1000/1000/0/0+free",
                 "breaker:5/1",
                 "breaker:5/1/30s",
-                "breaker:5/16/30000",
-                "breaker:0/1/30000",
             )
         ),
+        (["--limit", "grpc:0/0@x"], "hikebox: --limit: grpc:0/0: TOKENS: expected 1 to 1099511627, got 0\n"),
+        (
+            ["--limit", "bucket:1000/2000/1000/1000/0/0@x"],
+            "hikebox: --limit: bucket:1000/2000/1000/1000/0/0: FLOOR: expected 0 to CAPACITY, got 2000\n",
+        ),
+        (
+            ["--limit", "breaker:5/16/30000@x"],
+            "hikebox: --limit: breaker:5/16/30000: PROBES: expected 1 to 15, got 16\n",
+        ),
+        (
+            ["--limit", "breaker:0/1/30000@x"],
+            "hikebox: --limit: breaker:0/1/30000: FAILURES: expected 1 to 4294967295, got 0\n",
+        ),
+        (["--limit", "10/1s@x"], "hikebox: --limit: expected RESERVE/SHARE%/PERIOD, such as 10/20%/60s (units: "),
         (["--limit", "breaker:5/1/30000@x", "--open", "stop()"], "--open: expected a policy that goes on"),
         (["--limit", "breaker:5/1/30000@x", "--open", "recurs(3)"], f"--open: {NEVER_OPEN.format('recurs(3)')}"),
         (["--limit", "inflight:3/200@x"], "would keep its place among those in flight for ever"),
@@ -413,6 +434,13 @@ def test_a_limit_that_is_spelt_wrong(words: List[str], told: str, tmp_path: Path
     assert (status, output) == (2, "")
     assert told in errors and "Traceback" not in errors
     assert not list(tmp_path.iterdir())
+
+
+@pytest.mark.parametrize("option, word", [("--open", "30"), ("--open", "30s"), ("--policy", "breaker:5/1/30000")])
+def test_a_word_that_is_neither_a_file_nor_a_policy(option: str, word: str, tmp_path: Path) -> None:
+    words = ["run", "--limit", "breaker:5/1/30000@x", option, word, "--", "true"]
+    told = f"hikebox: read failed: {word}: No such file or directory; expected a file, JSON or an expression, as "
+    assert hikebox(*words, cwd=tmp_path) == (4, "", f"{told}spaced(30)\n")
 
 
 def test_a_file_in_the_place_of_the_folder(tmp_path: Path) -> None:

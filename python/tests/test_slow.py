@@ -18,6 +18,7 @@ from hikebox import (
     CallLimit,
     Ending,
     InFlight,
+    Pace,
     RefusalReason,
     Repeating,
     Retrying,
@@ -233,6 +234,36 @@ def test_a_response_that_comes_late_is_a_failure(clock: VirtualClock) -> None:
             assert asks(0, awaits) == 200
 
 
+@pytest.mark.parametrize("awaits", [False, True])
+def test_a_wait_for_a_pace_takes_no_time_of_the_attempt(awaits: bool, clock: VirtualClock) -> None:
+    httpx = pytest.importorskip("httpx")
+    from hikebox.adapters.httpx import AsyncPolicyTransport, PolicyTransport
+
+    breaker = Breaker(1, spaced(60), clock=clock)
+    pace = Pace(1, 10, clock=clock, sleep=clock.sleep_async if awaits else clock.sleep)
+    begun: List[float] = []
+
+    def answers(request: Any) -> Any:
+        begun.append(clock())
+        clock.advance(float(request.url.path[1:]))
+        return httpx.Response(200)
+
+    how: Any = {"limit": breaker, "slow": 1, "pace": pace, "clock": clock, "transport": httpx.MockTransport(answers)}
+    client: Any = AsyncPolicyTransport(recurs(2), **how) if awaits else PolicyTransport(recurs(2), **how)
+
+    def asks(seconds: float) -> int:
+        request = httpx.Request("GET", f"http://one.example/{seconds}")
+        if awaits:
+            return int(asyncio.run(client.handle_async_request(request)).status_code)
+        return int(client.handle_request(request).status_code)
+
+    # The second one waits for 9 seconds, and its answer comes in time.
+    assert [asks(1), asks(1)] == [200, 200] and begun == [0.0, 10.0]
+    assert breaker.request().admit() is None
+    assert asks(1.5) == 200 and begun[2] == 20.0
+    assert reason(breaker.request().admit()) is OPEN
+
+
 @pytest.mark.parametrize("limit", [None, Budget(5)])
 def test_only_a_limit_that_hears_of_it_may_stand_beside_it(limit: Any) -> None:
     told = (
@@ -253,7 +284,7 @@ def test_wrong_times() -> None:
     limit: CallLimit = InFlight.envoy()
     with pytest.raises(TermsError, match="^slow: expected a time above 0, got 0$"):
         Retrying(recurs(3), limit=limit, slow=0)
-    with pytest.raises(ValueError, match="slow: expected 0 to"):
+    with pytest.raises(TermsError, match=r"^slow: expected 0 to 4611686018427387\.903 seconds, got -1$"):
         Retrying(recurs(3), limit=limit, slow=-1)
     anything: Any = "soon"
     with pytest.raises(TypeError, match="^slow: expected seconds or a timedelta, got 'soon'$"):

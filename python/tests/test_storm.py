@@ -7,6 +7,7 @@ import json
 import os
 import pickle
 import random
+import re
 import resource
 import signal
 import subprocess
@@ -21,7 +22,7 @@ from conftest import TOP, heed_signals, python_environment
 from limited import NEVER_OPEN
 
 from hikebox import Breaker, Bucket, Budget, InFlight, Policy, Quota, Storm, StormError, Throttle, both, exponential
-from hikebox import PolicyError, Population, TermsError, milliseconds, recurs, spaced, storm
+from hikebox import Pace, PerKey, PolicyError, Population, TermsError, milliseconds, recurs, spaced, storm
 from hikebox.cli.storm_options import limits_of, parameters_of, tickets_of
 from hikebox.limits.breaker import times_of
 from hikebox.storms.code import in_command, in_python, in_rust, in_scenario
@@ -215,6 +216,60 @@ def test_a_limit_of_the_package_is_one_on_a_storm() -> None:
         storm(FULL, limit="grpc:1")
 
 
+@pytest.mark.parametrize(
+    "text, told",
+    [
+        ("bucket:1099511627777/0/0/0/0/0", "CAPACITY: expected 0 to 1099511627776, got 1099511627777"),
+        ("bucket:9/0/0/0/0/10+refund", "CREDIT: expected 0 to CAPACITY, got 10"),
+        ("grpc:1099511628/0", "TOKENS: expected 1 to 1099511627, got 1099511628"),
+        ("grpc:2/2001", "RATIO: expected 0 to 1000*TOKENS, got 2001"),
+        ("inflight:3/200/0", "MOST: expected 1 to 4294967295, got 0"),
+        ("inflight:4294967296/200", "LEAST: expected 0 to 4294967295, got 4294967296"),
+        ("breaker:10/40/1/30000", "RESULTS: expected FAILURES to 32, got 40"),
+        ("breaker:10/9/1/30000", "RESULTS: expected FAILURES to 32, got 9"),
+        ("breaker:33/40/1/30000", "FAILURES: expected 1 to 32, got 33"),
+        ("breaker:33/1/4611686018427387904", "DEADLINE: expected 0 to 4611686018427387903, got 4611686018427387904"),
+        ("throttle:999/60000", "RATIO: expected 1000 to 4294967295, got 999"),
+        ("throttle:2000/0", "PERIOD: expected 1 to 4611686018427387903, got 0"),
+        ("adaptive:1/10/20/900", "FIRST: expected LEAST to MOST, got 20"),
+        ("adaptive:30/20/25/900", "MOST: expected LEAST to 65535, got 20"),
+        ("adaptive:1/10/10/1000", "BACKOFF: expected 1 to 999, got 1000"),
+    ],
+)
+def test_a_number_of_a_limit_that_is_out_of_range(text: str, told: str) -> None:
+    with pytest.raises(TermsError) as caught:
+        storm(FULL, limit=text)
+    assert str(caught.value) == f"{text}: {told}"
+
+
+@pytest.mark.parametrize(
+    "text",
+    [
+        "bucket:1099511627776/0/1099511627776/0/0/0+refund",
+        "grpc:1099511627/1099511627000",
+        "inflight:4294967295/4294967295/1",
+        "breaker:32/32/15/4611686018427387903",
+        "breaker:4294967295/1/0",
+        "throttle:1000/1",
+        "adaptive:65535/65535/65535/999",
+    ],
+)
+def test_the_ends_of_their_ranges(text: str) -> None:
+    assert limit_of(text).text == text
+
+
+def test_what_is_no_limit_on_a_storm() -> None:
+    wrong: List[Any] = [Pace(10, 1), recurs(3), PerKey(lambda key: Bucket.aws()), Bucket]
+    for limit in wrong:
+        told = f'a number, a Budget, a Quota, another limit but no pace, or a text as "grpc:100/100", got {limit!r}'
+        with pytest.raises(TypeError, match=f"^{re.escape('limit: expected ' + told)}$"):
+            storm(FULL, limit=limit)
+    wrong = [1.5, True]
+    for number in wrong:
+        with pytest.raises(TypeError, match=f"^limit: expected a whole number, got {number}$"):
+            storm(FULL, limit=number)
+
+
 @pytest.mark.parametrize("word", ["aws", "grpc:100/100", "inflight:3/200", "breaker:5/1/1000", "throttle:2000/60000"])
 def test_a_storm_under_a_limit_is_spelt_as_a_command_in_python_and_in_rust(word: str) -> None:
     parameters = Parameters(tickets=limit_of(word))
@@ -293,7 +348,7 @@ WRONG: List[Tuple[Dict[str, Any], str]] = [
     ({"rate": 20_000}, "rate: 20000 a second for 60 s are 1200000 requests, and a storm has at most 1048576"),
     ({"capacity": 0}, "capacity: expected 1 to 1000000, got 0"),
     ({"patience": 0}, "patience: expected 1 to 3600000 ms, got 0"),
-    ({"patience": -1}, "patience: expected 0 to 4611686018427387903 milliseconds, got -1"),
+    ({"patience": -1}, "patience: expected 0 to 4611686018427387.903 seconds, got -1"),
     ({"queue": -1}, "queue: expected 0 to 1048576, got -1"),
     ({"replicas": 0}, "replicas: expected 1 to 4, got 0"),
     ({"replicas": 5}, "replicas: expected 1 to 4, got 5"),
@@ -348,13 +403,12 @@ def test_what_is_out_of_range_is_named(given: Dict[str, Any], line: str) -> None
 
 def test_a_number_of_too_many_digits_is_out_of_range() -> None:
     huge = 10**5000
-    milliseconds_wanted = "expected 0 to 4611686018427387903 milliseconds"
     wrong: List[Tuple[Dict[str, Any], str]] = [
         ({"rate": huge}, "rate: expected 1 to 1000000"),
         ({"seed": -huge}, "seed: expected 0 to 18446744073709551615"),
         ({"limit": huge}, "limit: expected 0 to 4294967296"),
-        ({"outage": (0, huge)}, f"outage: {milliseconds_wanted}"),
-        ({"window": milliseconds(huge)}, f"window: {milliseconds_wanted}"),
+        ({"outage": (0, huge)}, "outage: expected 0 to 4611686018427387.903 seconds"),
+        ({"window": milliseconds(huge)}, "window: expected 0 to 4611686018427387903 milliseconds"),
         ({"rates": [(0, 1, huge)]}, "rates: expected 0 to 1000000 requests a second"),
         ({"slow": (0, 1, huge)}, "slow: expected a share of the capacity from 0.01 to 1"),
         ({"beside": [Population(0.1, recurs(1), huge)]}, "beside[0].patience: expected 0.001 to 3600 seconds"),

@@ -27,6 +27,8 @@ MAX_NUMBER = 2**62 - 1
 
 #: The most whole seconds of a duration.
 _MAX_SECONDS = MAX_NUMBER // 1000
+#: The longest duration, as an error tells it.
+_MOST_SECONDS = f"{_MAX_SECONDS}.{MAX_NUMBER % 1000} seconds"
 
 #: A float within so many milliseconds of a whole one counts as that: its last digits may be off.
 FLOAT_ERROR = 1e-6
@@ -94,8 +96,8 @@ def seconds(duration: Duration, what: str = "") -> int:
         is_within = 0 <= duration <= _MAX_SECONDS + 1
         count, is_less = round(duration * 1000) if is_within else -1, 0 < duration < 0.001 - _GRAIN_OFF
     if not 0 <= count <= MAX_NUMBER:
-        wanted = f"expected 0 to {MAX_NUMBER} milliseconds"
-        raise PolicyError(Fault.OUT_OF_RANGE, hint=f"{place}{wanted}, got {shown(duration)}")
+        most = f"{MAX_NUMBER} milliseconds" if isinstance(duration, Milliseconds) else _MOST_SECONDS
+        raise PolicyError(Fault.OUT_OF_RANGE, hint=f"{place}expected 0 to {most}, got {shown(duration)}")
     if is_less:
         text = duration if isinstance(duration, timedelta) else f"{duration!r} s"
         raise PolicyError(Fault.OUT_OF_RANGE, hint=f"{place}{text} is less than a millisecond")

@@ -44,6 +44,9 @@ def shown(value: object) -> str:
 class HikeboxError(Exception):
     """The base of all errors of this package."""
 
+    #: Whether a pace raised it in the place of a call that did not begin: a limit is not told of a failure then.
+    is_of_pace = False
+
 
 class Fault(enum.Enum):
     """What is wrong with a policy, in the words of `zsched plan`."""
@@ -132,7 +135,8 @@ class EngineError(HikeboxError, RuntimeError):
 
 
 class NotAdmitted(HikeboxError):
-    """A limit did not admit a call, so its first attempt was not made. `refusal` says why."""
+    """A limit did not admit a call, so its first attempt was not made. `refusal` says why, and when to try again: at
+    its `again_at`, by `limit.clock()`, where that is known."""
 
     def __init__(self, refusal: Refusal) -> None:
         super().__init__(f"the call was not admitted: {refusal.reason.value}")
@@ -147,11 +151,18 @@ class TooSoon(LimitError):
 
     `wait` is for how many seconds, and `longest` how many it may wait: the pace's `longest`, or what its retry's
     deadline leaves. `again_at` is the first moment, in seconds by the pace's clock, at which the pace grants it if no
-    other call comes before; None where the deadline is what it would pass.
+    other call comes before; None where the deadline is what it would pass. It is no failure of the peer: the `limit` of
+    a retry does not hear of it.
     """
 
+    is_of_pace = True
+
     def __init__(self, wait: float, longest: float, again_at: Optional[float] = None) -> None:
-        super().__init__(f"expected a wait of at most {longest:.3f} s for the pace, got one of {wait:.3f} s")
+        if again_at is None:
+            text = f"the pace asks for a wait of {wait:.3f} s, and the deadline leaves {longest:.3f} s"
+        else:
+            text = f"expected a wait of at most {longest:.3f} s for the pace, got one of {wait:.3f} s"
+        super().__init__(text)
         self.wait = wait
         self.longest = longest
         self.again_at = again_at

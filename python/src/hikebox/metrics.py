@@ -8,7 +8,7 @@ were decorated before, too:
 - what a limit refused, by the limit's type and the reason, such as `breaker_open` (see `RefusalReason`);
 - the seconds of each wait before a retry, as a histogram.
 
-`follow()` shows the state of a limit besides, whenever the metrics are read.
+`follow()` shows the state of a limit or of a `Pace` besides, whenever the metrics are read.
 
 `call` is the function that is retried, with its module; of a loop it is `a block`, and of an adapter the adapter.
 """
@@ -16,9 +16,10 @@ were decorated before, too:
 from __future__ import annotations
 
 import importlib
-from typing import Any, Callable, Dict, Iterator, List, Optional, Sequence, Tuple
+from typing import Any, Callable, Dict, Iterator, List, Optional, Sequence, Tuple, Union
 
 from .limits import BreakerSeen, BreakerState, CallLimit
+from .pace import Pace, Pacing
 from .retry.watch import watch
 from .version import VERSION
 
@@ -40,8 +41,8 @@ _STATES = "The state of a limit, such as its level; of a breaker, 1 for what it 
 Add = Callable[[float, Tuple[str, ...]], Any]
 
 
-#: The limits whose states are shown, by their names.
-States = Dict[str, CallLimit]
+#: The limits and the paces whose states are shown, by their names.
+States = Dict[str, Union[CallLimit, Pace]]
 
 
 class Counting:
@@ -54,8 +55,9 @@ class Counting:
         self._waits = waits
         self._forget = forget
 
-    def follow(self, name: str, limit: CallLimit) -> None:
-        """Shows the state of a limit under this name, what its `seen()` returns, whenever the metrics are read.
+    def follow(self, name: str, limit: Union[CallLimit, Pace]) -> None:
+        """Shows the state of a limit under this name, what its `seen()` returns, whenever the metrics are read; of a
+        `Pace` it is the `wait`, the seconds that a call would wait now.
 
         >>> from prometheus_client import CollectorRegistry
         >>> from hikebox import Bucket
@@ -68,8 +70,9 @@ class Counting:
         """
         if not isinstance(name, str):
             raise TypeError(f"expected a name, got {name!r}")
-        if not isinstance(limit, CallLimit) or len(limit.parts()) != 1:
-            raise TypeError(f"expected one limit that tells its state, such as a Breaker, got {limit!r}")
+        if not isinstance(limit, Pace) and (not isinstance(limit, CallLimit) or len(limit.parts()) != 1):
+            why = "; a LeasedPace has no seen()" if isinstance(limit, Pacing) else ""
+            raise TypeError(f"expected one limit that tells its state, such as a Breaker, got {limit!r}{why}")
         self._states[name] = limit
 
     def ended(self, call: str, attempts: int, ending: str) -> None:
@@ -114,6 +117,8 @@ def prometheus(registry: Any = None) -> Counting:
     """
     client = _imported("prometheus_client", "prometheus", "prometheus-client")
     registry = client.REGISTRY if registry is None else registry
+    if not callable(getattr(registry, "register", None)):
+        raise TypeError(f"registry: expected a CollectorRegistry, got {registry!r}")
     return _counting_in(registry) or _begun(_in_prometheus(client, registry))
 
 
@@ -156,6 +161,9 @@ def _begun(counting: Counting) -> Counting:
 def _numbers(states: States) -> Iterator[Tuple[str, str, float]]:
     """The state of each limit: its name, what is told, and the number."""
     for name, limit in list(states.items()):
+        if isinstance(limit, Pace):
+            yield name, "wait", max(0.0, limit.seen() - limit.clock())
+            continue
         seen = limit.seen()
         if isinstance(seen, BreakerSeen):
             yield from ((name, state.value.replace(" ", "_"), float(state is seen.state)) for state in BreakerState)

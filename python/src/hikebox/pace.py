@@ -40,7 +40,8 @@ class PaceTerms(NamedTuple):
 class Wait(NamedTuple):
     """When a call may begin that was granted one: at this moment, in seconds by the pace's clock.
 
-    It is a context manager around the wait; one that is ended by an exception gives the place back.
+    It is a context manager around the wait; one that is ended by an exception gives the place back, where that is the
+    latest one that was taken.
     """
 
     at: float
@@ -77,6 +78,9 @@ class Pacing(OfOneProcess):
         clock: Callable[[], float],
         sleep: Optional[Callable[[float], Any]],
     ) -> None:
+        for name, function in (("clock", clock), ("sleep", sleep)):
+            if not callable(function) and (name, function) != ("sleep", None):
+                raise TypeError(f"{name}: expected a function, got {function!r}")
         self.terms = _terms_of(calls, per, burst, longest)
         self.calls = calls
         self.per = per
@@ -96,7 +100,8 @@ class Pacing(OfOneProcess):
     def wait(self, cost: int = 1) -> float:
         """Waits until a call of this cost may begin, and returns for how many seconds it slept. Raises `TooSoon` at
         once if that would be longer than `longest`, or past the deadline of the retry that makes this call. If the wait
-        is ended by an exception, such as a `KeyboardInterrupt`, the call's place goes to the next one."""
+        is ended by an exception, such as a `KeyboardInterrupt`, the call's place goes to the next one, unless another
+        call took a later place meanwhile."""
         wait, left = self._taken(cost)
         if left > 0.0:
             with wait:
@@ -104,7 +109,8 @@ class Pacing(OfOneProcess):
         return left
 
     async def wait_async(self, cost: int = 1) -> float:
-        """The same for a coroutine of asyncio or trio; one that is cancelled while it waits gives its place back."""
+        """The same for a coroutine of asyncio or trio; one that is cancelled while it waits gives its place back,
+        unless another call took a later one meanwhile."""
         wait, left = self._taken(cost)
         if left > 0.0:
             with wait:
@@ -287,7 +293,7 @@ def _terms_of(calls: int, per: Duration, burst: int, longest: Optional[Duration]
     except PolicyError as error:
         raise TermsError(error.hint) from None
     each = -(-period * 1000 // number)
-    if not 1 <= each <= _MAX_EACH:
+    if number > period * 1000 or each > _MAX_EACH:
         raise TermsError(f"expected from a microsecond to {_MAX_EACH // 10**6} seconds a call, got {calls} in {per!r}")
     if wait > _MAX_WAIT:
         raise TermsError(f"longest: expected at most {_MAX_WAIT // 1000} seconds, got {shown(longest)}")

@@ -53,8 +53,8 @@ _COMMON = """
         as a stream, is retried only if no connection was made.
 
     `pace`
-        A `Pace`, or a `LeasedPace`, for which each attempt waits. A request that it would let wait too long raises a
-        `TooSoon`.
+        A `Pace`, or a `LeasedPace`, for which each attempt waits; `slow` does not count the wait. A request that it
+        would let wait too long raises a `TooSoon`.
 
     It takes the options of `Retrying` too, such as `limit` and `deadline`. With a `PerHost` as the limit, each host has
     one of its own; the key of another `PerKey` is told the request. A request that a limit doesn't admit raises
@@ -217,6 +217,8 @@ class PolicyClient:
         progress.ends_now = call.is_spent()
         if self._waits is not None:
             yield self._waits, 1
+            if progress.settings.slow_millis is not None:
+                progress.attempt_begins()  # (the wait for its pace is no part of it)
         try:
             response = yield self._attempt, request
             is_refused = self.is_refused(response)

@@ -85,7 +85,8 @@ def sentences(found: Advised, policies: Sequence[Policy]) -> List[str]:
         f"{_worst(found, best)} of the requests succeed."
     ]
     if advice.runner_up is None:
-        return [*said, "With no limit of another kind does it come back in every story."]
+        has_others = len({limit.kind for _, limit in found.tried}) > 1
+        return [*said, _NO_OTHER if has_others else "No limit of another kind was tried."]
     other = found.trials[advice.runner_up]
     return [
         *said,
@@ -132,6 +133,7 @@ def _nothing_helps(found: Advised, policies: Sequence[Policy]) -> List[str]:
     return said + ([f"It would not with {' or with '.join(vain)}."] if vain else [])
 
 
+_NO_OTHER = "With no limit of another kind does it come back in every story."
 #: What helps, and what does not.
 _HELPS = {
     "capacity": "a capacity of at least {} calls/s",

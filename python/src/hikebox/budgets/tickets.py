@@ -88,7 +88,7 @@ class Refusal:
     `reason`
         A `RefusalReason`.
     `again_at`
-        When to draw again, in seconds by the clock of the limit: when the next window begins, or when the store is
+        When to draw again, in seconds by `limit.clock()`: when the next window begins, or when the store is
         asked again. None if that is not known. More requests, or a raised limit, may give a ticket before.
     `error`
         What the store raised, or None.

@@ -3,7 +3,7 @@
 from __future__ import annotations
 
 import os
-from typing import Dict, Optional
+from typing import Dict, Optional, Tuple
 
 from ..budget import Budget
 from ..budgets.limit import Limit
@@ -14,7 +14,7 @@ from ..limits import Breaker, Bucket, CallLimit
 from ..limits.breaker import times_of
 from ..policy import Policy
 from ..policy.builders import spaced
-from ..storms.limits import limit_of
+from ..storms.limits import has_form, limit_of
 from . import values
 
 __all__ = ["SPELLINGS", "limit", "pace"]
@@ -61,7 +61,7 @@ and a folder keeps one word of a limit
         if is_number:
             return Leased(store, "run", int(spelt), lease=1)
         if spelt[:1].isdigit():
-            return LeasedQuota(store, "run", *values.terms(spelt), lease=1)
+            return LeasedQuota(store, "run", *_quota(spelt), lease=1)
         return SharedLimit(store, "run", _call_limit(spelt, open_for))
     except TermsError as error:
         raise LimitError(f"--limit: {error}, in {spelt!r}") from None
@@ -79,17 +79,26 @@ def pace(text: str) -> LeasedPace:
         raise LimitError(f"--pace: {error}") from None
 
 
+def _quota(spelt: str) -> Tuple[int, float, float]:
+    try:
+        return values.terms(spelt)
+    except LimitError as error:
+        raise LimitError(f"--limit: {error}") from None
+
+
 def _call_limit(spelt: str, open_for: Optional[Policy]) -> CallLimit:
     kind = spelt.partition(":")[0]
     if kind in _NOT_SHARED:
         raise LimitError(f"--limit: expected a bucket or a breaker, got {spelt!r}: {_NOT_SHARED[kind]}")
-    try:
-        numbers = dict(limit_of(spelt).numbers)
-    except TermsError:
+    if not has_form(spelt):
         raise LimitError(
             f"--limit: expected N, RESERVE/SHARE%/PERIOD, or one of {SPELLINGS} (ratios and a bucket's numbers in "
             f"thousandths, the deadline in milliseconds), such as grpc:10/100, got {spelt[:300]!r}"
-        ) from None
+        )
+    try:
+        numbers = dict(limit_of(spelt).numbers)
+    except TermsError as error:
+        raise LimitError(f"--limit: {error}") from None
     return _breaker(numbers, open_for) if kind == "breaker" else _bucket(numbers)
 
 

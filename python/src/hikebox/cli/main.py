@@ -3,6 +3,7 @@
 from __future__ import annotations
 
 import argparse
+import errno
 import os
 import sys
 from itertools import repeat
@@ -97,8 +98,8 @@ replica, it is played as two of half the capacity where one is down.
 
 Times are in milliseconds, except for --seconds. An expression has seconds. A storm makes no call and takes no time.
 
-If the peer comes back in every story under no limit, it says which limit is the nearest, and with which capacity,
-patience or queue that would do.
+If no limit brings the peer back in every story, it says which limit is the nearest, and with which capacity, patience
+or queue that would do.
 
 examples:
   hikebox advise 'recurs(8) & exponential(0.1, 2).cap(10).jittered(0, 1)'
@@ -497,7 +498,8 @@ def _read(source: Union[int, str]) -> bytes:
         with open(source, "rb", closefd=source != 0) as file:
             text = file.read(MAX_BYTES + 1)
     except OSError as error:
-        _stop(f"read failed: {source if source else 'standard input'}: {error.strerror}", BAD_STREAM)
+        wanted = "; expected a file, JSON or an expression, as spaced(30)" if error.errno == errno.ENOENT else ""
+        _stop(f"read failed: {source if source else 'standard input'}: {error.strerror}{wanted}", BAD_STREAM)
     if len(text) > MAX_BYTES:
         _stop("input too long", BAD_INPUT)
     return text

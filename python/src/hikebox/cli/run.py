@@ -9,7 +9,7 @@ import signal
 import sys
 import tempfile
 from dataclasses import dataclass
-from typing import Any, FrozenSet, Optional, Sequence
+from typing import Any, FrozenSet, Optional, Sequence, Union
 
 from ..budgets.limit import Limit
 from ..errors import NotAdmitted, StoreError, TooSoon
@@ -115,8 +115,8 @@ def run_command(command: Sequence[str], options: RunOptions) -> int:
             status = NOT_ADMITTED
             runner.tell_refusal(refused)
         except (TooSoon, StoreError) as error:
-            status = NOT_ADMITTED
-            runner.tell(f"not run: {error}", always=True)
+            status = NOT_ADMITTED if runner.last is None else runner.last.status
+            runner.tell_no_pace(error)
         except Ended as ended:
             status = ended.status
         except OutputTooLong:
@@ -158,6 +158,8 @@ class Runner:
         self.input: Optional[int] = None
         self.output: Optional[int] = None
         self.number = 0
+        #: How the latest attempt failed.
+        self.last: Optional[Failed] = None
         #: The signal that ended the run.
         self.ended_by: Optional[int] = None
         #: Whether the attempt took too long.
@@ -185,7 +187,11 @@ class Runner:
         if pace is not None:
             pace.sleep = self.wait_for_pace
             pace.wait()
-        self.attempt()
+        try:
+            self.attempt()
+        except Failed as failed:
+            self.last = failed
+            raise
 
     def wait_for_pace(self, seconds: float) -> None:
         """Waits until the pace lets the next attempt begin."""
@@ -266,6 +272,15 @@ class Runner:
             self.tell(f"attempt {state.attempt_number}: {failed}; {why}")
         else:
             self.tell(f"{failed}, which is not retried")
+
+    def tell_no_pace(self, error: Union[TooSoon, StoreError]) -> None:
+        """Its pace, or the store of that, lets no attempt begin, or no other one."""
+        is_broken = isinstance(error, StoreError)
+        if self.last is None:
+            self.tell(f"not run: {error}", always=True)
+        else:
+            why = str(error) if is_broken else "its pace leaves no time for another attempt"
+            self.tell(f"attempt {self.number}: {self.last}; {why}", always=is_broken)
 
     def tell_refusal(self, refused: NotAdmitted) -> None:
         refusal, limit = refused.refusal, self.options.limit

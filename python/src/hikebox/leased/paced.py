@@ -3,14 +3,16 @@
 from __future__ import annotations
 
 import time
-from typing import Any, Callable, Optional, Protocol
+from typing import Any, Callable, Optional, Protocol, TypeVar
 
 from .._time import Duration
-from ..errors import TooSoon
+from ..errors import StoreError, TooSoon
 from ..pace import PaceTerms, Pacing, Wait
 from .stores import Taken, checked_name, checked_store
 
 __all__ = ["LeasedPace", "PaceStore"]
+
+Answer = TypeVar("Answer")
 
 
 class PaceStore(Protocol):
@@ -28,8 +30,8 @@ class LeasedPace(Pacing):
 
     Its parameters are those of a `Pace`. Each call is one step of the store, by the store's clock: a `FileStore` for
     the processes of one machine, from the machine's start on, or a `RedisStore` for many machines. If the store can't
-    be reached, a call raises a `StoreError` and does not begin. A Redis server that is started without its data begins
-    its paces anew.
+    be reached, a call raises a `StoreError` and does not begin; as of a `TooSoon`, the `limit` of a retry does not hear
+    of it. A Redis server that is started without its data begins its paces anew.
 
     >>> import tempfile
     >>> from hikebox.leased import FileStore
@@ -60,13 +62,21 @@ class LeasedPace(Pacing):
         self.name = checked_name(name)
 
     def take(self, cost: int) -> Wait:
-        taken = self.store.take_of_pace(self.name, self.terms, cost)
+        taken = self._asked(self.store.take_of_pace, cost)
         # (the store answered before this moment, so the call begins no earlier than it was told)
         then = self.clock() + taken.millis / 1000
         if not taken.is_granted:
             longest = self.terms.longest / 1000
             raise TooSoon(taken.millis / 1000 + longest, longest, then)
-        return Wait(then, lambda: self.store.give_back_of_pace(self.name, self.terms, cost, taken.mark), _nothing)
+        return Wait(then, lambda: self._asked(self.store.give_back_of_pace, cost, taken.mark), _nothing)
+
+    def _asked(self, step: Callable[..., Answer], *numbers: int) -> Answer:
+        """What the store answers. An error of it is the pace's: the call does not begin."""
+        try:
+            return step(self.name, self.terms, *numbers)
+        except StoreError as error:
+            error.is_of_pace = True
+            raise
 
     def __repr__(self) -> str:
         return f"LeasedPace({self.store!r}, {self.name!r}, {self.spelt()})"

@@ -12,6 +12,7 @@ from .._engine.limits import OUT_OF_TURN, LimitHandle, Refused
 from ..budgets.tickets import Refusal, RefusalReason
 from ..errors import StoreError, StoreLost
 from ..limits import Breaker, Bucket, CallLimit, Request
+from ..limits.limit import NONE_UNDER_WAY
 from .file_store import FileStore
 from .machine import shared_uptime
 from .stores import checked_name
@@ -125,7 +126,7 @@ class _SharedRequest(Request):
         if answer is None or answer[0] != OUT_OF_TURN:
             return None if answer is None else self._of.refused(*answer)
         if self._refusal is None:
-            raise RuntimeError("expected a request that was admitted, got none under way")
+            raise RuntimeError(NONE_UNDER_WAY)
         return self._refusal
 
     def failed(self) -> None:
@@ -153,6 +154,8 @@ class _SharedRequest(Request):
 
     def _tells(self, call: int) -> None:
         self._look_at_fork()
+        if call != CANCELLED and not self._is_admitted and self._refusal is None:
+            raise RuntimeError(NONE_UNDER_WAY)
         if not self._is_missed:
             self._step(call)
 

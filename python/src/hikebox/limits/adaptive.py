@@ -2,11 +2,12 @@
 
 from __future__ import annotations
 
+import contextlib
 import time
 
 from .._engine.limits import LimitHandle
 from ..budgets.terms import count_of, thousandths_of, thousandths_text
-from ..errors import TermsError
+from ..errors import TermsError, shown
 from .limit import CallLimit
 from .seen import AdaptiveSeen
 from .terms import LimitTerms, adaptive
@@ -26,7 +27,7 @@ class Adaptive(CallLimit):
         What a failure leaves of it, from 0.001 to 0.999. It is counted in thousandths.
 
     A success raises the bound by its reciprocal, and only while at least half as many calls are under way as it allows:
-    an idle client learns nothing. It grants each retry, which is a part of its call; put a quota beside it for those.
+    an idle client learns nothing. It grants each retry, which is a part of its call; put a bucket beside it for those.
 
     >>> from hikebox import recurs, retry
     >>> @retry(recurs(3), limit=Adaptive())
@@ -41,11 +42,9 @@ class Adaptive(CallLimit):
     def __init__(self, *, least: int = 1, most: int = 200, first: int = 20, backoff: float = 0.9) -> None:
         count_of("most", most, 1, _MOST)
         if not count_of("least", least, 1, _MOST) <= count_of("first", first, 1, _MOST) <= most:
-            raise TermsError(f"expected least <= first <= most, got {least}, {first} and {most}")
-        share = thousandths_of("backoff", backoff, 999)
-        if share == 0:
-            raise TermsError(f"backoff: expected 0.001 to 0.999, got {backoff!r}")
-        self._terms = (least, most, first, share)
+            default = " (first is 20 by default)" if first == 20 else ""
+            raise TermsError(f"expected least <= first <= most, got {least}, {first} and {most}{default}")
+        self._terms = (least, most, first, _share_of(backoff))
         super().__init__(time.monotonic)
 
     def make(self) -> LimitHandle:
@@ -62,6 +61,16 @@ class Adaptive(CallLimit):
     def expression(self) -> str:
         least, most, first, share = self._terms
         return f"Adaptive(least={least}, most={most}, first={first}, backoff={thousandths_text(share)})"
+
+
+def _share_of(backoff: float) -> int:
+    """What a failure leaves, in thousandths."""
+    share = 0
+    with contextlib.suppress(TermsError):
+        share = thousandths_of("backoff", backoff, 999)
+    if share == 0:
+        raise TermsError(f"backoff: expected 0.001 to 0.999, got {shown(backoff)}")
+    return share
 
 
 #: The most calls at once.

@@ -5,13 +5,15 @@ from __future__ import annotations
 import logging
 import time
 from collections import deque
+from datetime import timedelta
 from typing import Any, Callable, Deque, List, Optional, Tuple, Type
 
 from .._engine.limits import STATE_CLOSED, STATE_OPEN, LimitHandle
 from .._time import Duration, moment, seconds_text
 from ..budgets.terms import count_of, duration_of
-from ..errors import TermsError
+from ..errors import PolicyError, TermsError
 from ..policy import Policy
+from ..retry.kinds import look_at_function
 from .kinds import MAX_COUNT
 from .limit import CallLimit, Request, WatchedRequest
 from .seen import BreakerSeen, BreakerState
@@ -90,11 +92,8 @@ class Breaker(CallLimit):
     ) -> None:
         self._results = 0 if results is None else count_of("results", results, 1, _MAX_RESULTS)
         self._failures = count_of("failures", failures, 1, self._results or MAX_COUNT)
-        if isinstance(open_for, (int, float)):
-            raise TypeError(f"open_for: expected a policy, as spaced({open_for}), got {open_for!r}")
-        if on_change is not None and not callable(on_change):
-            raise TypeError(f"on_change: expected a function, got {on_change!r}")
-        self._policy = Policy.of(open_for)
+        look_at_function("on_change", on_change, awaits=False)
+        self._policy = _policy_of(open_for)
         self._probes = count_of("probes", probes, 1, 15)
         self._deadline = duration_of("probe_deadline", probe_deadline)
         self._times = times_of(self._policy)
@@ -198,6 +197,19 @@ class Breaker(CallLimit):
         probes = "" if self._probes == 1 else f", probes={self._probes}"
         deadline = "" if self._deadline == 30_000 else f", probe_deadline={seconds_text(self._deadline)}"
         return f"Breaker({self._failures}, {self._policy!r}{results}{probes}{deadline})"
+
+
+def _policy_of(open_for: Any) -> Policy:
+    """The policy whose waits are the open times."""
+    if isinstance(open_for, (int, float, timedelta)):
+        number = f"{open_for.total_seconds():g}" if isinstance(open_for, timedelta) else open_for
+        raise TypeError(f"open_for: expected a policy, as spaced({number}), got {open_for!r}")
+    try:
+        return Policy.of(open_for)
+    except PolicyError as error:
+        raise TermsError(f"open_for: {error}") from None
+    except TypeError as error:
+        raise TypeError(f"open_for: {error}") from None
 
 
 def times_of(policy: Policy, name: str = "open_for") -> List[int]:

@@ -185,7 +185,7 @@ class InFlight(CallLimit):
     @classmethod
     def bulkhead(cls, most: int) -> InFlight:
         """At most so many calls at once, and no other bound on their retries."""
-        return cls(most, 0, most=most)
+        return cls(count_of("most", most, 1, MAX_COUNT), 0, most=most)
 
     @classmethod
     def envoy(cls, budget_percent: float = 20, min_retry_concurrency: int = 3) -> InFlight:

@@ -35,8 +35,10 @@ from ..budgets.tickets import Refusal, RefusalReason
 from ..policy.preview import word_of
 from .terms import LimitTerms
 
-__all__ = ["CallLimit", "Request", "WatchedRequest", "look_at_no_limit"]
+__all__ = ["NONE_UNDER_WAY", "CallLimit", "Request", "WatchedRequest", "look_at_no_limit", "of_pace"]
 
+#: What is told of a call that is out of its turn.
+NONE_UNDER_WAY = "expected a request that was admitted, got none under way"
 _REASONS = {
     LEVEL_LOW: RefusalReason.LEVEL_LOW,
     REQUESTS_FULL: RefusalReason.REQUESTS_FULL,
@@ -196,7 +198,8 @@ class Request(OfOneProcess):
     """One call under a `CallLimit`, from its first attempt to its end. Use it as a context manager, or call `ended()`.
 
     The order is: `admit()`, then after each attempt `succeeded()`, or `failed()` and, if you retry, `draw()`. For a
-    success that took too long call `failed()` too, in the place of `succeeded()`.
+    success that took too long call `failed()` too, in the place of `succeeded()`. Where it was not admitted, these
+    raise a `RuntimeError`.
     """
 
     __slots__ = ("_limit", "_handle", "_is_admitted", "_refusal")
@@ -261,7 +264,7 @@ class Request(OfOneProcess):
         if status != OUT_OF_TURN:
             return limit.refused(_refusal_of("draw", status), handle.number.value)
         if self._refusal is None:
-            raise RuntimeError("expected a request that was admitted, got none under way")
+            raise RuntimeError(NONE_UNDER_WAY)
         return self._refusal
 
     def failed(self) -> None:
@@ -269,6 +272,8 @@ class Request(OfOneProcess):
         handle, limit = self._handle, self._limit
         if handle is None or handle.home is not limit.idle:
             handle = self._held()
+        if not self._is_admitted and self._refusal is None:
+            raise RuntimeError(NONE_UNDER_WAY)
         if handle.now is not NO_NUMBER:
             handle.now.value = limit.now()
         status = failed(handle.at, handle.now)
@@ -280,6 +285,8 @@ class Request(OfOneProcess):
         handle, limit = self._handle, self._limit
         if handle is None or handle.home is not limit.idle:
             handle = self._held()
+        if not self._is_admitted and self._refusal is None:
+            raise RuntimeError(NONE_UNDER_WAY)
         if handle.won_at is not NO_NUMBER:
             handle.won_at.value = limit.now()
         status = succeeded(handle.at, handle.won_at)
@@ -378,6 +385,13 @@ def _refusal_of(call: str, status: int) -> int:
 
 
 CallLimit.REQUEST = Request
+
+
+def of_pace(given: object) -> str:
+    """What an error says besides, where a pace is given for a limit."""
+    from ..pace import Pacing  # which others need not load
+
+    return "; a pace goes under retry, as a decorator" if isinstance(given, Pacing) else ""
 
 
 def look_at_no_limit(called: str, limit: object, client: str) -> None:

@@ -5,9 +5,10 @@ from __future__ import annotations
 from typing import Iterable, List, Optional, Tuple, Type
 
 from .._engine.limits import LimitHandle
+from ..budgets.limit import Limit
 from ..errors import TermsError
 from .kinds import Bucket, Throttle
-from .limit import CallLimit, Request
+from .limit import CallLimit, Request, of_pace
 from .seen import Seen
 
 __all__ = ["both"]
@@ -87,6 +88,14 @@ def _told(limits: Iterable[CallLimit]) -> str:
     return ", ".join(map(repr, limits))
 
 
+def _of_quota(limit: object) -> str:
+    """What an error says besides, where a quota or a budget is given."""
+    if isinstance(limit, CallLimit) or not isinstance(limit, Limit):
+        return ""
+    kind = "quota" if hasattr(limit, "deposit") else "budget"
+    return f"; a {kind} can't be joined" if hasattr(limit, "draw") else ""
+
+
 def both(first: CallLimit, second: CallLimit, *others: CallLimit) -> CallLimit:
     """Returns a limit that asks all of these, at most four: either all admit a call or grant a retry, or what those
     before gave comes back at once. They are asked in their order. Put breakers and throttles last: a probe that a
@@ -100,9 +109,8 @@ def both(first: CallLimit, second: CallLimit, *others: CallLimit) -> CallLimit:
     limits: List[CallLimit] = []
     for limit in (first, second, *others):
         if not isinstance(limit, CallLimit) or not limit.parts():
-            raise TypeError(
-                f"both: expected a Bucket, an InFlight, a Breaker, a Throttle or an Adaptive, got {limit!r}"
-            )
+            wanted = "a Bucket, an InFlight, a Breaker, a Throttle or an Adaptive"
+            raise TypeError(f"both: expected {wanted}, got {limit!r}{_of_quota(limit) or of_pace(limit)}")
         limits += limit.parts()
     twice = [limit for index, limit in enumerate(limits) if any(limit is other for other in limits[:index])]
     if twice:

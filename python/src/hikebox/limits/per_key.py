@@ -111,7 +111,24 @@ class PerKey(OfOneProcess, Limit, Generic[Made]):
     def retrying_of(self, owner: Any, args: Tuple[Any, ...], kwargs: Mapping[str, Any]) -> Any:
         """What retries a call with these arguments: as this owner does, under the limit of the call's key."""
         assert self.key is not None, "a PerKey without a key is no limit of a retry"
-        entry = self._entry(self.key(*args, **kwargs))
+        return self._retrying(owner, self.key(*args, **kwargs))
+
+    def retrying_of_block(self, owner: Any) -> Any:
+        """The same for the blocks of a loop, which has no arguments."""
+        assert self.key is not None, "a PerKey without a key is no limit of a retry"
+        try:
+            key = self.key()
+        except TypeError:
+            if _takes_none(self.key):
+                raise
+            wanted = "expected the limit of one key, as per_key[..]"
+            why = "a loop has no arguments of which its key is a function"
+            raise TypeError(f"limit: {wanted}, got {self!r}: {why}") from None
+        return self._retrying(owner, key)
+
+    def _retrying(self, owner: Any, key: Hashable) -> Any:
+        """What retries as this owner does, under the limit of a key."""
+        entry = self._entry(key)
         found = entry.retrying.get(owner)
         if found is None:
             found = owner.copy(limit=entry.limit)
@@ -195,6 +212,18 @@ def _host_of(request: Any, *_: Any, **__: Any) -> str:
         raise ValueError(f"expected a URL with a host, got {url.geturl()!r}")
     host = f"[{host}]" if ":" in host else host
     return host if url.port in (None, _PORTS.get(url.scheme)) else f"{host}:{url.port}"
+
+
+def _takes_none(function: Callable[..., Any]) -> bool:
+    """Whether a function may be called without an argument, as far as Python knows."""
+    import inspect
+
+    try:
+        parameters = inspect.signature(function).parameters.values()
+    except (TypeError, ValueError):
+        return True
+    variable = (inspect.Parameter.VAR_POSITIONAL, inspect.Parameter.VAR_KEYWORD)
+    return all(each.kind in variable or each.default is not inspect.Parameter.empty for each in parameters)
 
 
 def look_at_no_keys(called: str, limit: object, client: str) -> None:

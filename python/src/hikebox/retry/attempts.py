@@ -88,7 +88,7 @@ class _BaseAttempts:
         if owner.settings.hedge_millis is not None:
             raise TypeError("hedge_after: expected a coroutine function; the block of a loop can't run beside itself")
         per_key = owner.settings.per_key
-        self.progress = HeldProgress(owner if per_key is None else per_key.retrying_of(owner, (), {}))
+        self.progress = HeldProgress(owner if per_key is None else per_key.retrying_of_block(owner))
         #: The steps of the retry, once something is to be done for it.
         self.steps: Optional[Steps] = None
         #: What the retry wants, once it began.

@@ -95,7 +95,7 @@ def _verdict(progress: Progress, outcome: Outcome, is_new: bool) -> Steps:
         yield OVER
     else:
         if settings.asks_limit and is_new and isinstance(error, Exception):
-            progress.drawing.failed()
+            progress.fails(error)
         yield RAISE
 
 

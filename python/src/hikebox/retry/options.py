@@ -26,8 +26,10 @@ from ..budget import Budget
 from ..budgets.drawing import ByCall
 from ..budgets.limit import Limit
 from ..budgets.passes import UNLIMITED, Grants
-from ..errors import AttemptTimeout, LimitClosed, TermsError, TryAgain
+from ..budgets.terms import duration_of
+from ..errors import AttemptTimeout, LimitClosed, TermsError, TryAgain, shown
 from ..limits import CallLimit, PerKey
+from ..limits.limit import of_pace
 from ..policy import Policy
 from ..quota import Quota
 from .kinds import hooks_of, look_at_function, parts_of_on, stop_of
@@ -121,11 +123,14 @@ def _hedge_after_follows(settings: Settings) -> None:
         raise TypeError("hedge_after: expected a coroutine function: the call of a thread can't be cancelled")
     if settings.repeats:
         raise TypeError("hedge_after: a repeat makes one call after the other; expected an AsyncRetrying")
+    if settings.attempt_millis is not None and (settings.hedge_millis or 0) > settings.attempt_millis:
+        most = f"attempt_timeout, {shown(settings.attempt_timeout)}"
+        raise TermsError(f"hedge_after: expected at most {most}, got {shown(settings.hedge_after)}")
 
 
 def _above_0(name: str, duration: Optional[Duration]) -> Optional[int]:
-    """The milliseconds of a time, which may not be 0."""
-    millis = None if duration is None else seconds(duration, name)
+    """The milliseconds of a time, which may not be 0, or a `TermsError`."""
+    millis = None if duration is None else duration_of(name, duration)
     if millis == 0:
         raise TermsError(f"{name}: expected a time above 0, got {duration!r}")
     return millis
@@ -189,7 +194,8 @@ def _grants_of(limit: Any, clock: Any, awaits: bool) -> Tuple[Grants, Any]:
     if isinstance(limit, (list, tuple)):
         raise TypeError(f"limit: expected one object, got {limit!r}; both(..) makes one of several limits")
     if not callable(draw):
-        raise TypeError(f"limit: expected a limit such as a Budget, or something with draw(), got {limit!r}")
+        why = of_pace(limit)
+        raise TypeError(f"limit: expected a limit such as a Budget, or something with draw(), got {limit!r}{why}")
     if isinstance(limit, Budget) or (isinstance(limit, Quota) and limit.clock == clock):
         return limit, None
     if isinstance(limit, CallLimit):
@@ -346,6 +352,7 @@ class Options:
         The attempt of a thread or of a loop can't be ended, so there it is a `TypeError`.""",
         _attempt_timeout_follows,
         _on_follows,
+        _hedge_after_follows,
     )
     hedge_after: Optional[Duration] = option(
         None,
@@ -353,7 +360,9 @@ class Options:
         a coroutine function is late, in seconds or as a `timedelta`. To the policy and the `limit` it has failed then,
         with an `AttemptTimeout`, but it goes on. They say whether and when the next attempt begins beside it. The first
         success is the result; the other attempts are cancelled and awaited. Of a late attempt that fails nobody hears,
-        but if it is the last to fail, the call raises that. For a function, a loop or a repeat it is a `TypeError`.""",
+        but if it is the last to fail, the call raises that. For a function, a loop or a repeat it is a `TypeError`. It
+        may not be longer than `attempt_timeout`.""",
+        _attempt_timeout_follows,
         _hedge_after_follows,
     )
     stop: Optional[Stop] = option(

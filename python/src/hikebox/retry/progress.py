@@ -10,6 +10,7 @@ from .._engine.machine import MAX_IDLE, Machine, idle, is_crowded, new_machine, 
 from .._time import FLOAT_ERROR, GRAIN, MAX_NUMBER, moment
 from ..budgets.passes import Ends
 from ..budgets.tickets import Refusal
+from ..errors import HikeboxError
 from ..policy.preview import word_of
 from .deadline import Deadline
 from .marks import DEBUG, late, log_wait
@@ -113,6 +114,11 @@ class Progress:
             self.drawing.succeeded()
 
     # A failure
+
+    def fails(self, error: Optional[BaseException]) -> None:
+        """Tells the limit that an attempt failed. One that its pace did not let begin says nothing of the peer."""
+        if not (isinstance(error, HikeboxError) and error.is_of_pace):
+            self.drawing.failed()
 
     def goes_on(self) -> bool:
         """Whether the policy goes on after the state's outcome, and a ticket was drawn for that where nothing has to be

@@ -284,8 +284,12 @@ class Statistics:
 
     @property
     def retries(self) -> int:
-        """Attempts after the first of each call."""
-        return self.attempts - self.calls
+        """Attempts after the first of each call. A call that was not admitted made none.
+
+        >>> Statistics(calls=101, attempts=3, won=1, not_admitted=100).retries
+        2
+        """
+        return self.attempts - self.calls + self.not_admitted
 
     @property
     def by_ending(self) -> Dict[str, int]:

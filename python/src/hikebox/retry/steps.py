@@ -77,7 +77,7 @@ def steps(progress: Progress, is_counted: bool = False, is_judged: bool = False)
         # (a GeneratorExit closes a coroutine or a generator, which then has to end, unless `on` names it)
         if is_judged or (isinstance(outcome.error, settings.types) and type(outcome.error) is not GeneratorExit):
             if settings.asks_limit:
-                progress.drawing.failed()
+                progress.fails(outcome.error)
         elif not (yield from _is_retried(progress, outcome)):
             break
         state.seconds_since_start = settings.clock() - state.start_time + progress.ahead
@@ -134,7 +134,7 @@ def _is_retried(progress: Progress, outcome: Outcome) -> Part:
         if outcome.error is None and progress.is_accepted:
             progress.succeeds()
         elif outcome.error is None or is_retried or isinstance(outcome.error, Exception):
-            progress.drawing.failed()
+            progress.fails(outcome.error)
     return is_retried
 
 

@@ -2,12 +2,12 @@
 
 from __future__ import annotations
 
-from typing import Dict, List, Optional, Tuple
+from typing import Dict, List, Optional, Tuple, Union
 
 from ..errors import TermsError
 from ..limits.terms import LimitTerms, adaptive, breaker, bucket, in_flight, throttle
 
-__all__ = ["KINDS", "LIMIT_FORMS", "LIMIT_WANTED", "limit_of"]
+__all__ = ["KINDS", "LIMIT_FORMS", "LIMIT_WANTED", "has_form", "limit_of"]
 
 #: The greatest capacity of a bucket, in thousandths, and the greatest number of 32 bits and of the engine.
 _MAX_CAPACITY, _MAX_COUNT, _MAX_NUMBER = 2**40, 2**32 - 1, 2**62 - 1
@@ -36,6 +36,23 @@ LIMIT_FORMS = (
     "adaptive:LEAST/MOST/FIRST/BACKOFF",
 )
 
+#: Where a number begins or ends: a number, or another one of the text by its name, also times so many.
+Bound = Union[int, str]
+#: The numbers of each kind, in the order of its spelling, and from where to where each may be.
+_RANGES: Dict[str, Tuple[Tuple[str, Bound, Bound], ...]] = {
+    "bucket": (
+        ("CAPACITY", 0, _MAX_CAPACITY),
+        *((name, 0, "CAPACITY") for name in ("FLOOR", "COST", "LATE", "DEBIT", "CREDIT")),
+    ),
+    "grpc": (("TOKENS", 1, _MAX_CAPACITY // 1000), ("RATIO", 0, "1000*TOKENS")),
+    "inflight": (("LEAST", 0, _MAX_COUNT), ("SHARE", 0, _MAX_COUNT), ("MOST", 1, _MAX_COUNT)),
+    "breaker": (("FAILURES", 1, 32), ("RESULTS", "FAILURES", 32), ("PROBES", 1, 15), ("DEADLINE", 0, _MAX_NUMBER)),
+    "throttle": (("RATIO", 1000, _MAX_COUNT), ("PERIOD", 1, _MAX_NUMBER)),
+    "adaptive": (("LEAST", 1, 65_535), ("MOST", "LEAST", 65_535), ("FIRST", "LEAST", "MOST"), ("BACKOFF", 1, 999)),
+}
+#: Those of a breaker whose failures count in a row.
+_IN_A_ROW = (("FAILURES", 1, _MAX_COUNT), *_RANGES["breaker"][2:])
+
 LIMIT_WANTED = (
     "expected bucket:CAPACITY/FLOOR/COST/LATE/DEBIT/CREDIT (in thousandths of a token, with +refund or without), "
     "grpc:TOKENS/RATIO, aws, inflight:LEAST/SHARE[/MOST], breaker:FAILURES[/RESULTS]/PROBES/DEADLINE, "
@@ -49,14 +66,14 @@ def limit_of(text: str, times: Tuple[int, ...] = _OPEN) -> LimitTerms:
     >>> limit_of("grpc:100/100").text, limit_of("breaker:5/1/1000").times
     ('grpc:100/100', (30000,))
     """
-    kind, colon, spelt = text.partition(":")
-    spelt, plus, refund = spelt.partition("+")
-    numbers = _numbers(spelt) if colon else []
     if text == "aws":
         return bucket(500_000, 0, 5000, 10_000, 0, 1000, True, "aws")
-    fits = numbers is not None and colon and len(numbers) in KINDS.get(kind, ())
-    if numbers is None or not fits or (plus and (kind, refund) != ("bucket", "refund")) or not _in_range(kind, numbers):
+    if not has_form(text):
         raise TermsError(f"{LIMIT_WANTED}, got {text[:300]!r}")
+    kind, _, spelt = text.partition(":")
+    spelt, plus, _ = spelt.partition("+")
+    numbers = _numbers(spelt) or []
+    _look_at_ranges(text, kind, numbers)
     if kind == "bucket":
         capacity, floor, cost, late, debit, credit = numbers
         return bucket(capacity, floor, cost, late, debit, credit, bool(plus))
@@ -83,21 +100,31 @@ def _breaker_of(numbers: List[int]) -> List[int]:
     return numbers if len(numbers) == 4 else [numbers[0], 0, *numbers[1:]]
 
 
-def _in_range(kind: str, numbers: List[int]) -> bool:
-    if kind == "bucket":
-        return numbers[0] <= _MAX_CAPACITY and max(numbers) <= numbers[0]
-    if kind == "grpc":
-        tokens, ratio = numbers
-        capacity = 1000 * tokens
-        return capacity <= _MAX_CAPACITY and max(500 * tokens + 1, 1000, ratio) <= capacity
-    if kind == "inflight":
-        return max(numbers) <= _MAX_COUNT and numbers[2:] != [0]
-    if kind == "adaptive":
-        least, most, first, backoff = numbers
-        return 1 <= least <= first <= most <= 65_535 and 1 <= backoff <= 999
-    if kind == "breaker":
-        failures, results, probes, deadline = _breaker_of(numbers)
-        in_range = 1 <= failures <= (results or _MAX_COUNT) and (len(numbers) == 3 or 1 <= results <= 32)
-        return in_range and 1 <= probes <= 15 and deadline <= _MAX_NUMBER
-    ratio, period = numbers
-    return 1000 <= ratio <= _MAX_COUNT and 1 <= period <= _MAX_NUMBER
+def has_form(text: str) -> bool:
+    """Whether a text is spelt as a limit, with as many numbers as its kind has.
+
+    >>> has_form("breaker:5/1/1000"), has_form("breaker:99/99/99/0"), has_form("breaker:5")
+    (True, True, False)
+    """
+    kind, colon, spelt = text.partition(":")
+    spelt, plus, refund = spelt.partition("+")
+    numbers = _numbers(spelt) if colon else None
+    if numbers is None or (plus and (kind, refund) != ("bucket", "refund")):
+        return text == "aws"
+    return len(numbers) in KINDS.get(kind, ())
+
+
+def _look_at_ranges(text: str, kind: str, numbers: List[int]) -> None:
+    """Raises a `TermsError` that names the first number that is out of its range."""
+    ranges = _IN_A_ROW if (kind, len(numbers)) == ("breaker", 3) else _RANGES[kind]
+    known = {name: number for (name, _, _), number in zip(ranges, numbers)}
+
+    def value(bound: Bound) -> int:
+        if isinstance(bound, int):
+            return bound
+        factor, _, name = bound.rpartition("*")
+        return int(factor or 1) * known[name]
+
+    for name, least, most in ranges[: len(numbers)]:
+        if not value(least) <= known[name] <= value(most):
+            raise TermsError(f"{text}: {name}: expected {least} to {most}, got {known[name]}")

@@ -258,9 +258,9 @@ def storm(
     `limit`
         What limits the retries: None, a number of tickets, or the terms of a `Budget` or a `Quota`, from which no
         ticket is drawn. Requests count when they come, and no ticket comes back, whatever the quota's options are.
-        Or the terms of a `Bucket`, an `InFlight`, a `Breaker` or a `Throttle`, which requests also ask before their
-        first call; a call that its client gave up costs what a `TimeoutError` does. The limit itself stays as it is.
-        A text such as `"grpc:100/100"` spells one as the command line does.
+        Or the terms of a `Bucket`, an `InFlight`, a `Breaker`, a `Throttle` or an `Adaptive`, which requests also ask
+        before their first call; a call that its client gave up costs what a `TimeoutError` does. The limit itself stays
+        as it is. A text such as `"grpc:100/100"` spells one as the command line does.
     `beside`
         Up to three populations of clients beside those of `policy`, each with a share of the requests and a policy of
         its own. The storm's `populations` has a report on each.
@@ -445,4 +445,7 @@ def _tickets(limit: Any) -> Limited:
         return limit.limit
     if limit is None:
         return None
+    if not isinstance(limit, (int, float)):
+        wanted = "a number, a Budget, a Quota, another limit but no pace"
+        raise TypeError(f'limit: expected {wanted}, or a text as "grpc:100/100", got {shown(limit)}')
     return _whole("limit", limit, MAX_TICKETS)
