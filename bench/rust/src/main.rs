@@ -1,7 +1,7 @@
 //! Retries by the crate `hikebox` beside the crates `retry` and `backoff`, and draws of a budget and of a quota beside
 //! tower's budget: the least nanoseconds of many rounds, which take turns. No run waits.
 
-use hikebox::{Budget, Policy, Quota};
+use hikebox::{Breaker, Budget, CallLimit, Policy, Quota};
 use std::hint::black_box;
 use std::sync::Barrier;
 use std::thread;
@@ -29,7 +29,13 @@ fn successes(threads: u32) {
     let quota = Quota::new(1_000_000, 1.0, WINDOW).expect("a quota");
     let on_budget = at_once(threads, || hikebox::retry(&policy, &budget, call(0)).is_ok());
     let on_quota = at_once(threads, || hikebox::retry(&policy, &quota, call(0)).is_ok());
-    println!("a success on {threads} threads at once: {on_budget:.0} ns on a budget, {on_quota:.0} ns on a quota");
+    let open_for = r#"{"spaced":30000}"#.parse().expect("a policy");
+    let breaker = CallLimit::new(Breaker::consecutive(5, open_for)).expect("a breaker");
+    let on_breaker = at_once(threads, || hikebox::retry(&policy, &breaker, call(0)).is_ok());
+    println!(
+        "a success on {threads} threads at once: {on_budget:.0} ns on a budget, {on_quota:.0} ns on a quota, \
+         {on_breaker:.0} ns on a breaker"
+    );
 }
 
 /// The least nanoseconds that one call takes where so many threads make calls.
