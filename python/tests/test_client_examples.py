@@ -112,21 +112,24 @@ def postgres() -> Iterator[str]:
     words = [f"{programs[-1]}/postgres", "-D", f"{folder}/data", "-k", folder, "-c", "listen_addresses=", "-F"]
     server = subprocess.Popen(words, cwd=folder, **how)
     try:
-        yield f"host={folder} user=postgres dbname=postgres"
+        database = f"host={folder} user=postgres dbname=postgres"
+        connected(database, server).close()
+        yield database
     finally:
         server.send_signal(2)
         server.wait()
         shutil.rmtree(folder)
 
 
-def connected(database: str) -> Any:
+def connected(database: str, server: Any) -> Any:
     """A connection, as soon as the server answers."""
     import psycopg
 
     while True:
         try:
-            return psycopg.connect(database, autocommit=True)
+            return psycopg.connect(database)
         except psycopg.OperationalError:
+            assert server.poll() is None, "the server of PostgreSQL ended"
             time.sleep(0.05)
 
 
@@ -140,7 +143,7 @@ create trigger waits before insert on names for each row execute function waits(
 
 
 def test_postgres_finds_a_conflict(postgres: str, monkeypatch: Any) -> None:
-    other = connected(postgres)
+    other = pytest.importorskip("psycopg").connect(postgres, autocommit=True)
     other.execute(NAMES)
     monkeypatch.setenv("DATABASE", postgres)
     names = names_of("with_psycopg.py")
@@ -155,6 +158,7 @@ def test_postgres_finds_a_conflict(postgres: str, monkeypatch: Any) -> None:
     thread = threading.Thread(target=add, args=("Ada",))
     thread.start()
     while other.execute("select count(*) from pg_locks where locktype = 'advisory' and not granted").fetchone() != (1,):
+        assert thread.is_alive()
         time.sleep(0.01)
     other.execute("begin isolation level serializable")
     other.execute("select count(*) from names")
