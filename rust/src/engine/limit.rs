@@ -2,8 +2,7 @@
 
 use super::sys::*;
 use super::{Handle, Kind, Status};
-use std::mem;
-use std::mem::MaybeUninit;
+use std::mem::{self, MaybeUninit};
 
 /// The kind of a limit.
 #[derive(Debug)]
