@@ -9,11 +9,11 @@ from typing import Any, Callable, List, NamedTuple, Optional, Tuple, TypeVar
 
 from ._engine.paces import PaceHandle
 from ._forks import OfOneProcess, begins_anew_in_a_child
+from ._functions import is_async, is_generator
 from ._time import Duration, Milliseconds, moment, seconds, seconds_text
 from .budgets.terms import count_of
 from .errors import PolicyError, TermsError, TooSoon, shown
 from .retry.deadline import seconds_left
-from .retry.kinds import is_async, is_generator
 from .retry.waits import sleep_here, sleep_now
 
 __all__ = ["Pace", "Pacing"]

@@ -21,10 +21,10 @@ from typing import (
     overload,
 )
 
+from ._functions import is_async, is_generator, unwrapped
 from .policy import Policy
 from .retry.attempts import AsyncAttempts, Attempt, Attempts
 from .retry.drivers import run, run_async
-from .retry.kinds import is_async, is_generator, unwrapped
 from .retry.options import ABOUT, DEFAULTS, Options, PolicyLike, Tickets
 from .retry.retried import Decorator, Retried
 from .retry.settings import Settings

@@ -9,11 +9,11 @@ from datetime import timedelta
 from typing import Any, Callable, Deque, List, Optional, Tuple, Type
 
 from .._engine.limits import STATE_CLOSED, STATE_OPEN, LimitHandle
+from .._functions import look_at_function
 from .._time import Duration, moment, seconds_text
 from ..budgets.terms import count_of, duration_of
 from ..errors import PolicyError, TermsError
 from ..policy import Policy
-from ..retry.kinds import look_at_function
 from .kinds import MAX_COUNT
 from .limit import CallLimit, Request, WatchedRequest
 from .seen import BreakerSeen, BreakerState

@@ -5,8 +5,8 @@ from __future__ import annotations
 from types import CoroutineType
 from typing import TYPE_CHECKING, Any, Callable, Tuple
 
+from .._functions import is_async, unwrapped
 from .deadline import enter, leave
-from .kinds import is_async, unwrapped
 from .progress import Progress
 from .state import Outcome
 from .steps import RAISE, RUN, Settled, Steps, steps

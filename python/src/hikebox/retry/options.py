@@ -21,6 +21,7 @@ from typing import (
     Union,
 )
 
+from .._functions import look_at_function
 from .._time import MAX_NUMBER, Duration, seconds
 from ..budget import Budget
 from ..budgets.drawing import ByCall
@@ -32,7 +33,7 @@ from ..limits import CallLimit, PerKey
 from ..limits.limit import of_pace
 from ..policy import Policy
 from ..quota import Quota
-from .kinds import hooks_of, look_at_function, parts_of_on, stop_of
+from .kinds import hooks_of, parts_of_on, stop_of
 from .state import RetryState
 from .waits import pause_of, sleep_of
 

@@ -4,9 +4,9 @@ from __future__ import annotations
 
 from typing import Any, Callable, Dict, cast
 
+from .._functions import is_async, look_at_function
 from ..retrying import AsyncRetrying, BaseRetrying, Retrying, decorator, look_at_names
 from .drivers import not_awaitable
-from .kinds import is_async, look_at_function
 from .options import DEFAULTS, PolicyLike
 from .retried import Decorator
 

@@ -8,10 +8,10 @@ import time
 from functools import lru_cache, partial
 from typing import Any, Callable, Dict, Optional
 
+from .._functions import is_async, look_at_function
 from .._forks import begins_anew_in_a_child
 from .._time import seconds_text
 from ..errors import AttemptTimeout
-from .kinds import is_async, look_at_function
 
 __all__ = [
     "in_time",

@@ -142,8 +142,6 @@ def _python_arguments(policy: Policy, parameters: Parameters) -> List[Tuple[str,
     if parameters.rates:
         spans = [f"({seconds_text(begins)}, {seconds_text(ends)}, {rate})" for begins, ends, rate in parameters.rates]
         found.append(("rates", f"[{', '.join(spans)}]"))
-    if parameters.arrivals:
-        found.append(("arrivals", f"[{', '.join(map(seconds_text, parameters.arrivals))}]"))
     if parameters.slow is not None:
         begins, ends, percent = parameters.slow
         found.append(("slow", f"({seconds_text(begins)}, {seconds_text(ends)}, {percent / 100!r})"))
@@ -214,8 +212,6 @@ def _rust_calls(parameters: Parameters) -> List[str]:
     if parameters.rates:
         spans = [f"({duration(begins)}..{duration(ends)}, {rate})" for begins, ends, rate in parameters.rates]
         found.append(f"rates([{', '.join(spans)}])")
-    if parameters.arrivals:
-        found.append(f"arrivals([{', '.join(map(duration, parameters.arrivals))}])")
     if parameters.slow is not None:
         begins, ends, percent = parameters.slow
         found.append(f"slow({duration(begins)}..{duration(ends)}, {percent})")
