@@ -150,11 +150,17 @@ def test_the_policy_counts_from_the_first_attempt_also_where_that_is_slow(clock:
     assert (quota.seen().window, quota.seen().given, quota.granted) == (1, 1, 1)
 
 
-LIMITS: List[Any] = [Bucket(10**6), InFlight.envoy(), Breaker(5, spaced(30)), Throttle.google()]
+@pytest.mark.parametrize("limit", [Bucket(10**6), Breaker(5, spaced(30))], ids=lambda limit: type(limit).__name__)
+def test_a_success_on_a_quiet_limit_is_two_looks(limit: Any) -> None:
+    retrying, awaiting = Retrying(recurs(3), limit=limit), AsyncRetrying(recurs(3), limit=limit)
+    retrying(succeeds)
+    assert functions(lambda: retrying(succeeds)) == ["__call__", "run", "quiet"]
+    assert functions(lambda: asyncio.run(awaiting(succeeds_later))) == ["__call__", "run_async", "quiet"]
+    assert retrying.statistics.won == 2 and awaiting.statistics.won == 1
 
 
-@pytest.mark.parametrize("limit", LIMITS, ids=lambda limit: type(limit).__name__)
-def test_a_success_on_a_limit_makes_its_three_calls(limit: Any) -> None:
+@pytest.mark.parametrize("limit", [InFlight.envoy(), Throttle.google()], ids=lambda limit: type(limit).__name__)
+def test_a_success_on_another_limit_makes_its_three_calls(limit: Any) -> None:
     retrying, awaiting = Retrying(recurs(3), limit=limit), AsyncRetrying(recurs(3), limit=limit)
     retrying(succeeds)
     moment = ["_monotonic"] if limit.reads_clock else []

@@ -55,6 +55,7 @@ TYPES: Dict[str, Any] = {
     "hikebox_request *": (ctypes.POINTER(structs.HeldRequest),),
     "const hikebox_rate *": (ctypes.POINTER(structs.Rate),),
     "hikebox_state *": (ctypes.POINTER(structs.State),),
+    **{f"{const}hikebox_seen *": (ctypes.POINTER(structs.Seen),) for const in ("", "const ")},
     "hikebox_mark *": (ctypes.POINTER(structs.Mark),),
     **{f"hikebox_{kind} *": (ctypes.POINTER(Handle),) for kind in "policy pass leased limit pace retry".split()},
 }
@@ -112,7 +113,7 @@ def test_the_structures_are_those_of_the_header() -> None:
     kinds.update({"window": structs.Window, "totals": structs.Totals})
     kinds.update({"stored": structs.Stored, "asking": structs.Asking, "range": structs.Range})
     kinds.update({"ticket": structs.LeasedTicket, "grant": structs.Grant, "phase": structs.Phase})
-    kinds.update({"population": structs.Population})
+    kinds.update({"population": structs.Population, "seen": structs.Seen})
     kinds.update({"rate": structs.Rate, "mark": structs.Mark})
     kinds.update({"told": structs.Told, "kept": structs.Kept, "request": structs.HeldRequest})
     for name, kind in kinds.items():

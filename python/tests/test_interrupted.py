@@ -17,7 +17,7 @@ from typing import Any, Callable, Dict, Iterator, List, Optional, Set, Tuple
 import pytest
 
 import hikebox
-from hikebox import AsyncRetrying, Budget, Quota, Retrying, recurs, spaced
+from hikebox import AsyncRetrying, Bucket, Budget, Quota, Retrying, recurs, spaced
 from hikebox._engine import machine as machines
 from hikebox.leased import FileStore, Leased, LeasedQuota
 from hikebox.retry import progress, state
@@ -241,6 +241,28 @@ def test_a_machine_serves_one_retry_at_a_time_whatever_step_is_interrupted(monke
             break
     assert step > 200
     run()
+
+
+def test_a_handle_of_a_limit_serves_one_call_at_a_time_whatever_step_is_interrupted() -> None:
+    # Of 10 tokens the failure takes one, and the success after it gives one back.
+    bucket = Bucket(10, debit=1, credit=1)
+    retrying = Retrying(recurs(0), limit=bucket)
+
+    def run() -> None:
+        retrying(int)
+        with contextlib.suppress(Fails):
+            retrying(fails)
+        retrying(int)
+
+    for step in range(1, 10_000):
+        reached = interrupted_at(step, run)
+        assert len(set(map(id, bucket.idle))) == len(bucket.idle), step
+        if not reached:
+            break
+    assert step > 100
+    bucket.begin_anew()
+    run()
+    assert len(bucket.idle) == 1 and bucket.seen().level == 10
 
 
 def test_the_engines_retry_of_a_machine_that_is_lost_is_freed() -> None:

@@ -17,7 +17,6 @@ from typing import (
     Iterator,
     Type,
     TypeVar,
-    cast,
     overload,
 )
 
@@ -160,7 +159,7 @@ class BaseRetrying(Options):
             return self.copy(**changes).wraps(fn)
 
         wrapped = functools.update_wrapper(self._wrapped(fn), fn)
-        wrapped.__dict__.update(retry=self, retry_with=retry_with)
+        wrapped.retry, wrapped.retry_with = self, retry_with
         return wrapped
 
     def _wrapped(self, fn: Any) -> Any:
@@ -316,14 +315,15 @@ def retry(policy: PolicyLike, **how: Any) -> Decorator:
 
 def decorator(plain: Type[BaseRetrying], awaits: Type[BaseRetrying], name: str, policy: Any, how: Any) -> Decorator:
     """Returns a decorator that takes one of the two classes, as the function is awaited or not."""
-    if not isinstance(policy, Policy) and (callable(policy) or isinstance(policy, (classmethod, staticmethod))):
-        raise TypeError(f"{name}() expected a policy, got {policy!r}: write @{name}(recurs(3) & spaced(1))")
+    if not isinstance(policy, Policy):
+        if callable(policy) or isinstance(policy, (classmethod, staticmethod)):
+            raise TypeError(f"{name}() expected a policy, got {policy!r}: write @{name}(recurs(3) & spaced(1))")
+        policy = Policy.of(policy)
     if how:
         look_at_names(name, how, DEFAULTS)
-    read = Policy.of(policy)
 
     def decorate(fn: Any) -> Any:
         inner = fn.__func__ if isinstance(fn, (classmethod, staticmethod)) else fn
-        return (awaits if is_async(inner) else plain)(read, **how).wraps(fn)
+        return (awaits if is_async(inner) else plain)(policy, **how).wraps(fn)
 
-    return cast(Decorator, decorate)
+    return decorate

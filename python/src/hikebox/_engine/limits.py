@@ -2,11 +2,12 @@
 
 from __future__ import annotations
 
-from ctypes import POINTER, byref, c_size_t, c_uint32, c_uint64
+from ctypes import POINTER, byref, c_bool, c_size_t, c_uint32, c_uint64
+from functools import partial
 from typing import Any, Callable, Dict, List, Sequence, Tuple
 
 from .calls import OK, TOO_MANY_PASSES, library, refused, unchecked
-from .structs import AdaptiveTerms, BreakerTerms, BucketTerms, Handle, State
+from .structs import AdaptiveTerms, BreakerTerms, BucketTerms, Handle, Seen, State
 
 __all__ = [
     "LEVEL_LOW",
@@ -69,13 +70,15 @@ SIGNATURES: Dict[str, Tuple[Any, ...]] = {
     "hikebox_limit_cancelled": (_HANDLE,),
     "hikebox_limit_ended": (_HANDLE,),
     "hikebox_limit_free": (_HANDLE,),
+    "hikebox_limit_look": (_HANDLE, POINTER(Seen), POINTER(c_bool)),
+    "hikebox_limit_begin": (_HANDLE, POINTER(Seen), POINTER(c_bool)),
 }
 
 
 #: The calls that are made at each attempt, with no check of the arguments' types. Moments are whole milliseconds from 0
 #: to MAX_NUMBER, costs are thousandths, and random words have 32 bits.
-admit, draw, failed, succeeded, cancelled, ended, free = (
-    unchecked(f"hikebox_limit_{name}") for name in "admit draw failed succeeded cancelled ended free".split()
+admit, draw, failed, succeeded, cancelled, ended, free, _look, _begin = (
+    unchecked(f"hikebox_limit_{name}") for name in "admit draw failed succeeded cancelled ended free look begin".split()
 )
 
 
@@ -161,11 +164,12 @@ class LimitHandle:
 
 
 class Place(LimitHandle):
-    """A handle that serves one request after another, with what its calls read and write."""
+    """A handle that serves one request after another, with what its calls read and write. Without a request it looks
+    whether the limit is quiet."""
 
-    __slots__ = ("home", "now", "won_at", "cost", "word", "number", "at_number")
+    __slots__ = ("home", "now", "won_at", "cost", "word", "number", "at_number", "look", "begin", "told")
 
-    #: Where its limit keeps it while it has no request.
+    #: Where its limit keeps it while nobody uses it.
     home: List[Place]
 
     def __init__(self, reads_clock: bool, times_successes: bool, has_costs: bool, reads_random: bool) -> None:
@@ -177,6 +181,11 @@ class Place(LimitHandle):
         self.word: Any = c_uint32() if reads_random else NO_WORD
         self.number = c_uint64()
         self.at_number = byref(self.number)
+        #: Whether the latest look found the limit quiet.
+        told = bytearray(1)
+        self.told: Sequence[int] = told
+        looks = (self.at, byref(Seen()), byref(c_bool.from_buffer(told)))
+        self.look, self.begin = partial(_look, *looks), partial(_begin, *looks)
 
 
 #: A number and a random word that are not read.

@@ -25,6 +25,7 @@ __all__ = [
     "Range",
     "Rate",
     "Run",
+    "Seen",
     "State",
     "Storm",
     "Stored",
@@ -103,6 +104,12 @@ class State(_Sized):
     until: int
 
     _fields_ = [_SIZE, *_numbers("kind first second third until")]
+
+
+class Seen(Structure):
+    """The words that a look saw."""
+
+    _fields_ = _numbers("first second third fourth")
 
 
 class AdaptiveTerms(_Sized):

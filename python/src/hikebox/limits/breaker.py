@@ -78,6 +78,7 @@ class Breaker(CallLimit):
     )
 
     reads_clock = True
+    rests = True
 
     def __init__(
         self,

@@ -61,12 +61,13 @@ class CallLimit(OfOneProcess, Limit):
 
     __slots__ = ("_clock", "_random", "now", "word", "generation", "root", "idle", "_split", "lock", "__weakref__")
 
-    #: Whether it looks at its clock, and that also at a success; whether it draws random numbers; and whether a retry
-    #: may cost something.
+    #: Whether it looks at its clock, and that also at a success; whether it draws random numbers; whether a retry may
+    #: cost something; and whether it is quiet at times, so that a call which succeeds at once leaves it as it is.
     reads_clock = False
     times_successes = False
     reads_random = False
     has_costs = False
+    rests = False
 
     #: What its requests are.
     REQUEST: ClassVar[Type[Request]]
@@ -120,6 +121,8 @@ class CallLimit(OfOneProcess, Limit):
     def begin_anew(self) -> None:
         """Begins with nothing counted."""
         self.generation += 1
+        for place in self._split:
+            place.told = _NEVER  # (the places of calls that were forked look at the parent's limit)
         self._begin()
 
     def make(self) -> LimitHandle:
@@ -164,6 +167,19 @@ class CallLimit(OfOneProcess, Limit):
                 split.append(made)
                 return made
 
+    def quiet(self) -> Optional[Place]:
+        """A place that finds the limit quiet, so that a call is admitted which holds it; or None. If that succeeds at
+        once and finds it quiet again, the look stands for all calls of its request."""
+        try:
+            place = self.idle.pop()
+        except IndexError:
+            place = self.lend()
+        place.look()
+        if place.told[0]:
+            return place
+        place.home.append(place)
+        return None
+
     def cost_of(self, error: Optional[BaseException]) -> int:
         """What a retry after this error costs, in thousandths."""
         return 0
@@ -204,12 +220,15 @@ class Request(OfOneProcess):
 
     __slots__ = ("_limit", "_handle", "_is_admitted", "_refusal")
 
-    def __init__(self, limit: CallLimit) -> None:
+    def __init__(self, limit: CallLimit, found: Optional[Place] = None) -> None:
+        """Begins none, or one that the limit admitted as it was found quiet."""
         self._limit = limit
-        self._handle: Optional[Place] = None
-        self._is_admitted = False
+        self._handle = found
+        self._is_admitted = found is not None
         #: Why the limit of a forked child did not admit it.
         self._refusal: Optional[Refusal] = None
+        if found is not None:
+            found.begin()
 
     def _held(self) -> Place:
         """Its place, of this process."""
@@ -347,6 +366,10 @@ class Request(OfOneProcess):
         except AttributeError:
             return  # (an exception of a signal's handler ended `__init__`)
         self.ended()  # (a limit has only so many handles, so this one serves another request)
+
+
+#: In a forked child, what the looks of its parent's places tell.
+_NEVER = bytes(1)
 
 
 class WatchedRequest(Request):

@@ -54,6 +54,11 @@ class Both(CallLimit):
         return any(limit.has_costs for limit in self._limits)
 
     @property
+    def rests(self) -> bool:  # type: ignore[override]
+        """Whether all of them are quiet at times."""
+        return all(limit.rests for limit in self._limits)
+
+    @property
     def REQUEST(self) -> Type[Request]:  # type: ignore[override]
         """What its requests are: watched where those of one of them are."""
         return next((limit.REQUEST for limit in self._limits if limit.REQUEST is not Request), Request)

@@ -64,13 +64,14 @@ class Policy:
         policy = _new(Policy)
         policy._plan = policy._reads = None
         policy._node = (name, own, first, second)
-        nodes = depth = 1
-        if first is not None:
-            nodes, depth = first._nodes + 1, first._depth + 1
-            if second is not None:
-                nodes += second._nodes
-                if second._depth >= depth:
-                    depth = second._depth + 1
+        if first is None:
+            policy._nodes = policy._depth = 1
+            return policy
+        nodes, depth = first._nodes + 1, first._depth + 1
+        if second is not None:
+            nodes += second._nodes
+            if second._depth >= depth:
+                depth = second._depth + 1
         policy._nodes, policy._depth = nodes, depth
         if nodes > MAX_NODES or depth > MAX_DEPTH:
             policy.plan  # (the engine says what is wrong)

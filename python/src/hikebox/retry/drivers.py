@@ -88,11 +88,13 @@ def run(owner: BaseRetrying, fn: Callable[..., Any], args: Any, kwargs: Any) -> 
     deadline = _NONE if settings.deadline_millis is None else settings.deadline_from(start)
     token = None if deadline is None else enter(deadline)
     # until something is to be done for it, a retry is only its start, or its request of a limit
-    progress = request = refusal = _NONE
+    progress = request = refusal = place = _NONE
     tells_success = settings.deposit_won
     want: Any = RUN
     try:
-        if settings.is_quiet:
+        if settings.finds_quiet is not None:
+            place = settings.finds_quiet()
+        if place is None and settings.is_quiet:
             if settings.deposit is not None:
                 settings.deposit()
             elif settings.asks_limit:
@@ -107,6 +109,9 @@ def run(owner: BaseRetrying, fn: Callable[..., Any], args: Any, kwargs: Any) -> 
                 result = fn(*args, **kwargs)
             except BaseException as error:
                 if progress is None:
+                    if place is not None:
+                        found, place = place, None
+                        request = settings.drawing(found)
                     progress = Progress(owner, fn, args, kwargs, start, deadline, request)
                     driven = steps(progress, True)
                     driven.send(None)
@@ -122,7 +127,12 @@ def run(owner: BaseRetrying, fn: Callable[..., Any], args: Any, kwargs: Any) -> 
                     owner.counts.add_success()
                     if watch.watchers:
                         watch.succeeded(fn)
-                    if tells_success is not None:
+                    if place is not None:
+                        place.look()
+                        if not place.told[0]:
+                            found, place = place, None
+                            settings.drawing(found).won()
+                    elif tells_success is not None:
                         tells_success()
                         request = None
                     return result
@@ -140,6 +150,8 @@ def run(owner: BaseRetrying, fn: Callable[..., Any], args: Any, kwargs: Any) -> 
                     want = settle(driven, want)
         return answer_of(progress)
     finally:
+        if place is not None:
+            place.home.append(place)
         if token is not None:
             leave(deadline, token)
         if progress is not None:
@@ -161,11 +173,13 @@ async def run_async(owner: BaseRetrying, fn: Callable[..., Any], args: Any, kwar
     start = settings.clock()
     deadline = None if settings.deadline_millis is None else settings.deadline_from(start)
     token = None if deadline is None else enter(deadline)
-    progress = request = refusal = awaitable = _NONE
+    progress = request = refusal = place = awaitable = _NONE
     tells_success = settings.deposit_won
     want: Any = RUN
     try:
-        if settings.is_quiet:
+        if settings.finds_quiet is not None:
+            place = settings.finds_quiet()
+        if place is None and settings.is_quiet:
             if settings.deposit is not None:
                 settings.deposit()
             elif settings.asks_limit:
@@ -183,6 +197,9 @@ async def run_async(owner: BaseRetrying, fn: Callable[..., Any], args: Any, kwar
                 result = await awaitable if hasattr(type(awaitable), "__await__") else NOT_AWAITABLE
             except BaseException as error:
                 if progress is None:
+                    if place is not None:
+                        found, place = place, None
+                        request = settings.drawing(found)
                     progress = Progress(owner, fn, args, kwargs, start, deadline, request)
                     driven = steps(progress, True)
                     driven.send(None)
@@ -200,7 +217,12 @@ async def run_async(owner: BaseRetrying, fn: Callable[..., Any], args: Any, kwar
                     owner.counts.add_success()
                     if watch.watchers:
                         watch.succeeded(fn)
-                    if tells_success is not None:
+                    if place is not None:
+                        place.look()
+                        if not place.told[0]:
+                            found, place = place, None
+                            settings.drawing(found).won()
+                    elif tells_success is not None:
                         tells_success()
                         request = None
                     return result
@@ -216,6 +238,8 @@ async def run_async(owner: BaseRetrying, fn: Callable[..., Any], args: Any, kwar
                     want = await settle_async(driven, want)
         return answer_of(progress)
     finally:
+        if place is not None:
+            place.home.append(place)
         if progress is not None or request is not None or token is not None:
             _end(progress, request, deadline, token)
 
