@@ -89,6 +89,13 @@ def test_import_hikebox_loads_nothing_of_storms_of_the_lab_or_of_adapters() -> N
     assert [name for name in loaded if name.startswith(tuple(f"hikebox.{part}" for part in parts))] == []
 
 
+def test_import_hikebox_loads_none_of_the_slow_modules_of_python() -> None:
+    slow = {"dataclasses", "inspect", "json", "logging", "urllib.parse"}
+    text = f"import sys; had = set(sys.modules); import hikebox; print(*{slow} & (set(sys.modules) - had))"
+    ran = subprocess.run([sys.executable, "-c", text], env=python_environment(), capture_output=True, text=True)
+    assert (ran.stdout, ran.stderr) == ("\n", "")
+
+
 def test_the_plugin_of_pytest_loads_nothing_of_the_package() -> None:
     assert loaded_by("import hikebox_pytest") == ["hikebox_pytest"]
 

@@ -2,7 +2,6 @@
 
 from __future__ import annotations
 
-import logging
 import time
 from collections import deque
 from datetime import timedelta
@@ -20,8 +19,6 @@ from .seen import BreakerSeen, BreakerState
 from .terms import LimitTerms, breaker
 
 __all__ = ["Breaker", "times_of"]
-
-logger = logging.getLogger("hikebox")
 
 #: The most open times of a breaker, and the most results that it keeps.
 _MAX_TIMES = 64
@@ -190,7 +187,9 @@ class Breaker(CallLimit):
         try:
             on_change(*change)
         except Exception:
-            logger.exception("on_change of %r", self)
+            import logging  # which others need not load
+
+            logging.getLogger("hikebox").exception("on_change of %r", self)
         return True
 
     def expression(self) -> str:

@@ -5,7 +5,6 @@ from __future__ import annotations
 import threading
 from collections import OrderedDict
 from typing import Any, Callable, Generic, Hashable, Iterator, List, Mapping, Optional, Set, Tuple, TypeVar
-from urllib.parse import urlsplit
 from weakref import WeakKeyDictionary, WeakValueDictionary
 
 from .._forks import OfOneProcess, begins_anew_in_a_child
@@ -206,6 +205,8 @@ class PerHost(PerKey[Made]):
 
 def _host_of(request: Any, *_: Any, **__: Any) -> str:
     """The host that a request asks, or a URL."""
+    from urllib.parse import urlsplit  # which others need not load
+
     url = urlsplit(str(getattr(request, "url", request)))
     host = url.hostname or ""
     if not host:

@@ -92,14 +92,16 @@ def run(owner: BaseRetrying, fn: Callable[..., Any], args: Any, kwargs: Any) -> 
     tells_success = settings.deposit_won
     want: Any = RUN
     try:
-        if settings.finds_quiet is not None:
-            place = settings.finds_quiet()
-        if place is None and settings.is_quiet:
+        if settings.is_quiet:
             if settings.deposit is not None:
                 settings.deposit()
             elif settings.asks_limit:
-                request = settings.drawing()
-                refusal, tells_success = request.admit(), request.won
+                place = settings.finds_quiet and settings.finds_quiet()
+                if place is not None:
+                    tells_success = place.look
+                else:
+                    request = settings.drawing()
+                    refusal, tells_success = request.admit(), request.won
         if refusal is not None or not settings.is_quiet:
             progress = Progress(owner, fn, args, kwargs, start, deadline, request, refusal)
             driven = steps(progress)
@@ -127,14 +129,12 @@ def run(owner: BaseRetrying, fn: Callable[..., Any], args: Any, kwargs: Any) -> 
                     owner.counts.add_success()
                     if watch.watchers:
                         watch.succeeded(fn)
-                    if place is not None:
-                        place.look()
-                        if not place.told[0]:
-                            found, place = place, None
-                            settings.drawing(found).won()
-                    elif tells_success is not None:
+                    if tells_success is not None:
                         tells_success()
                         request = None
+                        if place is not None and not place.told[0]:
+                            found, place = place, None
+                            settings.drawing(found).won()
                     return result
                 if settings.is_quiet:
                     progress.state.outcome = Outcome(result, None, progress.state.attempt_number)
@@ -150,12 +150,12 @@ def run(owner: BaseRetrying, fn: Callable[..., Any], args: Any, kwargs: Any) -> 
                     want = settle(driven, want)
         return answer_of(progress)
     finally:
-        if place is not None:
-            place.home.append(place)
         if token is not None:
             leave(deadline, token)
         if progress is not None:
             progress.close()
+        elif place is not None:
+            place.home.append(place)
         elif request is not None:
             request.ended()
 
@@ -177,14 +177,16 @@ async def run_async(owner: BaseRetrying, fn: Callable[..., Any], args: Any, kwar
     tells_success = settings.deposit_won
     want: Any = RUN
     try:
-        if settings.finds_quiet is not None:
-            place = settings.finds_quiet()
-        if place is None and settings.is_quiet:
+        if settings.is_quiet:
             if settings.deposit is not None:
                 settings.deposit()
             elif settings.asks_limit:
-                request = settings.drawing()
-                refusal, tells_success = request.admit(), request.won
+                place = settings.finds_quiet and settings.finds_quiet()
+                if place is not None:
+                    tells_success = place.look
+                else:
+                    request = settings.drawing()
+                    refusal, tells_success = request.admit(), request.won
         if refusal is not None or not settings.is_quiet:
             progress = Progress(owner, fn, args, kwargs, start, deadline, request, refusal)
             driven = steps(progress)
@@ -217,14 +219,12 @@ async def run_async(owner: BaseRetrying, fn: Callable[..., Any], args: Any, kwar
                     owner.counts.add_success()
                     if watch.watchers:
                         watch.succeeded(fn)
-                    if place is not None:
-                        place.look()
-                        if not place.told[0]:
-                            found, place = place, None
-                            settings.drawing(found).won()
-                    elif tells_success is not None:
+                    if tells_success is not None:
                         tells_success()
                         request = None
+                        if place is not None and not place.told[0]:
+                            found, place = place, None
+                            settings.drawing(found).won()
                     return result
                 want = await settle_async(driven, driven.send(Outcome(result)))
             awaitable = None  # (the call's coroutine is let go before the wait)

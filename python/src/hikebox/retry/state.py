@@ -356,6 +356,9 @@ class Counts:
 
     def add(self, attempts: int, idle_for: float, ending: Ending) -> None:
         """Counts a call that is over."""
+        if attempts == 1 and ending is Ending.WON:
+            self.add_success()
+            return
         tally = self._endings.get(ending)
         if tally is None:
             tally = self._endings.setdefault(ending, _Tally())

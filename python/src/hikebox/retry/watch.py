@@ -2,7 +2,6 @@
 
 from __future__ import annotations
 
-import logging
 import sys
 from collections import deque
 from typing import TYPE_CHECKING, Any, Deque, Protocol, Tuple
@@ -73,6 +72,8 @@ class _Watch:
                 try:
                     getattr(watcher, event)(*told)
                 except Exception:
+                    import logging  # which others need not load
+
                     logging.getLogger("hikebox").exception("%r could not count a call", watcher)
 
 
