@@ -165,8 +165,10 @@ def test_a_success_on_another_limit_makes_its_three_calls(limit: Any) -> None:
     retrying(succeeds)
     moment = ["_monotonic"] if limit.reads_clock else []
     word = ["<lambda>", "word_of"] if limit.reads_random else []
-    begins, ends = ["__init__", "admit", *moment, *word], ["won", *moment * limit.times_successes, "__del__"]
+    begins = ["__init__", "admit", *moment, *word]
+    ends = ["succeeded", *moment * limit.times_successes, "ended", "__del__"]
     assert sorted(functions(lambda: retrying(succeeds))) == sorted(["__call__", "run", *begins, *ends])
+    ends = ["_end", *ends]
     assert len(functions(lambda: asyncio.run(awaiting(succeeds_later)))) == len([*begins, *ends]) + 2
     assert retrying.statistics.won == 2 and awaiting.statistics.won == 1
 

@@ -135,10 +135,6 @@ class _SharedRequest(Request):
     def succeeded(self) -> None:
         self._tells(SUCCEEDED)
 
-    def won(self) -> None:
-        self._tells(SUCCEEDED)
-        self.ended()
-
     def cancelled(self) -> None:
         self._tells(CANCELLED)
 

@@ -312,19 +312,6 @@ class Request(OfOneProcess):
         if status != OK:
             raise refused("hikebox_limit_succeeded", status)
 
-    def won(self) -> None:
-        """Tells that the call is over as its first attempt succeeded."""
-        handle, limit = self._handle, self._limit
-        if handle is None or handle.home is not limit.idle:
-            handle = self._held()
-        if handle.won_at is not NO_NUMBER:
-            handle.won_at.value = limit.now()
-        if succeeded(handle.at, handle.won_at) != OK or ended(handle.at) != OK:
-            self.succeeded()  # (which tells what is wrong)
-        handle, self._handle = self._handle, None
-        if handle is not None:
-            handle.home.append(handle)
-
     def cancelled(self) -> None:
         """Tells that the latest retry is cancelled while it waits. What it cost and its slot come back, once."""
         handle = self._held()
@@ -393,10 +380,6 @@ class WatchedRequest(Request):
 
     def succeeded(self) -> None:
         super().succeeded()
-        self._limit.look()
-
-    def won(self) -> None:
-        super().won()
         self._limit.look()
 
 

@@ -101,7 +101,7 @@ def run(owner: BaseRetrying, fn: Callable[..., Any], args: Any, kwargs: Any) -> 
                     tells_success = place.look
                 else:
                     request = settings.drawing()
-                    refusal, tells_success = request.admit(), request.won
+                    refusal, tells_success = request.admit(), request.succeeded
         if refusal is not None or not settings.is_quiet:
             progress = Progress(owner, fn, args, kwargs, start, deadline, request, refusal)
             driven = steps(progress)
@@ -131,10 +131,10 @@ def run(owner: BaseRetrying, fn: Callable[..., Any], args: Any, kwargs: Any) -> 
                         watch.succeeded(fn)
                     if tells_success is not None:
                         tells_success()
-                        request = None
                         if place is not None and not place.told[0]:
                             found, place = place, None
-                            settings.drawing(found).won()
+                            request = settings.drawing(found)
+                            request.succeeded()
                     return result
                 if settings.is_quiet:
                     progress.state.outcome = Outcome(result, None, progress.state.attempt_number)
@@ -186,7 +186,7 @@ async def run_async(owner: BaseRetrying, fn: Callable[..., Any], args: Any, kwar
                     tells_success = place.look
                 else:
                     request = settings.drawing()
-                    refusal, tells_success = request.admit(), request.won
+                    refusal, tells_success = request.admit(), request.succeeded
         if refusal is not None or not settings.is_quiet:
             progress = Progress(owner, fn, args, kwargs, start, deadline, request, refusal)
             driven = steps(progress)
@@ -221,10 +221,10 @@ async def run_async(owner: BaseRetrying, fn: Callable[..., Any], args: Any, kwar
                         watch.succeeded(fn)
                     if tells_success is not None:
                         tells_success()
-                        request = None
                         if place is not None and not place.told[0]:
                             found, place = place, None
-                            settings.drawing(found).won()
+                            request = settings.drawing(found)
+                            request.succeeded()
                     return result
                 want = await settle_async(driven, driven.send(Outcome(result)))
             awaitable = None  # (the call's coroutine is let go before the wait)
