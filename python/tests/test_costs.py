@@ -17,13 +17,16 @@ from hikebox import (
     Breaker,
     Bucket,
     Budget,
+    Ending,
     InFlight,
     Quota,
     Retrying,
+    Statistics,
     Throttle,
     recurs,
     spaced,
 )
+from hikebox.retry.state import Counts
 from hikebox.testing import VirtualClock
 
 PACKAGE = str(Path(hikebox.__file__).parent)
@@ -89,6 +92,15 @@ def test_successes_of_many_threads_are_counted_while_others_look() -> None:
     counted = retrying.statistics
     assert (counted.calls, counted.attempts, counted.won, counted.retries) == (40_000, 40_000, 40_000, 0)
     assert len(seen) == 80 and all(1 <= calls <= 40_000 for calls in seen)
+
+
+def test_successes_at_once_are_counted_with_those_that_waited() -> None:
+    counts = Counts()
+    for waited in (0.0, 0.5):  # (as a hedged call does whose first attempt succeeds late)
+        counts.add(1, waited, Ending.WON)
+    counts.add(3, 1.5, Ending.WON)
+    counts.add_success()
+    assert counts.seen() == Statistics(calls=4, attempts=6, idle_for=2.0, won=4)
 
 
 def test_a_success_on_a_quota_is_counted_and_no_more() -> None:

@@ -356,7 +356,7 @@ class Counts:
 
     def add(self, attempts: int, idle_for: float, ending: Ending) -> None:
         """Counts a call that is over."""
-        if attempts == 1 and ending is Ending.WON:
+        if attempts == 1 and idle_for == 0.0 and ending is Ending.WON:
             self.add_success()
             return
         tally = self._endings.get(ending)
