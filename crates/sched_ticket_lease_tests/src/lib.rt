@@ -1,5 +1,5 @@
-//! Tests of the leased passes of `sched_ticket_lease` by its public calls alone. They stand apart so that they are
-//! proved without a second proof of that library.
+//! Tests of `sched_ticket_lease`, its step and its leased passes, by its public calls alone. They stand apart so that
+//! they are proved without a second proof of that library.
 #![tactic(auto)]
 
 #[cfg(test)]

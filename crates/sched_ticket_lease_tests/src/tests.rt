@@ -6,6 +6,8 @@ use sched_ticket_lease::{Grant, GrantFault, Leased, NoTicket, NotBack, Ticket};
 use sched_time::{Millis, Moment};
 use std::process::Abort;
 
+mod steps;
+
 /// What is done with a leased pass, and what is to come of it.
 #[derive(Clone, Copy, Debug, PartialEq)]
 enum Act {
