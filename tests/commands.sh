@@ -105,7 +105,7 @@ changes() {
   makes_old "$(both zsched)" replace 's/^zsched: /zsched: sched_effect /' crates.txt
   makes_old '' replace 's/^# The library/# A library/' crates.txt
   makes_old '' append crates/sched_run/src/lib.rt
-  makes_old '' append crates/sched_task/src/tests.rt
+  makes_old '' touch crates/sched_task/src/tests.rt
   makes_old '' append crates/sched_driver_tests/src/lib.rt
   makes_old '' append crates/zsched/stdout
   makes_old '' touch crates/sched_time/must-fail/new.edit

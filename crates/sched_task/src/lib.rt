@@ -7,8 +7,6 @@ mod clocks;
 mod endings;
 mod system;
 mod tasks;
-#[cfg(test)]
-mod tests;
 mod timed;
 mod words;
 

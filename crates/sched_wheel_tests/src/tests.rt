@@ -1,4 +1,4 @@
-//! Tasks that the loop drives, polls and waits counted.
+//! Tasks that the loop drives, polls and waits counted, and that are futures.
 use futures::task::{Context, Poll};
 use sched_task::{Clock, How, MidWords, Task};
 use sched_time::{Millis, Moment, Tick};
@@ -10,6 +10,8 @@ use std::sync::Wait;
 
 mod clocks;
 mod rows;
+mod system;
+mod timed;
 
 fn moment(rt: &impl Abort, at: u64) -> Moment {
     Moment::new(at).expect(rt, "the moment is in range")
@@ -38,20 +40,20 @@ where
 
 // The moments at which the task was polled.
 fn assert_polled(rt: &impl Abort, task: &Paced, want: &[u64]) {
-    assert_eq!(rt; task.moments.len(), want.len());
-    for (polled, at) in task.moments.iter().zip(want.iter()) {
-        assert_eq!(rt; polled.get(), *at);
+    assert_eq!(rt; task.ticks.len(), want.len());
+    for (tick, at) in task.ticks.iter().zip(want.iter()) {
+        assert_eq!(rt; tick.now.get(), *at);
     }
 }
 
-// Is won at its last poll, and waits this long after each poll before that. It notes the moments of its polls.
+// Is won at its last poll, and waits this long after each poll before that. It notes its ticks.
 #[derive(Drop)]
 struct Paced {
     left: u64,
     pause: Option<Millis>,
     due: Option<Moment>,
     over: Option<How>,
-    moments: Vec<Moment>,
+    ticks: Vec<Tick>,
 }
 
 // The same, by the milliseconds that it waits.
@@ -66,7 +68,7 @@ impl Paced {
             pause,
             due: None,
             over: None,
-            moments: Vec::new(alloc),
+            ticks: Vec::new(alloc),
         }
     }
 }
@@ -88,7 +90,16 @@ impl Task for Paced {
         if self.over.is_some() {
             return Poll::Ready(());
         }
-        if self.moments.push(tick.now).is_err() || self.left <= 1 {
+        let words = tick.words;
+        if self
+            .ticks
+            .push(Tick {
+                now: tick.now,
+                words,
+            })
+            .is_err()
+            || self.left <= 1
+        {
             self.over = Some(How::Won);
             return Poll::Ready(());
         }

@@ -3,7 +3,6 @@ use sched_task::Clock;
 use sched_time::{Millis, Moment};
 use std::alloc::Global;
 use std::process::Abort;
-use std::test::Fail;
 
 // Goes on by this much at each wait, whatever is waited for, and counts the waits.
 #[derive(Drop)]
@@ -71,17 +70,18 @@ struct Telling {
 }
 
 impl Telling {
-    fn new(rt: &impl Abort, alloc: Global, moments: &[u64]) -> Result<Telling, Fail> {
-        let mut told = Vec::with_capacity(alloc, moments.len())?;
+    fn new(rt: &impl Abort, alloc: Global, moments: &[u64]) -> Telling {
+        let mut told = Vec::new(alloc);
         for at in moments {
-            told.push(moment(rt, *at))?;
+            let pushed = told.push(moment(rt, *at));
+            assert!(rt; pushed.is_ok(), "there is memory");
         }
-        Ok(Telling {
+        Telling {
             moments: told,
             last: moment(rt, 4611686018427387903),
             next: 0,
             waited: Vec::new(alloc),
-        })
+        }
     }
 
     fn tell(&mut self) -> Moment {
@@ -111,7 +111,7 @@ impl Clock for Telling {
 // The call asks once, each poll asks again, and a wait's answer is one more: two tasks at 1000 that wait for 1100 and
 // 1200; the clock goes back to 300 at the poll of the first, which is then waited for again.
 #[test]
-fn a_clock_that_goes_back_is_waited_on(rt: HostRuntime) -> Result<(), Fail> {
+fn a_clock_that_goes_back_is_waited_on(rt: HostRuntime) {
     let mut tasks = [
         pausing(&rt, rt.alloc(), 2, 100),
         pausing(&rt, rt.alloc(), 2, 200),
@@ -120,7 +120,7 @@ fn a_clock_that_goes_back_is_waited_on(rt: HostRuntime) -> Result<(), Fail> {
         &rt,
         rt.alloc(),
         &[1000, 1000, 1000, 1150, 300, 1150, 1150, 1200, 1200],
-    )?;
+    );
     runs(&rt, &mut tasks, &mut clock, 99, Ok(7));
     for (until, want) in clock.waited.iter().zip([1100, 1100, 1200]) {
         assert_eq!(rt; until.get(), want);
@@ -128,5 +128,4 @@ fn a_clock_that_goes_back_is_waited_on(rt: HostRuntime) -> Result<(), Fail> {
     assert_eq!(rt; clock.waited.len(), 3);
     assert_polled(&rt, &tasks[0], &[1000, 1150]);
     assert_polled(&rt, &tasks[1], &[1000, 1200]);
-    Ok(())
 }

@@ -1,7 +1,8 @@
 use super::{Paced, assert_polled, moment, pausing, runs};
 use sched_task::{Clock, How, Task, VirtualClock};
 use sched_wheel::LoopStop;
-use std::test::Fail;
+use std::alloc::Global;
+use std::process::Abort;
 
 #[test]
 fn no_task_takes_no_turn(rt: HostRuntime) {
@@ -33,20 +34,26 @@ fn a_further_call_goes_on(rt: HostRuntime) {
     assert_polled(&rt, &tasks[0], &[0, 100, 200]);
 }
 
-// Task k waits for k + 1 after its first poll, so each wait is for one task: 200 polls and 100 waits.
-#[test]
-fn each_of_many_waits_for_its_own_moment(rt: HostRuntime) -> Result<(), Fail> {
-    let mut tasks = Vec::with_capacity(rt.alloc(), 100)?;
+// A hundred tasks, of which task k waits for k + 1 after its first poll.
+fn many(rt: &impl Abort, alloc: Global) -> Vec<Paced> {
+    let mut tasks = Vec::new(alloc);
     for pause in 1..=100 {
-        tasks.push(pausing(&rt, rt.alloc(), 2, pause))?;
+        let pushed = tasks.push(pausing(rt, alloc, 2, pause));
+        assert!(rt; pushed.is_ok(), "there is memory");
     }
+    tasks
+}
+
+// Each wait is for one task: 200 polls and 100 waits.
+#[test]
+fn each_of_many_waits_for_its_own_moment(rt: HostRuntime) {
+    let mut tasks = many(&rt, rt.alloc());
     let mut clock = VirtualClock::at(moment(&rt, 0));
     runs(&rt, &mut tasks, &mut clock, 1000, Ok(300));
     assert_eq!(rt; clock.now().get(), 100);
     for (pause, task) in (1..=100).zip(tasks.iter()) {
         assert_polled(&rt, task, &[0, pause]);
     }
-    Ok(())
 }
 
 #[test]

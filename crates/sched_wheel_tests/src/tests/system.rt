@@ -1,9 +1,10 @@
-// The system's clock and its random words, for real and by sources that fail.
-use super::super::{Clock, SystemClock, SystemWords};
+//! The system's clock and its random words, for real and by sources that fail.
 use super::moment;
 use rand_core::Rng;
+use sched_task::{Clock, SystemClock, SystemWords, TimeSource};
 use std::cell::Cell;
 use std::io;
+use std::process::Abort;
 use std::random::RandomSource;
 use std::time::{self, Duration, Instant};
 
@@ -46,9 +47,13 @@ impl<'a> time::Clock for Readings<'a> {
     }
 }
 
+fn clock_by<S: TimeSource>(rt: &impl Abort, source: S) -> SystemClock<S> {
+    SystemClock::new(source).expect(rt, "its source tells the time")
+}
+
 // A clock that was made at 1000 tells 5, then 7; it keeps 7 while its source goes back or fails.
 #[test]
-fn a_clock_never_goes_back(rt: HostRuntime) -> io::Result<()> {
+fn a_clock_never_goes_back(rt: HostRuntime) {
     let readings = [
         Some(1000),
         Some(1005),
@@ -59,25 +64,23 @@ fn a_clock_never_goes_back(rt: HostRuntime) -> io::Result<()> {
         Some(1010),
     ];
     let source = Readings::new(&readings);
-    let mut clock = SystemClock::new(&source)?;
+    let mut clock = clock_by(&rt, &source);
     for want in [5, 7, 7, 7, 7, 10, 10] {
         assert_eq!(rt; clock.now().get(), want);
     }
     assert_eq!(rt; source.slept.get(), 0);
-    Ok(())
 }
 
 // It sleeps from 20 to 50, wakes at 45 and says so; 40 is over by then, and is not slept for.
 #[test]
-fn a_clock_tells_when_it_woke(rt: HostRuntime) -> io::Result<()> {
+fn a_clock_tells_when_it_woke(rt: HostRuntime) {
     let readings = [Some(100), Some(120), Some(145), Some(146), Some(147), None];
     let source = Readings::new(&readings);
-    let mut clock = SystemClock::new(&source)?;
+    let mut clock = clock_by(&rt, &source);
     for (until, woke, slept) in [(50, 45, 30), (40, 46, 30), (60, 47, 43)] {
         let told = clock.wait_until(moment(&rt, until)).get();
         assert_eq!(rt; (until, told, source.slept.get()), (until, woke, slept));
     }
-    Ok(())
 }
 
 #[test]
@@ -88,30 +91,31 @@ fn a_clock_whose_source_fails_is_not_made(rt: HostRuntime) {
 
 // A copy counts from the same moment, and a reading past the last moment is the last moment.
 #[test]
-fn a_copy_has_the_same_start(rt: HostRuntime) -> io::Result<()> {
+fn a_copy_has_the_same_start(rt: HostRuntime) {
     let readings = [
         Some(0),
         Some(4611686018427387902),
         Some(4611686018427387904),
     ];
     let source = Readings::new(&readings);
-    let mut clock = SystemClock::new(&source)?;
+    let mut clock = clock_by(&rt, &source);
     let mut copy = clock.copy();
     assert_eq!(rt; clock.now().get(), 4611686018427387902);
     assert_eq!(rt; copy.now().get(), 4611686018427387903);
-    Ok(())
 }
 
 #[test]
-fn the_systems_clock_waits_20_milliseconds(rt: HostRuntime) -> io::Result<()> {
-    let before = Instant::now(&rt)?;
-    let mut clock = SystemClock::new(&rt)?;
+fn the_systems_clock_waits_20_milliseconds(rt: HostRuntime) {
+    let before = Instant::now(&rt).expect(&rt, "the system tells the time");
+    let mut clock = clock_by(&rt, &rt);
     assert!(rt; clock.now().get() < 20, "the clock begins at 0");
     let woke = clock.wait_until(moment(&rt, 20)).get();
-    let passed = before.elapsed(&rt)?.as_millis();
-    assert!(rt; woke >= 20 && u128::from(woke) <= passed, "woke at {woke}");
+    let passed = before.elapsed(&rt).expect(&rt, "the system tells the time");
+    assert!(rt;
+        woke >= 20 && u128::from(woke) <= passed.as_millis(),
+        "woke at {woke}"
+    );
     assert!(rt; clock.now().get() >= woke);
-    Ok(())
 }
 
 // Gives this byte and the ones after it.
@@ -137,18 +141,21 @@ impl RandomSource for Exhausted {
     }
 }
 
+fn words_by(rt: &impl Abort, source: &impl RandomSource) -> SystemWords {
+    SystemWords::new(source).expect(rt, "there are random bytes")
+}
+
 // By hand, for the state 03020100, 07060504, 0b0a0908, 0f0e0d0c of the bytes 0 to 15: the first and last words add up
 // to 12100e0c, which turned left by 7 is 08070609, and 03020100 more is 0b090709.
 #[test]
-fn the_systems_bytes_seed_its_words(rt: HostRuntime) -> io::Result<()> {
-    let mut words = SystemWords::new(&Bytes(0))?;
+fn the_systems_bytes_seed_its_words(rt: HostRuntime) {
+    let mut words = words_by(&rt, &Bytes(0));
     assert_eq!(rt; words.next_u32(), 0x0b09_0709);
     assert!(rt; SystemWords::new(&Exhausted).is_err());
-    let mut one = SystemWords::new(&rt)?;
-    let mut other = SystemWords::new(&rt)?;
+    let mut one = words_by(&rt, &rt);
+    let mut other = words_by(&rt, &rt);
     assert!(rt;
         one.next_u64() != other.next_u64(),
         "two seeds of the system"
     );
-    Ok(())
 }
