@@ -2,7 +2,6 @@ use super::agree;
 use sched_plan::{Fold, Leaf, One, Plan, PlanFault, PlanShape, Side, Test, Two};
 use std::alloc::Global;
 use std::process::Abort;
-use std::test::Fail;
 
 // What a builder answers. The helpers take it as it is, so that a test need not look at it.
 type Built = Result<Plan, PlanFault>;
@@ -71,10 +70,6 @@ fn over_two(alloc: Global, place: u64, first: Built, second: Built) -> Built {
     }
 }
 
-fn follow(alloc: Global, first: Built, second: Built) -> Built {
-    Plan::follow(alloc, first?, second?)
-}
-
 fn copied(alloc: Global, plan: &Plan) -> Built {
     match plan.copy(alloc) {
         Ok(copy) => Ok(copy),
@@ -82,22 +77,10 @@ fn copied(alloc: Global, plan: &Plan) -> Built {
     }
 }
 
-// A plan of meets over `forever`, nested on the left so many times.
-fn nested(alloc: Global, times: u64) -> Built {
-    let mut plan = Plan::forever()?;
-    for _ in 0..times {
-        plan = Plan::meet(alloc, plan, Plan::forever()?)?;
-    }
-    Ok(plan)
-}
-
-// The same of follows.
-fn chained(alloc: Global, times: u64) -> Built {
-    let mut plan = Plan::forever()?;
-    for _ in 0..times {
-        plan = Plan::follow(alloc, plan, Plan::forever()?)?;
-    }
-    Ok(plan)
+// A plan of the nodes at this place over `forever`, nested on the left twice.
+fn nested(alloc: Global, place: u64) -> Built {
+    let once = over_two(alloc, place, Plan::forever(), Plan::forever());
+    over_two(alloc, place, once, Plan::forever())
 }
 
 fn keep(rt: &impl Abort, plans: &mut Vec<Plan>, built: Built) {
@@ -145,8 +128,8 @@ fn keep_folds(rt: &impl Abort, alloc: Global, plans: &mut Vec<Plan>) {
 }
 
 fn keep_plain(rt: &impl Abort, alloc: Global, plans: &mut Vec<Plan>) {
+    keep(rt, plans, nested(alloc, 0));
     keep(rt, plans, nested(alloc, 2));
-    keep(rt, plans, chained(alloc, 2));
     for place in 16..19 {
         keep(rt, plans, leaf(place, 0));
     }
@@ -212,12 +195,16 @@ fn is_within(plan: &Plan, length: u64, over: &Plan) -> bool {
     }
 }
 
+// Two recurrences.
+fn twice(rt: &impl Abort) -> Plan {
+    Plan::recurs(2).expect(rt, "it is in range")
+}
+
 #[test]
-fn shape_of_a_within(rt: HostRuntime) -> Result<(), Fail> {
-    let over = Plan::recurs(2)?;
-    let plan = Plan::within(rt.alloc(), 7, Plan::recurs(2)?)?;
-    assert!(rt; is_within(&plan, 7, &over));
-    Ok(())
+fn shape_of_a_within(rt: HostRuntime) {
+    let plan = over_one(rt.alloc(), 4, 7, Plan::recurs(2));
+    let plan = plan.expect(&rt, "it is in range");
+    assert!(rt; is_within(&plan, 7, &twice(&rt)));
 }
 
 // Whether the plan is that plan followed by `forever`.
@@ -231,9 +218,8 @@ fn is_follow(plan: &Plan, first: &Plan) -> bool {
 }
 
 #[test]
-fn shape_of_a_follow(rt: HostRuntime) -> Result<(), Fail> {
-    let first = Plan::recurs(2)?;
-    let plan = follow(rt.alloc(), Plan::recurs(2), Plan::forever())?;
-    assert!(rt; is_follow(&plan, &first));
-    Ok(())
+fn shape_of_a_follow(rt: HostRuntime) {
+    let plan = over_two(rt.alloc(), 2, Plan::recurs(2), Plan::forever());
+    let plan = plan.expect(&rt, "it is in range");
+    assert!(rt; is_follow(&plan, &twice(&rt)));
 }

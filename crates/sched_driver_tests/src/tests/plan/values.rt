@@ -19,29 +19,30 @@ fn pair(rt: &impl Abort, alloc: Global, first: u64, second: u64) -> Made {
 fn listed(rt: &impl Abort, alloc: Global, numbers: &[u64]) -> Made {
     let mut items = Vec::new(alloc);
     for k in numbers {
-        items.push(number(rt, *k))?;
+        keep(rt, &mut items, Ok(number(rt, *k)));
     }
     Ok(Val::list(items))
 }
 
 // `(0, [1, 2, 3])`
 fn mixed(rt: &impl Abort, alloc: Global) -> Made {
-    Val::pair(alloc, number(rt, 0), listed(rt, alloc, &[1, 2, 3])?)
+    let list = listed(rt, alloc, &[1, 2, 3]).expect(rt, "there is memory");
+    Val::pair(alloc, number(rt, 0), list)
 }
 
-fn units(alloc: Global) -> Made {
+fn units(rt: &impl Abort, alloc: Global) -> Made {
     let mut items = Vec::new(alloc);
-    items.push(Val::unit())?;
+    keep(rt, &mut items, Ok(Val::unit()));
     Ok(Val::list(items))
 }
 
 // `[(0, [1, 2, 3]), (), [], [()]]`
 fn nested(rt: &impl Abort, alloc: Global) -> Made {
     let mut items = Vec::new(alloc);
-    items.push(mixed(rt, alloc)?)?;
-    items.push(Val::unit())?;
-    items.push(Val::list(Vec::new(alloc)))?;
-    items.push(units(alloc)?)?;
+    keep(rt, &mut items, mixed(rt, alloc));
+    keep(rt, &mut items, Ok(Val::unit()));
+    keep(rt, &mut items, Ok(Val::list(Vec::new(alloc))));
+    keep(rt, &mut items, units(rt, alloc));
     Ok(Val::list(items))
 }
 
