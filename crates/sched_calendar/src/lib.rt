@@ -4,7 +4,5 @@
 
 mod ahead;
 mod calendar;
-#[cfg(test)]
-mod tests;
 
 pub use calendar::Calendar;

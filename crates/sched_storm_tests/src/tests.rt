@@ -1,14 +1,14 @@
 //! A storm by each call, and the ranges of their parameters. The peer does a call a millisecond and is never away.
 //! `tests/worked_storms.py` has the storms that are worked out by hand.
 use sched_plan::{Plan, PlanFault, SharedPlan};
-use sched_storm::{Parameters, Report, Span, Storm, Totals};
+use sched_storm::{Parameters, Report, Span, Storm, Totals, Window};
 use sched_time::NoMemory;
 use std::alloc::Global;
 use std::fmt::Write;
 use std::process::Abort;
-use std::test::Fail;
 
 mod arrivals;
+mod calendars;
 mod populations;
 mod ranges;
 mod rates;
@@ -25,41 +25,33 @@ fn storm_of(rate: u64, together: u64) -> Parameters {
     }
 }
 
-fn played(
-    alloc: Global,
-    parameters: Parameters,
-    plan: Result<Plan, PlanFault>,
-) -> Result<Report, Fail> {
-    let storm = Storm::new(parameters).ok_or("out of range")?;
-    let plan = SharedPlan::new(alloc, plan?)?;
-    Ok(storm.play(alloc, plan)?)
+fn storm(rt: &impl Abort, parameters: Parameters) -> Storm {
+    Storm::new(parameters).expect(rt, "the parameters are in range")
 }
 
-// Asserts the lines of a storm's windows: its totals.
-fn plays(
-    rt: &impl Abort,
-    alloc: Global,
-    parameters: Parameters,
-    plan: Result<Plan, PlanFault>,
-    want: &str,
-) -> Result<Totals, Fail> {
-    let report = played(alloc, parameters, plan)?;
-    let found = lines(alloc, &report)?;
-    assert_eq!(rt; found.as_str(), want);
-    Ok(report.totals)
+fn shared(rt: &impl Abort, alloc: Global, plan: Result<Plan, PlanFault>) -> SharedPlan {
+    let plan = plan.expect(rt, "the plan is built");
+    SharedPlan::new(alloc, plan).expect(rt, "there is memory")
 }
 
-// A line for each window: its first moment, requests, won, retries, succeeded, refused, shed, late and waiting.
-fn lines(alloc: Global, report: &Report) -> Result<String, NoMemory> {
+// Adds a window's line: its first moment, requests, won, retries, succeeded, refused, shed, late and waiting.
+fn add_line(text: &mut String, window: &Window) -> Result<(), NoMemory> {
+    let counts = window.counts;
+    write!(text, "{} {} {}", window.from, counts.requests, counts.won)?;
+    write!(text, " {} {}", counts.retries, counts.succeeded)?;
+    write!(text, " {} {} {}", counts.refused, counts.shed, counts.late)?;
+    write!(text, " {}\n", window.waiting)?;
+    Ok(())
+}
+
+// Asserts the line of each window.
+fn has_lines(rt: &impl Abort, alloc: Global, report: &Report, want: &str) {
     let mut text = String::new(alloc);
     for window in &report.windows {
-        let counts = window.counts;
-        write!(text, "{} {} {}", window.from, counts.requests, counts.won)?;
-        write!(text, " {} {}", counts.retries, counts.succeeded)?;
-        write!(text, " {} {} {}", counts.refused, counts.shed, counts.late)?;
-        write!(text, " {}\n", window.waiting)?;
+        let added = add_line(&mut text, window);
+        assert!(rt; added.is_ok(), "there is memory");
     }
-    Ok(text)
+    assert_eq!(rt; text.as_str(), want);
 }
 
 // Asserts how the requests ended, and the calls and tickets: the requests, won, lost, denied and open.
@@ -92,19 +84,21 @@ fn recovers(rt: &impl Abort, totals: &Totals, want: Option<u64>) {
     assert_eq!(rt; totals.recovered, want);
 }
 
+// What comes of one request.
+fn one(rt: &impl Abort, alloc: Global) -> Totals {
+    let plan = shared(rt, alloc, Plan::recurs(3));
+    let report = storm(rt, storm_of(1, 1)).play(alloc, plan);
+    let report = report.expect(rt, "there is memory");
+    has_lines(rt, alloc, &report, "0 1 1 0 1 0 0 0 0\n");
+    report.totals
+}
+
 #[test]
-fn one_request(rt: HostRuntime) -> Result<(), Fail> {
-    let totals = plays(
-        &rt,
-        rt.alloc(),
-        storm_of(1, 1),
-        Plan::recurs(3),
-        "0 1 1 0 1 0 0 0 0\n",
-    )?;
+fn one_request(rt: HostRuntime) {
+    let totals = one(&rt, rt.alloc());
     ends(&rt, &totals, [1, 1, 0, 0, 0, 1, 0]);
     calls(&rt, &totals, [100, 1, 0]);
     takes(&rt, &totals, [Some(1), Some(1), Some(1)]);
     recovers(&rt, &totals, Some(0));
     assert!(rt; !totals.is_cut);
-    Ok(())
 }

@@ -18,54 +18,16 @@ fn beside(share: u64, is_limited: bool) -> Parameters {
     }
 }
 
-// The totals on a population, or on all: the first has the first plan, and the others have the second.
-fn totals_on(
-    alloc: Global,
-    parameters: &Parameters,
-    first: Result<Plan, PlanFault>,
-    second: Result<Plan, PlanFault>,
-    of: Option<u64>,
-) -> Result<Totals, Fail> {
-    Ok(report_on(alloc, parameters, first, second, of)?.totals)
-}
-
-fn report_on(
-    alloc: Global,
-    parameters: &Parameters,
-    first: Result<Plan, PlanFault>,
-    second: Result<Plan, PlanFault>,
-    of: Option<u64>,
-) -> Result<Report, Fail> {
-    let storm = Storm::new(*parameters).ok_or("out of range")?;
-    let second = SharedPlan::new(alloc, second?)?;
-    let plans = Plans {
-        first: SharedPlan::new(alloc, first?)?,
-        third: second.share()?,
-        fourth: second.share()?,
-        second,
-    };
-    Ok(storm.play_populations(alloc, &[], plans, of)?)
-}
-
-// Asserts how the requests of a population end, or those of all.
-fn ends_on(
-    rt: &impl Abort,
-    alloc: Global,
-    parameters: &Parameters,
-    retries: [u64; 2],
-    of: Option<u64>,
-    want: [u64; 7],
-) -> Result<(), Fail> {
-    let first = Plan::recurs(retries[0]);
-    let second = Plan::recurs(retries[1]);
-    let totals = totals_on(alloc, parameters, first, second, of)?;
-    ends(rt, &totals, want);
-    Ok(())
+// The totals on a population, or on all, where no request is retried.
+fn totals_on(rt: &impl Abort, alloc: Global, parameters: &Parameters, of: Option<u64>) -> Totals {
+    let plans = Plans::all(shared(rt, alloc, Plan::recurs(0))).expect(rt, "there is memory");
+    let report = storm(rt, *parameters).play_populations(alloc, &[], plans, of);
+    report.expect(rt, "there is memory").totals
 }
 
 // Of a hundred requests each population has as many as its share.
 #[test]
-fn whose_requests(rt: HostRuntime) -> Result<(), Fail> {
+fn whose_requests(rt: HostRuntime) {
     let good = beside(30, false);
     let other = Population {
         share: 20,
@@ -78,47 +40,16 @@ fn whose_requests(rt: HostRuntime) -> Result<(), Fail> {
         },
         ..good
     };
-    let alloc = rt.alloc();
-    ends_on(
-        &rt,
-        alloc,
-        &parameters,
-        [0, 0],
-        None,
-        [100, 100, 0, 0, 0, 100, 0],
-    )?;
-    ends_on(
-        &rt,
-        alloc,
-        &parameters,
-        [0, 0],
-        Some(0),
-        [50, 50, 0, 0, 0, 50, 0],
-    )?;
-    ends_on(
-        &rt,
-        alloc,
-        &parameters,
-        [0, 0],
-        Some(1),
-        [30, 30, 0, 0, 0, 30, 0],
-    )?;
-    ends_on(
-        &rt,
-        alloc,
-        &parameters,
-        [0, 0],
-        Some(2),
-        [0, 0, 0, 0, 0, 0, 0],
-    )?;
-    ends_on(
-        &rt,
-        alloc,
-        &parameters,
-        [0, 0],
-        Some(3),
-        [20, 20, 0, 0, 0, 20, 0],
-    )
+    for (of, has) in [
+        (None, 100),
+        (Some(0), 50),
+        (Some(1), 30),
+        (Some(2), 0),
+        (Some(3), 20),
+    ] {
+        let totals = totals_on(&rt, rt.alloc(), &parameters, of);
+        ends(&rt, &totals, [has, has, 0, 0, 0, has, 0]);
+    }
 }
 
 // The first population has one request in a hundred at least, and patience is asked for where there are clients.

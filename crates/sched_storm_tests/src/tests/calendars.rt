@@ -1,4 +1,5 @@
-use super::Calendar;
+//! Calendars, whose least key comes first.
+use sched_calendar::Calendar;
 use std::alloc::{AllocGlobal, Global};
 use std::process::Abort;
 
