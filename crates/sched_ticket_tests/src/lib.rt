@@ -1,8 +1,12 @@
-//! Tests of `sched_ticket` by its public calls alone, and examples of its theorem. They stand apart so that they are
-//! proved without a second proof of that library.
+//! Tests of `sched_ticket` and `sched_ticket_draws` by their public calls alone, and examples of the theorem of budgets.
+//! They stand apart so that they are proved without a second proof of those libraries. The examples are read with the
+//! tests alone, and so proved once.
 #![tactic(auto)]
 
-pub mod locked;
+pub mod fault;
+#[cfg(test)]
+mod locked;
 #[cfg(test)]
 mod tests;
-pub mod workers;
+#[cfg(test)]
+mod workers;
