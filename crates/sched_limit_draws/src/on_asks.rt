@@ -1,5 +1,5 @@
 //! A limit that retries draw on.
-ghost use Rattle.std.specs.Prelude.{◌≡◌, None, IfOk};
+ghost use Rattle.std.specs.Prelude.{◌≡◌, None, IfOk, IfErr};
 ghost use Rattle.sched_limit_draws.specs.Limits.{Cancelled};
 
 use crate::costs::Costs;
@@ -82,6 +82,7 @@ impl<L: Asks, G: Rng + Drop> OnAsks<L, G> {
         ensures rest { self.new ≡ record self.old { limit = self.new.limit } }
         ensures fresh { IfOk result (λ part. (part.costs ≡ self.old.costs) × (part.granted ≡ 0)) }
         ensures words { IfOk result (λ part. part.words ≡ words) }
+        ensures unsplit { IfErr result (λ why. L.asked.unsplit self.old.limit why) }
     {
         let limit = self.limit.split()?;
         Ok(OnAsks::new(limit, words, self.costs))

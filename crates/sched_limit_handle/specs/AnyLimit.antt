@@ -8,6 +8,7 @@ use Rattle.sched_limit.specs.declared.in_flight.InFlight.{InFlight}
 use Rattle.sched_limit.specs.declared.breaker.Breaker.{Breaker}
 use Rattle.sched_limit.specs.declared.request.Told.{Told}
 use Rattle.sched_limit_request.specs.Asks.{Asked}
+use Rattle.sched_limit_request.specs.declared.fault.SplitFault.{SplitFault}
 use Rattle.sched_limit_request.specs.Limits.{OfLimit, limit_asked}
 use Rattle.sched_limit_request.specs.Windows.{OfThrottle, window_asked}
 use Rattle.sched_limit_handle.specs.declared.any_limit.AnyLimit.{AnyLimit}
@@ -52,5 +53,12 @@ AnySpares (any.Adaptive d) v = Same any.Adaptive v (on_adaptive.spares d)
 AnySpares (any.Breaker d) v = Same any.Breaker v (on_breaker.spares d)
 AnySpares (any.Throttle d) v = Same any.Throttle v (window_asked.spares d)
 
+abbrev pub AnyUnsplit : AnyLimit → SplitFault → Type 0
+AnyUnsplit (any.Bucket d) why = on_bucket.unsplit d why
+AnyUnsplit (any.InFlight d) why = on_flight.unsplit d why
+AnyUnsplit (any.Adaptive d) why = on_adaptive.unsplit d why
+AnyUnsplit (any.Breaker d) why = on_breaker.unsplit d why
+AnyUnsplit (any.Throttle d) why = window_asked.unsplit d why
+
 abbrev pub any_asked : Asked AnyLimit
-any_asked = record { tells = AnyTells; splits = AnySplits; spares = AnySpares }
+any_asked = record { tells = AnyTells; splits = AnySplits; spares = AnySpares; unsplit = AnyUnsplit }

@@ -14,6 +14,8 @@ use Rattle.sched_limit.specs.Step.{Answer, nothing}
 use Rattle.sched_limit_word.specs.View.{first_view}
 use Rattle.sched_limit_request.specs.Asks.{Asked}
 use Rattle.sched_limit_request.specs.Pairs.{both_asked}
+use Rattle.sched_limit_request.specs.declared.fault.SplitFault.{SplitFault}
+use Rattle.sched_limit_request.specs.declared.fault.SplitFault.TheVariants as fault
 use Rattle.sched_limit_request.specs.declared.both.Both.{Both}
 use Rattle.sched_limit_handle.specs.AnyLimit.{any_asked}
 use Rattle.sched_limit_handle.specs.declared.any_limit.AnyLimit.{AnyLimit}
@@ -57,8 +59,15 @@ HeldSpares (Two d) v = AsMany Two v (two_asked.spares d)
 HeldSpares (Three d) v = AsMany Three v (three_asked.spares d)
 HeldSpares (Four d) v = AsMany Four v (four_asked.spares d)
 
+abbrev pub HeldUnsplit : Held → SplitFault → Type 0
+HeldUnsplit Unlimited why = ⊥
+HeldUnsplit (One d) why = any_asked.unsplit d why
+HeldUnsplit (Two d) why = two_asked.unsplit d why
+HeldUnsplit (Three d) why = three_asked.unsplit d why
+HeldUnsplit (Four d) why = four_asked.unsplit d why
+
 abbrev pub held_asked : Asked Held
-held_asked = record { tells = HeldTells; splits = HeldSplits; spares = HeldSpares }
+held_asked = record { tells = HeldTells; splits = HeldSplits; spares = HeldSpares; unsplit = HeldUnsplit }
 
 -- what is made is a new limit with these terms, which no request has asked; or there was no memory
 abbrev pub Makes : (AnyLimit → Type 0) → Result (Box Held Global) Status → Type 0
@@ -106,7 +115,7 @@ MakesThrottle terms r = Makes (IsThrottle terms) r
 -- a part is split off, in a block of its own; or there is none, for this reason
 abbrev pub PartsOff : Held → Result (Box Held Global) Status → Held → Type 0
 PartsOff u (Ok b) v = held_asked.splits u b.value v
-PartsOff u (Err s) v = (s ≡ NoMemory) ⊎ (s ≡ TooManyPasses)
+PartsOff u (Err s) v = (s ≡ NoMemory) ⊎ ((s ≡ TooManyPasses) × held_asked.unsplit u fault.TooManyPasses)
 
 -- and in either case the limits and their requests are as they were
 pub record SplitsHeld (u : Held) (r : Result (Box Held Global) Status) (v : Held) : Type 0 where

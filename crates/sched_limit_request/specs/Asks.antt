@@ -2,6 +2,7 @@
 use Rattle.std.specs.Prelude.{ℕ}
 use Rattle.sched_limit.specs.Step.{Answer}
 use Rattle.sched_limit.specs.declared.request.Told.{Told}
+use Rattle.sched_limit_request.specs.declared.fault.SplitFault.{SplitFault}
 
 -- what each call does, of the limit before it and after it
 pub record Asked (D : Type 0) : Type 1 where
@@ -11,6 +12,8 @@ pub record Asked (D : Type 0) : Type 1 where
   pub splits : D → D → D → Type 0
   -- a split, whether there is a part or not
   pub spares : D → D → Type 0
+  -- why there is no part
+  pub unsplit : D → SplitFault → Type 0
 
 -- what is told needs no random word
 pub record Hears {D : Type 0} (asked : Asked D) (told : Told) (d e : D) : Type 0 where

@@ -7,6 +7,8 @@ use Rattle.sched_limit.specs.declared.request.Request.{Request}
 use Rattle.sched_limit.specs.declared.request.Told.{Told}
 use Rattle.sched_limit_request.specs.Asks.{Asked}
 use Rattle.sched_limit_request.specs.Tells.{IsTold}
+use Rattle.sched_limit_request.specs.declared.fault.SplitFault.{SplitFault}
+use Rattle.sched_limit_request.specs.declared.fault.SplitFault.TheVariants as fault
 
 -- a limit, a pass of it, and what its request holds
 pub record OfLimit (M : Type 0) : Type 0 where
@@ -18,6 +20,11 @@ pub record OfLimit (M : Type 0) : Type 0 where
 pub record IsSpared (p q : Held) : Type 0 where
   pub table : q.table ≡ p.table
   pub has : (q.has ≡ p.has) ⊎ (q.has ≡ without_part p.has)
+
+-- a pass that is not split has one part, or there is no memory
+abbrev pub Unsplit : Held → SplitFault → Type 0
+Unsplit p fault.NoMemory = Unit {0}
+Unsplit p fault.TooManyPasses = p.has.weight ≡ 1
 
 module _ {M : Type 0} (rules : M → Rules) where
   pub record LimitTells (d : OfLimit M) (told : Told) (random : ℕ) (answer : Answer) (e : OfLimit M) : Type 0 where
@@ -39,4 +46,9 @@ module _ {M : Type 0} (rules : M → Rules) where
     pub pass : IsSpared d.pass e.pass
 
   abbrev pub limit_asked : Asked (OfLimit M)
-  limit_asked = record { tells = LimitTells; splits = LimitSplits; spares = LimitSpares }
+  limit_asked = record {
+    tells = LimitTells;
+    splits = LimitSplits;
+    spares = LimitSpares;
+    unsplit = λ d why. Unsplit d.pass why;
+  }

@@ -6,6 +6,7 @@ use Rattle.sched_limit.specs.declared.request.Told.{Told}
 use Rattle.sched_limit.specs.declared.request.Told.TheVariants.{Admit, Draw, Cancelled, Ended}
 use Rattle.sched_limit_request.specs.Asks.{Asked}
 use Rattle.sched_limit_request.specs.declared.both.Both.{Both}
+use Rattle.sched_limit_request.specs.declared.fault.SplitFault.{SplitFault}
 
 -- what takes back what was asked and granted, if anything is to be: an admission ends, and a draw is cancelled
 abbrev pub undo_of : Told → Option Told
@@ -43,9 +44,14 @@ module _ {A B : Type 0} (a : Asked A) (b : Asked B) where
     pub first : a.spares d.first e.first
     pub second : b.spares d.second e.second ⊎ (e.second ≡ d.second)
 
+  -- one of them is not split
+  abbrev pub BothUnsplit : Both A B → SplitFault → Type 0
+  BothUnsplit d why = a.unsplit d.first why ⊎ b.unsplit d.second why
+
   abbrev pub both_asked : Asked (Both A B)
   both_asked = record {
     tells = λ d told random answer e. BothTell (undo_of told) d told random answer e;
     splits = BothSplit;
     spares = BothSpared;
+    unsplit = BothUnsplit;
   }

@@ -16,7 +16,8 @@ use Rattle.sched_limit.specs.declared.throttle.Throttle.{Throttle}
 use Rattle.sched_limit.specs.declared.turns.Turn.{Turn}
 use Rattle.sched_limit.specs.declared.turns.Turn.TheVariants.{Done, Later}
 use Rattle.sched_limit_request.specs.Asks.{Asked}
-use Rattle.sched_limit_request.specs.Limits.{IsSpared}
+use Rattle.sched_limit_request.specs.Limits.{IsSpared, Unsplit}
+use Rattle.sched_limit_request.specs.declared.fault.SplitFault.{SplitFault}
 
 -- ---- one turn, on the pass of its window and that of the window before, the other one
 
@@ -135,5 +136,14 @@ pub record WindowSpares (d e : OfThrottle) : Type 0 where
   pub even : IsSpared d.even e.even
   pub odd : IsSpared d.odd e.odd
 
+-- one of the two passes is not split
+abbrev pub WindowUnsplit : OfThrottle → SplitFault → Type 0
+WindowUnsplit d why = Unsplit d.even why ⊎ Unsplit d.odd why
+
 abbrev pub window_asked : Asked OfThrottle
-window_asked = record { tells = WindowTells; splits = WindowSplits; spares = WindowSpares }
+window_asked = record {
+  tells = WindowTells;
+  splits = WindowSplits;
+  spares = WindowSpares;
+  unsplit = WindowUnsplit;
+}

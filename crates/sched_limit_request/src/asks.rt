@@ -1,5 +1,5 @@
 //! What a request asks of a limit and tells it.
-ghost use Rattle.std.specs.Prelude.{IfOk};
+ghost use Rattle.std.specs.Prelude.{IfOk, IfErr};
 ghost use Rattle.sched_limit.specs.declared.request.Told.TheVariants as told_as;
 ghost use Rattle.sched_limit_request.specs.Asks.{Asked, Hears};
 
@@ -67,7 +67,9 @@ pub trait Asks: Drop {
     }
 
     /// The same limit for another thread's requests. Where there is none, a part may have been given away.
+    /// `TooManyPasses` where a pass has one part, which it keeps.
     fn split(&mut self) -> Result<Self, SplitFault>
         ensures part { IfOk result (λ part. asked.splits self.old part self.new) }
-        ensures spared { asked.spares self.old self.new };
+        ensures spared { asked.spares self.old self.new }
+        ensures unsplit { IfErr result (λ why. asked.unsplit self.old why) };
 }

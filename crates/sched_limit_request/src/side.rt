@@ -2,7 +2,7 @@
 ghost use Rattle.std.specs.Prelude.{◌≡◌, IfOk, IfErr};
 ghost use Rattle.sched_limit_word.specs.Calls.{LostRaces};
 ghost use Rattle.sched_limit_word.specs.View.{first_view, part_of, with_look, without_part};
-ghost use Rattle.sched_limit_request.specs.Limits.{IsSpared};
+ghost use Rattle.sched_limit_request.specs.Limits.{IsSpared, Unsplit};
 ghost use Rattle.sched_limit_request.specs.Sides.{IsSameSide};
 ghost use Rattle.sched_limit_request.specs.Windows.{Closes, TriesOn, Turns};
 
@@ -126,6 +126,7 @@ impl Side {
         ensures same { IfOk result (λ part. IsSameSide self.old part) }
         ensures part { IfOk result (λ part. part.pass.has ≡ part_of self.old.pass.has) }
         ensures left { IfOk result (λ part. self.new.pass.has ≡ without_part self.old.pass.has) }
+        ensures unsplit { IfErr result (λ why. Unsplit self.old.pass why) }
     {
         let Ok(limit) = Arc::try_clone(&self.limit) else {
             return Err(SplitFault::NoMemory);
