@@ -58,10 +58,12 @@ impl Model for Leased {
 }
 
 impl Leased {
-    /// A holder that has nothing, of a limit whose windows are so long: 0 where there are none.
+    /// A holder that has nothing, of a limit whose windows are so long: 0 where there are none. Until it is granted
+    /// something it takes them to begin at moment 0.
     pub fn new(alloc: Global, period: Millis) -> Leased
         ensures new { IsNew result }
         ensures period { result.requests.period ≡ period }
+        ensures border { result.requests.border ≡ 0 }
     {
         Leased {
             window: 0,

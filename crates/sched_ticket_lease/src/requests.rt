@@ -37,6 +37,7 @@ impl Requests {
     pub(crate) fn new(alloc: Global, period: Millis) -> Requests
         ensures none { result.slices ≡ [] }
         ensures period { result.period ≡ period }
+        ensures border { result.border ≡ 0 }
     {
         let Some(start) = Moment::new(0) else {
             unreachable!()
