@@ -1,18 +1,22 @@
 ghost use Rattle.std.specs.Prelude.{◌≡◌, ◌+◌, if◌then◌else◌, None, length, IsTrue};
-ghost use Rattle.sched_plan.specs.Schedule.{is_valid, one as one_schedule};
+ghost use Rattle.sched_plan.specs.Schedule.{is_valid, leaf_in_range, one as one_schedule};
 ghost use Rattle.sched_step.specs.Progress.{is_beside};
 ghost use Rattle.sched_step.specs.Step.{begins};
-ghost use Rattle.sched_step_flat.specs.Words.{blank, kept_from, width_of, one_width};
-ghost use Rattle.sched_step_flat.specs.FlatStep.{cued, pair_number, Decides, FlatSteps, PairDecides, PairSteps};
+ghost use Rattle.sched_step_flat.specs.Words.{blank, kept_from, leaf_width, width_of, one_width};
+ghost use Rattle.sched_step_flat.specs.FlatStep.{cued, pair_number, unread, Decides, FlatSteps, LeafSteps};
+ghost use Rattle.sched_step_flat.specs.FlatStep.{PairDecides, PairSteps};
+ghost use Rattle.sched_step_flat.specs.declared.parts.Part.TheVariants.{Unread};
 
 use crate::cues::{Cue, Reply};
 use crate::leaves::step_leaf;
-use crate::ones::{begins, keep, reply};
+use crate::moments::word_or;
+use crate::ones::{begins, jitter, keep, reply, within};
 use crate::parts::{Part, of_first, of_second, reads_output, under};
 use crate::puts::{first_word, put_one};
 use crate::resets::reset;
 use crate::widths::{one_width, width};
-use sched_plan::{One, Plan, PlanShape, Two};
+use sched_plan::{Leaf, One, Plan, PlanShape, Two};
+use sched_step::changes::{add, cap, set};
 use sched_step::decisions::{join, meet};
 use sched_time::{Decision, Moment};
 
@@ -26,7 +30,13 @@ pub(crate) fn decide(cue: &Cue, plan: &Plan, words: &mut [u64]) -> Decision
     ensures { Decides plan.now words.old (cued cue.now) words.new result }
 {
     match plan.shape() {
-        PlanShape::Leaf(leaf) => step_leaf(cue, leaf, Part::Unread, words).decision,
+        PlanShape::Leaf(leaf) => match *leaf {
+            Leaf::Fixed(_)
+            | Leaf::Windowed(_)
+            | Leaf::ExponentialMilli { .. }
+            | Leaf::Decorrelated { .. } => decide_leaf(cue, leaf, words),
+            _ => step_leaf(cue, leaf, Part::Unread, words).decision,
+        },
         PlanShape::One(node, plan) => decide_one(cue, node, plan, words),
         PlanShape::Two(node, plans) => match *node {
             Two::Meet | Two::Join => decide_beside(cue, *node, plans, words),
@@ -36,11 +46,59 @@ pub(crate) fn decide(cue: &Cue, plan: &Plan, words: &mut [u64]) -> Decision
     }
 }
 
-// A node over one plan, of which it reads nothing, or else what `advance_one` does.
+// The same by a call.
+#[cycle(decide)]
+#[inline(never)]
+fn decide_below(cue: &Cue, plan: &Plan, words: &mut [u64]) -> Decision
+    requires { length words.old ≡ width_of plan.now }
+    ensures { Decides plan.now words.old (cued cue.now) words.new result }
+{
+    decide(cue, plan, words)
+}
+
+// A leaf, by a call: where one that divides is not inlined, what steps the others has no registers to save.
+#[inline(never)]
+fn decide_leaf(cue: &Cue, leaf: &Leaf, words: &mut [u64]) -> Decision
+    requires valid { IsTrue (leaf_in_range leaf.now) }
+    requires fits { length words.old ≡ leaf_width leaf.now }
+    ensures { LeafSteps leaf.now Unread words.old (cued cue.now) words.new (unread result) }
+{
+    step_leaf(cue, leaf, Part::Unread, words).decision
+}
+
+// A node over one plan. The usual ones choose once what they do, before the plan is stepped.
+#[cycle(decide)]
+#[inline(never)]
+fn decide_one(cue: &Cue, node: &One, plan: &Plan, words: &mut [u64]) -> Decision
+    requires valid { IsTrue (is_valid (one_schedule node.now plan.now)) }
+    requires fits { length words.old ≡ one_width node.now + width_of plan.now }
+    ensures { Decides (one_schedule node.now plan.now) words.old (cued cue.now) words.new result }
+{
+    let now = cue.tick.now;
+    match *node {
+        One::Add(more) => add(more, now, decide_below(cue, plan, words)),
+        One::Set(delay) => set(delay, now, decide_below(cue, plan, words)),
+        One::Cap(most) => cap(most, now, decide_below(cue, plan, words)),
+        One::Jitter { lane, least, most } => {
+            let decision = decide_below(cue, plan, words);
+            jitter(least, most, cue.tick.words[lane], now, decision)
+        }
+        One::Within(length) => {
+            let (own, below) = words.split_at_mut(1);
+            let word = own[0];
+            put_one(own, word_or(word, now));
+            within(length, word, now, decide_below(cue, plan, below))
+        }
+        One::First | One::Second | One::Nothing => decide_below(cue, plan, words),
+        _ => decide_other(cue, node, plan, words),
+    }
+}
+
+// Any node over one plan, of which it reads nothing, or else what `advance_one` does.
 #[cycle(decide)]
 #[inline(never)]
 #[tactic(auto, using(crate::proofs::Unread::unread_one, crate::proofs::Unread::unread_reader, crate::proofs::Unread::under_unread))]
-fn decide_one(cue: &Cue, node: &One, plan: &Plan, words: &mut [u64]) -> Decision
+fn decide_other(cue: &Cue, node: &One, plan: &Plan, words: &mut [u64]) -> Decision
     requires valid { IsTrue (is_valid (one_schedule node.now plan.now)) }
     requires fits { length words.old ≡ one_width node.now + width_of plan.now }
     ensures { Decides (one_schedule node.now plan.now) words.old (cued cue.now) words.new result }

@@ -65,6 +65,7 @@ impl Record {
     }
 
     /// Steps the plan with one more event, in place, and gives what it decides. It takes no memory.
+    #[inline(always)]
     pub fn advance(&mut self, plan: &Plan, tick: &Tick, input: &Val) -> Decision
         requires reads { IsTrue (has_record plan.now) }
         requires fits { length self.old ≡ width_of plan.now }
