@@ -3,9 +3,10 @@
 mod common;
 
 use common::ticket;
-use hikebox::{retry, Budget, LimitError, Policy, RetryError};
+use hikebox::{retry, Budget, Ending, LimitError, Machine, Policy, Report, RetryError, Step};
 use std::sync::atomic::{AtomicU64, Ordering};
 use std::thread;
+use std::time::Duration;
 
 #[test]
 fn two_passes_share_two_tickets() {
@@ -135,4 +136,49 @@ fn sixteen_threads_draw_ten_million_tickets_each_once() {
     let all: u64 = drawn.iter().map(|word| u64::from(word.load(Ordering::Relaxed).count_ones())).sum();
     assert_eq!(all, TICKETS);
     assert_eq!(budget.close().unwrap(), TICKETS);
+}
+
+#[test]
+fn retries_that_are_over_give_their_place_to_later_ones_and_are_counted() {
+    let [once, thrice]: [Policy; 2] = [r#"{"recurs":1}"#, r#"{"recurs":3}"#].map(|json| json.parse().unwrap());
+    let budget = Budget::new(100).unwrap();
+    let (mut runs, mut granted) = (0, 0);
+    for (policy, retries) in [(&once, 1), (&thrice, 3), (&thrice, 3), (&once, 1), (&once, 1)].repeat(11) {
+        let ended = retry(policy, &budget, || {
+            runs += 1;
+            Err::<(), _>(())
+        });
+        assert_eq!(ended, Err(RetryError::ScheduleDone(())));
+        granted += retries;
+        assert_eq!(budget.granted(), granted);
+    }
+    assert_eq!((runs, granted), (154, 99));
+    assert_eq!(retry(&once, &budget, || Err::<(), _>(())), Err(RetryError::ScheduleDone(())));
+    assert_eq!(retry(&once, &budget, || Err::<(), _>(())), Err(RetryError::LimitRefused(())));
+    assert_eq!(retry(&thrice, &budget, || Err::<(), _>(())), Err(RetryError::LimitRefused(())));
+    assert_eq!(budget.close().unwrap(), 100);
+}
+
+#[test]
+fn machines_take_turns_whatever_their_deadline_and_thread() {
+    let at = Duration::from_millis;
+    let policy: Policy = r#"{"spaced":100}"#.parse().unwrap();
+    let budget = Budget::new(1000).unwrap();
+    let (lost, late) = (Some(Report::Lost(0)), Step::Over(Ending::Deadline));
+    for turn in 1..=20 {
+        let mut timed = Machine::until(&policy, &budget, at(150)).unwrap();
+        let mut free = Machine::new(&policy, &budget).unwrap();
+        for machine in [&mut timed, &mut free] {
+            assert_eq!(machine.step(at(0), None), Step::Run);
+            assert_eq!(machine.step(at(0), lost), Step::Wait(at(100)));
+            assert_eq!(machine.step(at(100), None), Step::Run);
+        }
+        assert_eq!((timed.step(at(100), lost), timed.granted()), (late, 1));
+        assert_eq!((free.step(at(100), lost), free.granted()), (Step::Wait(at(200)), 2));
+        drop(timed);
+        assert_eq!(budget.granted(), 3 * turn - 2);
+        thread::spawn(move || drop(free)).join().unwrap();
+        assert_eq!(budget.granted(), 3 * turn);
+    }
+    assert_eq!(budget.close().unwrap(), 60);
 }

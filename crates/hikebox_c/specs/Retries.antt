@@ -5,7 +5,9 @@ use Rattle.sched_time.specs.declared.numbers.TheConstants.{FAR}
 use Rattle.sched_time.specs.declared.numbers.Tick.{Tick}
 use Rattle.sched_effect.specs.declared.ran.Ran.{Ran}
 use Rattle.sched_effect.specs.declared.ran.Ran.TheVariants.{Won, Lost}
+use Rattle.sched_handle.specs.Again.{Again}
 use Rattle.sched_handle.specs.Retries.{Retries, Polls}
+use Rattle.sched_handle.specs.Status.{code_of, told}
 use Rattle.sched_handle.specs.declared.held.Held.{Held}
 use Rattle.sched_handle.specs.declared.replies.Reply.{Reply}
 use Rattle.sched_handle.specs.declared.status.Status.{Status}
@@ -29,6 +31,18 @@ abbrev pub NewRetryBy : Result (Option ℕ) Status → Option Held → Option He
     Option Held → Type 0
 NewRetryBy (Ok deadline) policy pass left u code v = NewRetry deadline policy pass left u code v
 NewRetryBy (Err s) policy pass left u code v = (left ≡ pass) × Puts u code v (Err s)
+
+-- a retry ends into a pass and begins again, where both are there
+abbrev pub AgainHeld : Option ℕ → Option Held → Option Held → ℕ → Option Held → Option Held → Type 0
+AgainHeld deadline (Some x) (Some y) code u v =
+    (r : Result (Unit {0}) Status) × (n e : Held) × (u ≡ Some n) × (v ≡ Some e) × Again deadline x y r n e
+    × (code ≡ told r)
+AgainHeld deadline x y code u v = (u ≡ x) × (v ≡ y) × (code ≡ code_of Empty)
+
+-- the same by this deadline, which is looked at first
+abbrev pub AgainBy : Result (Option ℕ) Status → Option Held → Option Held → ℕ → Option Held → Option Held → Type 0
+AgainBy (Ok deadline) x y code u v = AgainHeld deadline x y code u v
+AgainBy (Err s) x y code u v = (u ≡ x) × (v ≡ y) × (code ≡ code_of s)
 
 -- the run that a number and a code report, if any
 abbrev pub Reports : ℕ → ℕ → Result (Option Ran) Status → Type 0

@@ -9,7 +9,7 @@ ghost use Rattle.sched_handle.specs.declared.held.Kind.TheVariants as kind;
 ghost use Rattle.sched_handle.specs.declared.status.Status.TheVariants as status;
 ghost use Rattle.hikebox_c.specs.Calls.{Tells, OnHeld};
 ghost use Rattle.hikebox_c.specs.Passes.{JoinsHeld};
-ghost use Rattle.hikebox_c.specs.Retries.{deadline_of, NewRetry, NewRetryBy, Reports, PollsAt};
+ghost use Rattle.hikebox_c.specs.Retries.{deadline_of, NewRetry, NewRetryBy, AgainBy, AgainHeld, Reports, PollsAt};
 
 use crate::joins::join_into;
 use sched_effect::Ran;
@@ -181,6 +181,44 @@ pub extern "C" fn hikebox_retry_end(alloc: Global, retry: &mut Handle, pass: &mu
     ensures { JoinsHeld kind.Retry retry.old.held pass.old.held result retry.new.held pass.new.held }
 {
     join_into(alloc, Kind::Retry, retry, pass)
+}
+
+#[unsafe(no_mangle)]
+pub extern "C" fn hikebox_retry_again(
+    alloc: Global,
+    retry: &mut Handle,
+    pass: &mut Handle,
+    deadline: u64,
+) -> u32
+    requires { AreOfOne pass.old.held retry.old.held }
+    ensures { AgainBy (deadline_of deadline) retry.old.held pass.old.held result retry.new.held pass.new.held }
+{
+    match deadline_at(deadline) {
+        Ok(deadline) => begin_again(alloc, retry, pass, deadline),
+        Err(status) => status.code(),
+    }
+}
+
+fn begin_again(
+    alloc: Global,
+    retry: &mut Handle,
+    pass: &mut Handle,
+    deadline: Option<Moment>,
+) -> u32
+    requires { AreOfOne pass.old.held retry.old.held }
+    ensures { AgainHeld deadline retry.old.held pass.old.held result retry.new.held pass.new.held }
+{
+    let Some(mut held) = retry.take(alloc) else {
+        return Status::Empty.code();
+    };
+    let Some(mut into) = pass.take(alloc) else {
+        retry.put(held);
+        return Status::Empty.code();
+    };
+    let begun = held.again(&mut into, deadline);
+    retry.put(held);
+    pass.put(into);
+    tell_status(begun)
 }
 
 #[unsafe(no_mangle)]

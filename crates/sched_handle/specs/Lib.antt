@@ -8,6 +8,7 @@ pub mod Policies
 pub mod Drawing
 pub mod Passes
 pub mod Retries
+pub mod Again
 pub mod Leases
 pub mod Limits
 pub mod Looks

@@ -1,5 +1,5 @@
 -- What contracts see of a type that drives tasks, and one step of a driver, of each journal that it may stand for.
-use Rattle.std.specs.Prelude.{◌≡◌, ℕ, Bool, true, false, List, [], ◌∷◌, Option, None, refl}
+use Rattle.std.specs.Prelude.{◌≡◌, ℕ, Bool, true, false, List, [], Option, None, refl}
 use Rattle.std.specs.Coded.{Coded, code_by, coded×, coded_ℕ, coded_option}
 use mathlib.Core.Path.{ap, ◌∙◌}
 use Rattle.sched_time.specs.declared.numbers.Tick.{Tick}

@@ -6,4 +6,5 @@ pub mod Laws
 pub mod Drives
 pub mod Machine
 pub mod Runner
+pub mod Again
 pub mod Of

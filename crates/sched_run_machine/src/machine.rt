@@ -4,6 +4,7 @@ ghost use Rattle.sched_run_machine.specs.Retrying.{Retrying, Tells, GivesUp};
 ghost use Rattle.sched_run_machine.specs.Machine.{begins, unbegun, is_told, would_be_late, TimesOut, BreaksOff};
 ghost use Rattle.sched_run_machine.specs.Machine.{Cancels, IsMachineOf, Looks, IsMachine, PollsEach, PollsInTime};
 ghost use Rattle.sched_run_machine.specs.Machine.{WaitsInTime, TellsEnd, StopsOrEnds, Ends};
+ghost use Rattle.sched_run_machine.specs.Again.{BeginsAgain};
 ghost use Rattle.sched_run_machine.specs.Aims.{EndsAs};
 ghost use Rattle.sched_task_law.specs.Kind.{a_retry, a_repeat, repeats};
 ghost use Rattle.sched_ticket_draws.specs.Freely.{free_grants};
@@ -13,12 +14,15 @@ ghost use Rattle.sched_run_machine.specs.Next.{next_of, Finds};
 use crate::aims::{Aims, Repeats, Retries};
 use crate::drives::{Drives, is_past};
 use crate::next::{Next, is_later};
+use crate::until::Until;
+use sched_driver_stepper::Stepper;
 use sched_effect::Ran;
 use sched_task::{How, RunFault};
 use sched_ticket_draws::{Draws, Unlimited};
 use sched_time::{Moment, Tick};
 use std::alloc::Global;
 use std::marker::{Model, PhantomData};
+use std::mem;
 
 /// What makes a call that is run again and again, as its driver's schedule says: a retry until it succeeds, with a
 /// ticket for each run after a failure, or a repeat until it fails, without tickets. It says when to run the call and
@@ -76,6 +80,22 @@ impl<R: Drives, D: Draws> Machine<R, D, Retries> {
             (unbegun D.grants (R.driving.plan driver) (R.driving.ends driver) drawing) }
     {
         Machine::unbegun(driver, drawing)
+    }
+}
+
+impl<D: Draws> Machine<Until<Stepper>, D> {
+    /// Begins again: it is then the machine of a retry that has not begun, of the same plan, with this deadline or none,
+    /// that draws by this value. What it drew by before comes out; one that is not over is cancelled. It takes no memory.
+    pub fn again(&mut self, deadline: Option<Moment>, drawing: D) -> D
+        ensures { BeginsAgain D.grants deadline drawing self.old result self.new }
+    {
+        self.cancel();
+        self.driver.reset(deadline);
+        self.had = drawing.granted();
+        self.under_way = false;
+        self.over = None;
+        self.told = 0;
+        mem::replace(&mut self.drawing, drawing)
     }
 }
 

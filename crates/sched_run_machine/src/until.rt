@@ -1,11 +1,13 @@
 //! Drivers with a deadline.
-ghost use Rattle.std.specs.Prelude.{◌≡◌, ◌-◌, false, ◌||◌, is_some, IfSome, option_map};
+ghost use Rattle.std.specs.Prelude.{◌≡◌, ◌-◌, false, ◌||◌, [], is_some, IfSome, option_map};
 ghost use Rattle.sched_driver.specs.Driven.{Driven};
+ghost use Rattle.sched_driver_stepper.specs.Standing.{standing_after};
 ghost use Rattle.sched_task_law.specs.Deadline.{is_past, in_time, late, earlier};
 ghost use Rattle.sched_task_law.specs.Past.{schedule_is_done, next_start_by};
 ghost use Rattle.sched_run_machine.specs.Drives.{by_until};
 
 use crate::drives::{Drives, GivesOutput};
+use sched_driver_stepper::Stepper;
 use sched_plan::Val;
 use sched_task::RunFault;
 use sched_time::{Millis, Moment, Tick};
@@ -88,6 +90,17 @@ impl<R: Drives> Until<R> {
             deadline: _,
         } = self;
         driver
+    }
+}
+
+impl Until<Stepper> {
+    /// Back to before the first event, with this deadline.
+    pub fn reset(&mut self, deadline: Option<Moment>)
+        ensures driver { self.new.driver ≡ standing_after self.old.driver.plan [] }
+        ensures deadline { self.new.deadline ≡ deadline }
+    {
+        self.driver.reset();
+        self.deadline = deadline;
     }
 }
 

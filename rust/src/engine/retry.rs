@@ -4,7 +4,6 @@ use super::pass::PassKind;
 use super::policy::PolicyKind;
 use super::sys::*;
 use super::{Handle, Kind, Status};
-use std::cell::RefCell;
 
 /// The kind of a retry.
 #[derive(Debug)]
@@ -12,11 +11,6 @@ pub(crate) enum RetryKind {}
 
 impl Kind for RetryKind {
     const FREE: unsafe extern "C" fn(*mut Raw) -> u32 = hikebox_retry_free;
-}
-
-thread_local! {
-    /// The thread's pass of nothing, from which those of its retries are split off; empty before the first.
-    static NOTHING: RefCell<Handle<PassKind>> = const { RefCell::new(Handle::EMPTY) };
 }
 
 impl Handle<RetryKind> {
@@ -30,26 +24,6 @@ impl Handle<RetryKind> {
         deadline: u64,
     ) -> Result<(), Status> {
         Status::of(unsafe { hikebox_retry_new(policy.raw(), pass.raw(), deadline, self.raw()) })
-    }
-
-    /// The same, drawing on nothing.
-    pub(crate) fn begin_on_nothing(&mut self, policy: &mut Handle<PolicyKind>, deadline: u64) -> Result<(), Status> {
-        let mut own = |nothing: &RefCell<Handle<PassKind>>| {
-            let mut pass = nothing.borrow_mut();
-            match self.begin(policy, &mut pass, deadline) {
-                Ok(()) => Ok(()),
-                // (it is the thread's first retry, or 2^42 retries have each a part of the pass)
-                Err(_) => {
-                    *pass = Handle::unlimited()?;
-                    self.begin(policy, &mut pass, deadline)
-                }
-            }
-        };
-        match NOTHING.try_with(&mut own) {
-            Ok(begun) => begun,
-            // (the thread ends)
-            Err(_) => own(&RefCell::new(Handle::EMPTY)),
-        }
     }
 
     /// Begins this run, where one may begin, and ends it as it is reported; tells what it is at then, or says that it is
@@ -80,6 +54,13 @@ impl Handle<RetryKind> {
         debug_assert_eq!(status, OK);
         let told = self.poll(0, &[0; 4], NO_REPORT, 0, told);
         debug_assert!(told);
+    }
+
+    /// Gives its pass back to one of the same, and begins again with a new one that is split off that, and with this
+    /// deadline. Where it is refused, it stays as it is.
+    #[inline]
+    pub(crate) fn again(&mut self, pass: &mut Handle<PassKind>, deadline: u64) -> Result<(), Status> {
+        Status::of(unsafe { hikebox_retry_again(self.raw(), pass.raw(), deadline) })
     }
 
     /// Gives its pass back to one of the same: it holds nothing then.

@@ -2,6 +2,7 @@
 
 use crate::engine::{Handle, PassKind, Status};
 use crate::limits::error::LimitError;
+use crate::limits::lender::Lender;
 use crate::limits::part::{Part, Root};
 use crate::limits::per_key::Counted;
 use crate::limits::slots::Slots;
@@ -42,9 +43,9 @@ struct Shared {
 
 struct Passes {
     /// The first pass, which others are split off and joined into.
-    root: Mutex<Handle<PassKind>>,
+    root: Mutex<Lender>,
     /// Those from which threads split the passes of their retries.
-    own: Slots<Handle<PassKind>>,
+    own: Slots<Lender>,
 }
 
 /// The right to draw tickets of a [`Budget`], for one thread at a time. A pass that is dropped adds its tickets to the
@@ -92,7 +93,7 @@ impl Budget {
     /// [`LimitError::Fixed`] if the budget was made by [`Budget::new`], or [`LimitError::LimitTooLarge`].
     pub fn raise(&self, to: u64) -> Result<u64, LimitError> {
         let mut root = self.lock();
-        let limit = root.raise(to).map_err(LimitError::of)?;
+        let limit = root.pass.raise(to).map_err(LimitError::of)?;
         self.shared.limit.store(limit, Ordering::Relaxed);
         Ok(limit)
     }
@@ -109,8 +110,8 @@ impl Budget {
     /// The number of tickets that were drawn by retries that have ended and by passes that were dropped.
     #[must_use]
     pub fn granted(&self) -> u64 {
-        let root = self.lock().count();
-        root + self.passes().own.sum(Handle::<PassKind>::count)
+        let root = self.lock().pass.count();
+        root + self.passes().own.sum(|lender| lender.pass.count())
     }
 
     /// Closes the budget if no other clone, no pass and no retry of it is alive, and returns the exact number of
@@ -126,21 +127,18 @@ impl Budget {
             // (in a forked child that drew none)
             None => return Ok(0),
         };
-        let mut root = root.into_inner().unwrap_or_else(PoisonError::into_inner);
-        own.into_values().for_each(|pass| root.join(pass));
+        let mut root = root.into_inner().unwrap_or_else(PoisonError::into_inner).into_pass();
+        own.into_values().for_each(|lender| root.join(lender.into_pass()));
         root.close().map_err(|_| Self::of(limit.into_inner(), rises, root))
     }
 
     /// Lends a pass to a call that begins or ends a retry: that of this thread, or the first one where another thread uses
     /// that, or it has no part to give.
     #[inline]
-    pub(crate) fn with_own(
-        &self,
-        mut call: impl FnMut(&mut Handle<PassKind>) -> Result<(), Status>,
-    ) -> Result<(), Status> {
-        let own = |slot: &mut Option<Handle<PassKind>>| match slot {
-            Some(pass) => call(pass),
-            None => call(slot.insert(self.lock().split()?)),
+    pub(crate) fn with_own<T>(&self, mut call: impl FnMut(&mut Lender) -> Result<T, Status>) -> Result<T, Status> {
+        let own = |slot: &mut Option<Lender>| match slot {
+            Some(lender) => call(lender),
+            None => call(slot.insert(Lender::of(self.lock().pass.split()?))),
         };
         match self.passes().own.own(own) {
             Some(Err(Status::TooManyPasses)) | None => call(&mut self.lock()),
@@ -148,7 +146,7 @@ impl Budget {
         }
     }
 
-    fn lock(&self) -> MutexGuard<'_, Handle<PassKind>> {
+    fn lock(&self) -> MutexGuard<'_, Lender> {
         self.passes().root.lock().unwrap_or_else(PoisonError::into_inner)
     }
 
@@ -173,13 +171,13 @@ impl Budget {
 
 impl Passes {
     fn of(root: Handle<PassKind>) -> Self {
-        Self { root: Mutex::new(root), own: Slots::default() }
+        Self { root: Mutex::new(Lender::of(root)), own: Slots::default() }
     }
 }
 
 impl Root for Budget {
     fn with<T>(&self, call: impl FnOnce(&mut Handle<PassKind>) -> T) -> T {
-        call(&mut self.lock())
+        call(&mut self.lock().pass)
     }
 }
 

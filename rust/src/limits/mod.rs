@@ -7,6 +7,7 @@ mod changes;
 mod counters;
 pub(crate) mod error;
 pub(crate) mod grants;
+pub(crate) mod lender;
 pub(crate) mod part;
 pub(crate) mod per_key;
 pub(crate) mod quota;

@@ -3,13 +3,15 @@
 use crate::clock::{whole_millis, Moment};
 #[cfg(feature = "leased")]
 use crate::engine::{quota_allows, MAX_NUMBER, MAX_TICKETS};
-use crate::engine::{Handle, PassKind, RetryKind, Status, Used};
+use crate::engine::{Handle, PassKind, Status, Used};
 use crate::limits::counters::{Counter, Counters};
 use crate::limits::error::LimitError;
+use crate::limits::lender::{Begun, Lender};
 use crate::limits::part::{Part, Root};
 use crate::limits::per_key::Counted;
 use crate::limits::ticket::{NoTicket, Ticket};
 use crate::limits::uses::{options_of_uses, Uses};
+use crate::policy::Policy;
 use crate::system::PerProcess;
 use std::fmt;
 use std::sync::atomic::{AtomicU64, Ordering};
@@ -70,7 +72,7 @@ pub(crate) struct AtomicTerms(AtomicU64);
 
 struct Passes {
     /// The first pass, which others are split off.
-    root: Mutex<Handle<PassKind>>,
+    root: Mutex<Lender>,
     /// Those by which threads count their requests.
     counters: Counters,
 }
@@ -275,7 +277,7 @@ impl Quota {
     pub fn set_terms(&self, reserve: u64, share: f64) -> Result<(), LimitError> {
         let share = thousandths(share)?;
         let mut root = self.lock();
-        root.set_terms(reserve, share).map_err(LimitError::of)?;
+        root.pass.set_terms(reserve, share).map_err(LimitError::of)?;
         self.shared.made.terms.set(reserve, share);
         Ok(())
     }
@@ -306,7 +308,7 @@ impl Quota {
 
     /// [`Quota::deposit_of`] at such a moment.
     pub fn deposit_of_at(&self, now: Duration, requests: u32) {
-        let counted = self.lock().deposit(whole_millis(now), requests);
+        let counted = self.lock().pass.deposit(whole_millis(now), requests);
         debug_assert!(counted);
     }
 
@@ -328,7 +330,7 @@ impl Quota {
             let ends = began.after(Duration::from_millis(first.saturating_add(period)));
             *counter = match counter.take() {
                 Some(counter) => Some(Counter { first, ends, ..counter }),
-                None => self.lock().split().ok().map(|pass| Counter { pass, first, ends }),
+                None => self.lock().pass.split().ok().map(|pass| Counter { pass, first, ends }),
             };
             counter.as_mut().map_or(false, |counter| counter.count(now, requests))
         });
@@ -346,14 +348,14 @@ impl Quota {
     /// [`Quota::seen`] at a moment of a host with a clock of its own.
     #[must_use]
     pub fn seen_at(&self, now: Duration) -> Usage {
-        usage(self.lock().seen(whole_millis(now)))
+        usage(self.lock().pass.seen(whole_millis(now)))
     }
 
     /// The number of tickets that were drawn, in all windows, by retries that have ended and by passes that were
     /// dropped, less those that came back.
     #[must_use]
     pub fn granted(&self) -> u64 {
-        self.lock().count()
+        self.lock().pass.count()
     }
 
     /// The quota's moment at `now`: the time since it was made.
@@ -381,26 +383,31 @@ impl Quota {
             // (in a forked child that drew none)
             None => return Ok(0),
         };
-        let mut root = root.into_inner().unwrap_or_else(PoisonError::into_inner);
+        let mut root = root.into_inner().unwrap_or_else(PoisonError::into_inner).into_pass();
         counters.into_passes().for_each(|pass| root.join(pass));
         root.close().map_err(|_| Self { uses, ..Self::of(root, made) })
     }
 
     /// Takes the pass of a retry back, which is over or dropped, and its latest ticket where that comes back.
-    pub(crate) fn end(&self, retry: &mut Handle<RetryKind>, returns_ticket: bool) {
+    pub(crate) fn end(&self, retry: &mut Begun, returns_ticket: bool) {
         let root = &mut *self.lock();
-        match if returns_ticket { root.split().ok() } else { None } {
+        match if returns_ticket { root.pass.split().ok() } else { None } {
             // (the latest ticket of a pass of its own is the retry's)
             Some(mut part) => {
-                retry.end(&mut part);
+                retry.handle.end(&mut part);
                 part.hand_back();
-                root.join(part);
+                root.pass.join(part);
             }
-            None => retry.end(root),
+            None => root.end(retry),
         }
     }
 
-    fn lock(&self) -> MutexGuard<'_, Handle<PassKind>> {
+    /// Begins a retry.
+    pub(crate) fn begin(&self, policy: &Policy, deadline: u64) -> Result<Begun, Status> {
+        self.lock().begin(policy, deadline)
+    }
+
+    fn lock(&self) -> MutexGuard<'_, Lender> {
         self.passes().root.lock().unwrap_or_else(PoisonError::into_inner)
     }
 
@@ -413,7 +420,7 @@ impl Quota {
 
 impl Root for Quota {
     fn with<T>(&self, call: impl FnOnce(&mut Handle<PassKind>) -> T) -> T {
-        call(&mut self.lock())
+        call(&mut self.lock().pass)
     }
 }
 
@@ -437,7 +444,7 @@ impl Made {
 
 impl Passes {
     fn of(root: Handle<PassKind>) -> Self {
-        Self { root: Mutex::new(root), counters: Counters::default() }
+        Self { root: Mutex::new(Lender::of(root)), counters: Counters::default() }
     }
 }
 

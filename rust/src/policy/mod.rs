@@ -207,6 +207,12 @@ impl Policy {
         }
     }
 
+    /// Whether it is a clone of the other, or that of it.
+    #[inline]
+    pub(crate) fn is(&self, other: &Self) -> bool {
+        Arc::ptr_eq(&self.shared, &other.shared)
+    }
+
     /// Lends the handle to one call.
     #[inline]
     pub(crate) fn with<T>(&self, call: impl FnOnce(&mut Handle<PolicyKind>) -> T) -> T {

@@ -1,10 +1,10 @@
 //! A retry as a machine that its host steps.
 
 use crate::clock::whole_millis;
-use crate::engine::{self, Handle, Next, RetryKind, Run, Status, MAX_NUMBER, NO_DEADLINE};
+use crate::engine::{self, Next, Run, Status, MAX_NUMBER, NO_DEADLINE};
 use crate::limits::error::LimitError;
 use crate::limits::grants::{Grants, Source, Tickets};
-use crate::limits::part::Root;
+use crate::limits::lender::{Begun, Lender};
 use crate::limits::ticket::{NoTicket, StoreFailure, Ticket};
 use crate::policy::Policy;
 use crate::random;
@@ -40,7 +40,7 @@ use std::time::Duration;
 #[derive(Debug)]
 pub struct Machine {
     /// Empty only before its retry is made and while it is dropped.
-    handle: Handle<RetryKind>,
+    retry: Begun,
     source: Source,
     /// What was drawn of the source, where that is a store.
     drawn: Option<Box<Drawn>>,
@@ -174,19 +174,21 @@ impl Machine {
             Source::Store(_) => Some(Box::default()),
             _ => None,
         };
-        let (handle, generation) = (Handle::EMPTY, generation());
-        Self { handle, source, drawn, generation, deadline, told: NOTHING_TOLD, waits: false, won: false }
+        let (retry, generation) = (Begun::EMPTY, generation());
+        Self { retry, source, drawn, generation, deadline, told: NOTHING_TOLD, waits: false, won: false }
     }
 
     /// Makes the retry of a machine that has none.
     #[inline]
     fn make(&mut self, policy: &Policy) -> Result<(), Status> {
-        let Self { handle, source, deadline, .. } = self;
-        policy.with(|policy| match source {
-            Source::Budget(budget) => budget.with_own(|pass| handle.begin(policy, pass, *deadline)),
-            Source::Quota(quota) => quota.with(|root| handle.begin(policy, root, *deadline)),
-            Source::CallLimit(_) | Source::Store(_) | Source::Unlimited => handle.begin_on_nothing(policy, *deadline),
-        })
+        self.retry = match &self.source {
+            Source::Budget(budget) => budget.with_own(|lender| lender.begin(policy, self.deadline))?,
+            Source::Quota(quota) => quota.begin(policy, self.deadline)?,
+            Source::CallLimit(_) | Source::Store(_) | Source::Unlimited => {
+                Lender::begin_on_nothing(policy, self.deadline)?
+            }
+        };
+        Ok(())
     }
 
     /// Makes the retry of a machine that has none, whose first run was this.
@@ -223,8 +225,8 @@ impl Machine {
     #[inline]
     pub(crate) fn ran(&mut self, run: &Run) -> Result<(), Ending> {
         let told = match self.told.what {
-            engine::RUN => self.handle.poll(run.ended, &run.words, run.report, run.code, &mut self.told),
-            _ => self.handle.ran(run, &mut self.told),
+            engine::RUN => self.retry.handle.poll(run.ended, &run.words, run.report, run.code, &mut self.told),
+            _ => self.retry.handle.ran(run, &mut self.told),
         };
         debug_assert!(!told || self.told.left == self.left_at(run.ended));
         self.next()?;
@@ -303,7 +305,7 @@ impl Machine {
             Some(Report::Won(code)) => (engine::WON, code.min(MAX_NUMBER)),
             Some(Report::Lost(code)) => (engine::LOST, code.min(MAX_NUMBER)),
         };
-        let told = self.handle.poll(now, words, report, code, &mut self.told);
+        let told = self.retry.handle.poll(now, words, report, code, &mut self.told);
         debug_assert!(!told || self.told.left == self.left_at(now));
     }
 
@@ -348,16 +350,17 @@ impl Machine {
     }
 
     fn end(&mut self) {
-        let Self { handle, source, drawn, waits, won, .. } = self;
+        let Self { retry, source, drawn, waits, won, .. } = self;
         match source {
             Source::Budget(budget) => {
-                let ended = budget.with_own(|pass| {
-                    handle.end(pass);
+                let ended = budget.with_own(|lender| {
+                    lender.end(retry);
                     Ok(())
                 });
                 debug_assert_eq!(ended, Ok(()));
+                return;
             }
-            Source::Quota(quota) => quota.end(handle, *waits || (*won && quota.returns_tickets())),
+            Source::Quota(quota) => return quota.end(retry, *waits || (*won && quota.returns_tickets())),
             Source::Store(store) => {
                 if let (true, Some(drawn)) = (*waits, drawn) {
                     drawn.hand_back(&**store);
@@ -365,13 +368,14 @@ impl Machine {
             }
             Source::CallLimit(_) | Source::Unlimited => (),
         }
+        Lender::end_on_nothing(retry);
     }
 
     /// Ends the retry as cancelled, if it is not over. On a quota, the latest ticket goes back when the machine is
     /// dropped, if it was waiting.
     pub fn cancel(&mut self) {
-        if !self.handle.is_empty() {
-            self.handle.cancel(&mut self.told);
+        if !self.retry.handle.is_empty() {
+            self.retry.handle.cancel(&mut self.told);
         }
     }
 }
@@ -381,7 +385,7 @@ impl Drop for Machine {
     #[inline]
     fn drop(&mut self) {
         // (in a forked child its tickets are the parent's)
-        if !self.handle.is_empty() && is_generation(self.generation) {
+        if !self.retry.handle.is_empty() && is_generation(self.generation) {
             self.end();
         }
     }
