@@ -68,8 +68,7 @@ returns g c =
     }
 
 pub invariant_of-self : goal.invariant_of-self
-invariant_of-self g c =
-    (
-      unbegun g.D.Draws.grants c.args.self.now.driver.driver.plan c.args.deadline c.args.drawing,
-      (returns g c).stands,
-    )
+invariant_of-self g c = (
+  unbegun g.D.Draws.grants c.args.self.now.driver.driver.plan c.args.deadline c.args.drawing,
+  (returns g c).stands,
+)
