@@ -6,7 +6,7 @@ use std::cell::RefCell;
 use std::mem;
 
 /// A pass of which retries have parts, and one of them that is over: the next one by its policy takes its place, with no
-/// memory and no lock of the policy.
+/// memory and no lock of the policy. It is the first that ended, as long as anybody has its policy.
 #[derive(Debug)]
 pub(crate) struct Lender {
     pub(crate) pass: Handle<PassKind>,
@@ -31,6 +31,11 @@ impl Begun {
     fn is_by(&self, policy: &Policy) -> bool {
         self.policy.as_ref().map_or(false, |own| own.is(policy))
     }
+
+    /// Whether nobody else has its policy.
+    fn is_left(&self) -> bool {
+        self.policy.as_ref().map_or(false, Policy::is_last)
+    }
 }
 
 impl Lender {
@@ -54,6 +59,10 @@ impl Lender {
     #[inline]
     pub(crate) fn end(&mut self, retry: &mut Begun) {
         let Self { pass, over } = self;
+        if over.is_left() {
+            over.handle.end(pass);
+            over.policy = None;
+        }
         if over.handle.is_empty() && retry.handle.again(pass, NO_DEADLINE).is_ok() {
             mem::swap(over, retry);
         } else {
@@ -88,5 +97,32 @@ impl Lender {
     pub(crate) fn end_on_nothing(retry: &mut Begun) {
         // (where the thread ends, it is freed)
         let _ = NOTHING.try_with(|nothing| nothing.borrow_mut().end(retry));
+    }
+}
+
+#[cfg(test)]
+mod tests {
+    use super::Lender;
+    use crate::engine::{Handle, NO_DEADLINE};
+    use crate::policy::Policy;
+
+    #[test]
+    fn a_retry_that_is_over_is_kept_as_long_as_anybody_has_its_policy() {
+        let [first, second]: [Policy; 2] = [r#"{"recurs":1}"#, r#"{"recurs":2}"#].map(|json| json.parse().unwrap());
+        let mut lender = Lender::of(Handle::fixed(1).unwrap());
+        let mut goes_by = |policy: &Policy| {
+            let mut retry = lender.begin(policy, NO_DEADLINE).unwrap();
+            assert!(retry.is_by(policy));
+            lender.end(&mut retry);
+            (lender.over.is_by(&first.clone()), lender.over.is_by(policy), retry.handle.is_empty())
+        };
+        assert_eq!(goes_by(&first), (true, true, true));
+        assert_eq!(goes_by(&second), (true, false, true));
+        assert_eq!(goes_by(&first.clone()), (true, true, true));
+        drop(first);
+        let mut retry = lender.begin(&second, NO_DEADLINE).unwrap();
+        lender.end(&mut retry);
+        assert!(lender.over.is_by(&second));
+        assert_eq!(lender.into_pass().close(), Ok(0));
     }
 }

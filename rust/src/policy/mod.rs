@@ -213,6 +213,11 @@ impl Policy {
         Arc::ptr_eq(&self.shared, &other.shared)
     }
 
+    /// Whether it is the last of its clones.
+    pub(crate) fn is_last(&self) -> bool {
+        Arc::strong_count(&self.shared) == 1
+    }
+
     /// Lends the handle to one call.
     #[inline]
     pub(crate) fn with<T>(&self, call: impl FnOnce(&mut Handle<PolicyKind>) -> T) -> T {
