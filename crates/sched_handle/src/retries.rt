@@ -94,8 +94,8 @@ impl Held {
         }
     }
 
-    /// Ends the retry into a pass, and begins it again with a pass that is split off that one, and with this deadline or
-    /// none. One that is not over is cancelled first. It takes no memory.
+    /// Ends the retry into a pass, and begins it again with a pass that is split off that one, and with this deadline
+    /// or none. One that is not over is cancelled first. It takes no memory.
     #[inline(always)]
     pub fn again(&mut self, pass: &mut Held, deadline: Option<Moment>) -> Result<(), Status>
         requires one { DrawOnOne (drawing_of pass.old) (drawing_of self.old) }

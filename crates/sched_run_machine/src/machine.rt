@@ -84,8 +84,9 @@ impl<R: Drives, D: Draws> Machine<R, D, Retries> {
 }
 
 impl<D: Draws> Machine<Until<Stepper>, D> {
-    /// Begins again: it is then the machine of a retry that has not begun, of the same plan, with this deadline or none,
-    /// that draws by this value. What it drew by before comes out; one that is not over is cancelled. It takes no memory.
+    /// Begins again: it is then the machine of a retry that has not begun, of the same plan, with this deadline or
+    /// none, that draws by this value. What it drew by before comes out; one that is not over is cancelled. It takes no
+    /// memory.
     pub fn again(&mut self, deadline: Option<Moment>, drawing: D) -> D
         ensures { BeginsAgain D.grants deadline drawing self.old result self.new }
     {

@@ -19,8 +19,8 @@ kept grants m k did =
     (λ isnt. ap (λ (n : Machine (Until Standing) _). n.driver) (rw isnt at did).1)
 
 -- the one that has done nothing is among those that it may stand for
-stands : {D : Type 0} (grants : Grants D) (lawful : Lawful grants) (plan : Schedule) (deadline : Option ℕ) (drawing : D) →
-    grants.stands drawing → IsMachineOf (by_until by_stepper) (a_retry false) grants
+stands : {D : Type 0} (grants : Grants D) (lawful : Lawful grants) (plan : Schedule) (deadline : Option ℕ)
+    (drawing : D) → grants.stands drawing → IsMachineOf (by_until by_stepper) (a_retry false) grants
     (begins grants (unstepped_until plan deadline) drawing) (unbegun grants plan deadline drawing)
 stands grants lawful plan deadline drawing holds =
     stands_new (by_until by_stepper) (a_retry false) grants lawful (unstepped_until plan deadline) drawing holds
