@@ -1,7 +1,6 @@
 ghost use Rattle.std.specs.Prelude.{◌≡◌, []};
 
 use futures::task::{Context, Poll};
-use rand_core::Rng;
 use sched_driver::Driver;
 use sched_effect::{Code, Effect, Ran, Scripted};
 use sched_plan::{Plan, PlanFault};
@@ -9,10 +8,9 @@ use sched_retry::Repeat;
 use sched_task::{Clock, How, MidWords, Task, VirtualClock};
 use sched_time::{Millis, Moment, NoMemory};
 use sched_wheel::{LoopStop, WheelLoop};
-use std::alloc::{AllocGlobal, Global};
+use std::alloc::Global;
 use std::process::Abort;
-use std::random::RandomSource;
-use std::sync::Wait;
+use std::test::Fail;
 
 mod clocks;
 mod repeats;
@@ -49,45 +47,6 @@ fn repeat(rt: &impl Abort, alloc: Global, driver: Driver) -> Repeat<Scripted>
     let script = [one].to_vec(alloc).expect(rt, "there is memory");
     let effect = Scripted::new(script).expect(rt, "the script has an outcome");
     Repeat::new(alloc, effect, driver)
-}
-
-// Asserts what the loop answers where it may take so many turns.
-fn runs<R, T: Task, C: Clock, G: Rng>(
-    rt: &R,
-    tasks: &mut [T],
-    clock: &mut C,
-    rng: &mut G,
-    turns: u64,
-    answer: Result<u64, LoopStop>,
-)
-where
-    R: Wait + RandomSource + AllocGlobal + Abort,
-{
-    assert_eq!(rt; WheelLoop::run(rt, tasks, clock, rng, turns), answer);
-}
-
-// Asserts that a repeat by this driver, alone in the loop, is done after so many turns, with events at these moments.
-fn is_done<R, C: Clock, G: Rng>(
-    rt: &R,
-    driver: Driver,
-    clock: &mut C,
-    rng: &mut G,
-    turns: u64,
-    journal: &[u64],
-)
-where
-    R: Wait + RandomSource + AllocGlobal + Abort,
-    requires { driver.journal ≡ [] }
-{
-    let mut tasks = [repeat(rt, rt.alloc(), driver)];
-    runs(rt, &mut tasks, clock, rng, 1000, Ok(turns));
-    assert_done(rt, &tasks[0], journal);
-}
-
-// Asserts that its schedule is done, with events at these moments.
-fn assert_done(rt: &impl Abort, repeat: &Repeat<Scripted>, journal: &[u64]) {
-    assert_eq!(rt; repeat.over(), Some(How::ScheduleDone));
-    assert_journal(rt, repeat, journal);
 }
 
 // The moments of the journal's events.
