@@ -4,7 +4,6 @@ ghost use Rattle.std.specs.Prelude.{◌≡◌, [], IfSome};
 ghost use Rattle.sched_ticket.specs.Held.{IsOf};
 ghost use Rattle.sched_task_law.specs.Past.{nothing_yet};
 
-use crate::arguments::{number, short_number};
 use futures::task::{Context, Poll};
 use sched_driver::Driver;
 use sched_effect::{Code, Effect, Ran};
@@ -17,12 +16,12 @@ use sched_ticket::{Budget, Naming, Pass};
 use sched_ticket_draws::OnBudget;
 use sched_time::{Millis, Moment, NoMemory};
 use std::alloc::{AllocGlobal, Global};
-use std::io;
 use std::marker::Brand;
 use std::random::RandomSource;
 use std::rt::Runtime;
 use std::sync::Wait;
 use std::thread::Threads;
+use std::{env, io};
 
 const JOBS: u64 = 64;
 
@@ -67,12 +66,19 @@ fn compute() -> u32 {
     word
 }
 
-pub fn bench<R>(rt: &R, words: &[String]) -> io::Result<()>
+pub fn bench<R>(rt: &R) -> io::Result<()>
 where
     R: Runtime + Threads + Wait + RandomSource + AllocGlobal + Sync,
 {
-    let workers = number(words, 2, 1) as usize;
-    let runs = short_number(words, 3, 10);
+    let mut numbers = env::args(rt)?.skip(2);
+    let workers = numbers
+        .next()
+        .and_then(|word| word.as_str().parse().ok())
+        .unwrap_or(1);
+    let runs = numbers
+        .next()
+        .and_then(|word| word.as_str().parse().ok())
+        .unwrap_or(10);
     match granted(rt, workers, runs) {
         Some(granted) => println!(rt; "{granted} retries"),
         None => println!(rt; "not run"),

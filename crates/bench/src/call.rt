@@ -6,15 +6,14 @@
 ghost use Rattle.std.specs.Prelude.{◌≡◌, [], IfOk};
 ghost use Rattle.sched_driver_stepper.specs.Standing.{standing_after};
 
-use crate::arguments::{number, word};
 use sched_run::{
     Budget, Draws, Machine, MidWords, Millis, Moment, NoMemory, OnBudget, OnQuota, Plan, Quiet,
     Quota, SharedPlan, Stepper, Terms, Unlimited, VirtualClock, retry_call,
 };
 use std::alloc::{AllocGlobal, Global};
-use std::io;
 use std::rt::Runtime;
 use std::sync::Wait;
+use std::{env, io};
 
 /// What is done again and again.
 #[derive(Clone, Copy, PartialEq, Eq, Drop)]
@@ -29,15 +28,23 @@ enum What {
     Refused,
 }
 
-pub fn bench<R: Runtime + Wait + AllocGlobal>(rt: &R, words: &[String]) -> io::Result<()> {
-    let what = match word(words, 2) {
-        Some("call") => What::Call,
-        Some("success") => What::Success,
-        Some("refused") => What::Refused,
+pub fn bench<R: Runtime + Wait + AllocGlobal>(rt: &R) -> io::Result<()> {
+    let mut words = env::args(rt)?.skip(2);
+    let what = match words.next() {
+        Some(word) if word.as_str() == "call" => What::Call,
+        Some(word) if word.as_str() == "success" => What::Success,
+        Some(word) if word.as_str() == "refused" => What::Refused,
         _ => What::Granted,
     };
-    let on = word(words, 3).unwrap_or("budget");
-    let calls = number(words, 4, 1000);
+    let on = words.next();
+    let on = match &on {
+        Some(word) => word.as_str(),
+        None => "budget",
+    };
+    let calls = words
+        .next()
+        .and_then(|word| word.as_str().parse().ok())
+        .unwrap_or(1000);
     match counted(rt, what, on, calls) {
         Some(count) => println!(rt; "{count} of {calls} on {on}"),
         None => println!(rt; "no memory"),
@@ -53,41 +60,23 @@ fn counted<R: Wait + AllocGlobal>(rt: &R, what: What, on: &str, calls: u64) -> O
     let plan = SharedPlan::new(alloc, Plan::forever().ok()?).ok()?;
     let limit = if what == What::Refused { 0 } else { 4294967296 };
     match on {
-        "budget" => on_budget(rt, what, &plan, limit, calls),
-        "quota" => on_quota(rt, what, &plan, limit, calls),
+        "budget" => {
+            let (budget, pass) = Budget::by_parts(alloc, limit).ok()?;
+            let pass = OnBudget::new(pass, &budget);
+            Some(calls_by(rt, what, &plan, pass, calls))
+        }
+        "quota" => {
+            let terms = Terms {
+                reserve: limit,
+                share: 0,
+                period: Millis::from(1000),
+            };
+            let (quota, pass) = Quota::new(alloc, Moment::new(0)?, terms).ok()?;
+            let pass = OnQuota::new(pass, &quota);
+            Some(calls_by(rt, what, &plan, pass, calls))
+        }
         _ => Some(calls_by(rt, what, &plan, Unlimited::new(), calls)),
     }
-}
-
-// The same on a budget of so many tickets.
-fn on_budget<R: Wait + AllocGlobal>(
-    rt: &R,
-    what: What,
-    plan: &SharedPlan,
-    limit: u64,
-    calls: u64,
-) -> Option<u64> {
-    let (budget, pass) = Budget::by_parts(rt.alloc(), limit).ok()?;
-    let pass = OnBudget::new(pass, &budget);
-    Some(calls_by(rt, what, plan, pass, calls))
-}
-
-// The same on a quota with this reserve.
-fn on_quota<R: Wait + AllocGlobal>(
-    rt: &R,
-    what: What,
-    plan: &SharedPlan,
-    reserve: u64,
-    calls: u64,
-) -> Option<u64> {
-    let terms = Terms {
-        reserve,
-        share: 0,
-        period: Millis::from(1000),
-    };
-    let (quota, pass) = Quota::new(rt.alloc(), Moment::new(0)?, terms).ok()?;
-    let pass = OnQuota::new(pass, &quota);
-    Some(calls_by(rt, what, plan, pass, calls))
 }
 
 // The closure alone, so often; it answers the sum of what it gave.

@@ -4,23 +4,30 @@
 ghost use Rattle.std.specs.Prelude.{◌≡◌, ◌*◌, ◌≤◌, false, All, IfOk, IfSome};
 ghost use Rattle.sched_ticket.specs.Held.{IsOf};
 
-use crate::arguments::number;
 use sched_ticket::{Budget, Pass, TicketFault};
 use std::alloc::{AllocError, AllocGlobal, Global};
-use std::io;
 use std::rt::Runtime;
 use std::thread::{Threads, map_vec};
+use std::{env, io};
 
-pub fn bench<R: Runtime + Threads + AllocGlobal + Sync>(
-    rt: &R,
-    words: &[String],
-) -> io::Result<()> {
-    let threads = number(words, 2, 2);
-    let draws = number(words, 3, 1000);
-    let kind = Kind {
-        rises: is_said(words, "rising"),
-        by_parts: is_said(words, "parts"),
+pub fn bench<R: Runtime + Threads + AllocGlobal + Sync>(rt: &R) -> io::Result<()> {
+    let mut words = env::args(rt)?.skip(2);
+    let threads = words
+        .next()
+        .and_then(|word| word.as_str().parse().ok())
+        .unwrap_or(2);
+    let draws = words
+        .next()
+        .and_then(|word| word.as_str().parse().ok())
+        .unwrap_or(1000);
+    let mut kind = Kind {
+        rises: false,
+        by_parts: false,
     };
+    for word in words {
+        kind.rises |= word.as_str() == "rising";
+        kind.by_parts |= word.as_str() == "parts";
+    }
     let count = if threads == 1 {
         draw_alone(rt.alloc(), kind, draws)
     } else {
@@ -31,15 +38,6 @@ pub fn bench<R: Runtime + Threads + AllocGlobal + Sync>(
         Ok(None) => println!(rt; "a pass is missing"),
         Err(fault) => println!(rt; "{fault:?}"),
     }
-}
-
-// Whether this word stands behind the numbers.
-fn is_said(words: &[String], what: &str) -> bool {
-    let mut is_said = false;
-    for word in words.iter().skip(4) {
-        is_said |= word.as_str() == what;
-    }
-    is_said
 }
 
 /// Whether a budget's limit may rise, and whether it goes by parts.

@@ -9,7 +9,6 @@ use std::sync::Wait;
 use std::thread::Threads;
 use std::{env, io};
 
-mod arguments;
 mod board;
 mod call;
 mod draw;
@@ -20,40 +19,39 @@ mod steps;
 mod tasks;
 
 fn main(rt: HostRuntime) -> io::Result<()> {
-    let words: Vec<String> = env::args(&rt)?.collect(rt.alloc())?;
-    match arguments::word(&words, 1) {
-        Some(what) => bench(&rt, what, &words),
-        None => bench_all(&rt, &words),
+    match env::args(&rt)?.nth(1) {
+        Some(what) => bench(&rt, what.as_str()),
+        None => bench_all(&rt),
     }
 }
 
-fn bench<R>(rt: &R, what: &str, words: &[String]) -> io::Result<()>
+fn bench<R>(rt: &R, what: &str) -> io::Result<()>
 where
     R: Runtime + Threads + Wait + RandomSource + AllocGlobal + Sync,
 {
     match what {
-        "draw" => draw::bench(rt, words),
-        "quota" => quota::bench(rt, words),
-        "limit" => limit::bench(rt, words),
-        "steps" => steps::bench(rt, words),
-        "call" => call::bench(rt, words),
-        "retry" => retry::bench(rt, words),
-        "tasks" => tasks::bench(rt, words),
-        "board" => board::bench(rt, words),
+        "draw" => draw::bench(rt),
+        "quota" => quota::bench(rt),
+        "limit" => limit::bench(rt),
+        "steps" => steps::bench(rt),
+        "call" => call::bench(rt),
+        "retry" => retry::bench(rt),
+        "tasks" => tasks::bench(rt),
+        "board" => board::bench(rt),
         _ => println!(rt; "{what}: no benchmark"),
     }
 }
 
-fn bench_all<R>(rt: &R, words: &[String]) -> io::Result<()>
+fn bench_all<R>(rt: &R) -> io::Result<()>
 where
     R: Runtime + Threads + Wait + RandomSource + AllocGlobal + Sync,
 {
-    draw::bench(rt, words)?;
-    quota::bench(rt, words)?;
-    limit::bench(rt, words)?;
-    steps::bench(rt, words)?;
-    call::bench(rt, words)?;
-    retry::bench(rt, words)?;
-    tasks::bench(rt, words)?;
-    board::bench(rt, words)
+    draw::bench(rt)?;
+    quota::bench(rt)?;
+    limit::bench(rt)?;
+    steps::bench(rt)?;
+    call::bench(rt)?;
+    retry::bench(rt)?;
+    tasks::bench(rt)?;
+    board::bench(rt)
 }

@@ -4,7 +4,6 @@
 //! or `wait`, a thousand polls of a retry that waits. PLAN is `pair` or `spaced`. It prints a count.
 ghost use Rattle.std.specs.Prelude.{◌≡◌, [], IfSome};
 
-use crate::arguments::{number, word};
 use futures::task::{Context, Doorbell, Poll, Queue};
 use sched_driver::Driver;
 use sched_plan::{Plan, PlanFault, Val};
@@ -12,43 +11,46 @@ use sched_run::{Draws, OnBudget, Ran, Retry, Scripted, Task};
 use sched_ticket::Budget;
 use sched_time::{FAR, Millis, Moment, Tick};
 use std::alloc::{AllocGlobal, Global};
-use std::io;
 use std::random::RandomSource;
 use std::rt::Runtime;
 use std::sync::Wait;
+use std::{env, io};
 
 // How many polls or steps a round has.
 const ROUND: u64 = 1000;
 
-pub fn bench<R: Runtime + RandomSource + Wait + AllocGlobal>(
-    rt: &R,
-    words: &[String],
-) -> io::Result<()> {
-    let what = word(words, 2).unwrap_or("retry");
-    let plan = word(words, 3).unwrap_or("pair");
-    let rounds = number(words, 4, 1);
-    match counted(rt, what, plan, rounds) {
+pub fn bench<R: Runtime + RandomSource + Wait + AllocGlobal>(rt: &R) -> io::Result<()> {
+    let mut words = env::args(rt)?.skip(2);
+    let what = words.next();
+    let what = match &what {
+        Some(word) => word.as_str(),
+        None => "retry",
+    };
+    let plan = words.next();
+    let plan = match &plan {
+        Some(word) => word.as_str(),
+        None => "pair",
+    };
+    let rounds = words
+        .next()
+        .and_then(|word| word.as_str().parse().ok())
+        .unwrap_or(1);
+    let Some(queue) = queue_of_one(rt) else {
+        return println!(rt; "no memory");
+    };
+    let Some(mut cx) = queue.next(rt) else {
+        return println!(rt; "no memory");
+    };
+    let count = run(rt.alloc(), what, plan, rounds, &mut cx);
+    cx.cancel();
+    match count {
         Some(count) => println!(rt; "{what} of {plan}: {count} in {rounds} rounds"),
         None => println!(rt; "no memory"),
     }
 }
 
-// What so many rounds count, polled by the context of one task.
-fn counted<R: RandomSource + Wait + AllocGlobal>(
-    rt: &R,
-    what: &str,
-    plan: &str,
-    rounds: u64,
-) -> Option<u64> {
-    let queue = queue_of_one(rt)?;
-    let mut cx = queue.next(rt)?;
-    let count = run(rt.alloc(), what, plan, rounds, &mut cx);
-    cx.cancel();
-    count
-}
-
 // A queue with one task, by whose context all is polled.
-fn queue_of_one<R: RandomSource + AllocGlobal>(rt: &R) -> Option<Queue> {
+fn queue_of_one<R: Runtime + RandomSource + AllocGlobal>(rt: &R) -> Option<Queue> {
     let queue = Queue::new(rt, Doorbell::spinning()).ok()?;
     queue.add().ok()?.schedule();
     Some(queue)

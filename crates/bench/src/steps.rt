@@ -3,37 +3,40 @@
 //! which keeps a journal, and with `stepper` one that keeps none. It prints where the run ended.
 ghost use Rattle.std.specs.Prelude.{ℕ, ◌≤◌, IfOk};
 
-use crate::arguments::{number, word};
 use sched_driver::Driver;
 use sched_driver_stepper::Stepper;
 use sched_plan::{Fold, Plan, PlanFault, Val};
 use sched_step::initial;
 use sched_time::{FAR, Moment, NoMemory, Tick};
 use std::alloc::{AllocGlobal, Global};
-use std::io;
 use std::rt::Runtime;
+use std::{env, io};
 
 // How many events a journal holds.
 const JOURNAL: u64 = 65536;
 
-pub fn bench<R: Runtime + AllocGlobal>(rt: &R, words: &[String]) -> io::Result<()> {
-    let name = word(words, 2).unwrap_or("pair");
-    let events = number(words, 3, 1000);
+pub fn bench<R: Runtime + AllocGlobal>(rt: &R) -> io::Result<()> {
+    let mut words = env::args(rt)?.skip(2);
+    let name = words.next();
+    let name = match &name {
+        Some(name) => name.as_str(),
+        None => "pair",
+    };
+    let events = words
+        .next()
+        .and_then(|word| word.as_str().parse().ok())
+        .unwrap_or(1000);
     let Ok(plan) = plan_named(rt.alloc(), name) else {
         return println!(rt; "no plan");
     };
-    match ended(rt.alloc(), &plan, events, word(words, 4)) {
+    let ended = match &words.next() {
+        Some(by) if by.as_str() == "stepper" => stepped_of(rt.alloc(), &plan, events),
+        Some(_) => driven_of(rt.alloc(), &plan, events),
+        None => run_of(rt.alloc(), &plan, events),
+    };
+    match ended {
         Ok(now) => println!(rt; "{name}: {events} events, at {now}", now = now.get()),
         Err(_) => println!(rt; "no memory"),
-    }
-}
-
-// Where so many events end by what steps them.
-fn ended(alloc: Global, plan: &Plan, events: u64, by: Option<&str>) -> Result<Moment, NoMemory> {
-    match by {
-        Some("stepper") => stepped_of(alloc, plan, events),
-        Some(_) => driven_of(alloc, plan, events),
-        None => run_of(alloc, plan, events),
     }
 }
 

@@ -2,16 +2,15 @@
 //!
 //! Each task waits for as many milliseconds as there are tasks, and each for moments of its own, so one poll and one
 //! wait take turns, whatever the number of tasks. It prints where the clock stood in the end.
-use crate::arguments::{number, short_number};
 use futures::task::{Context, Poll};
 use sched_task::{Clock, How, MidWords, Task, VirtualClock};
 use sched_time::{Millis, Moment, Tick};
 use sched_wheel::WheelLoop;
 use std::alloc::{AllocGlobal, Global};
-use std::io;
 use std::random::RandomSource;
 use std::rt::Runtime;
 use std::sync::Wait;
+use std::{env, io};
 
 // Waits as long after each poll, and is never over unless it is cancelled.
 #[derive(Drop)]
@@ -61,12 +60,16 @@ impl Task for Ticker {
     }
 }
 
-pub fn bench<R: Runtime + RandomSource + Wait + AllocGlobal>(
-    rt: &R,
-    words: &[String],
-) -> io::Result<()> {
-    let count = short_number(words, 2, 10);
-    let turns = number(words, 3, 1000);
+pub fn bench<R: Runtime + RandomSource + Wait + AllocGlobal>(rt: &R) -> io::Result<()> {
+    let mut numbers = env::args(rt)?.skip(2);
+    let count = numbers
+        .next()
+        .and_then(|word| word.as_str().parse().ok())
+        .unwrap_or(10);
+    let turns = numbers
+        .next()
+        .and_then(|word| word.as_str().parse().ok())
+        .unwrap_or(1000);
     let Some(mut tasks) = tickers(rt.alloc(), count) else {
         return println!(rt; "no tasks");
     };
