@@ -1,5 +1,5 @@
-//! Tests of `sched_pool_worker` and `sched_pool_claim` by their public calls alone. They stand apart so that they are
-//! proved without a second proof of those libraries.
+//! Tests of `sched_pool_worker` by its public calls alone. They stand apart so that they are proved without a second
+//! proof of that library.
 #![tactic(auto)]
 
 #[cfg(test)]

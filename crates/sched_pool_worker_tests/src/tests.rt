@@ -1,7 +1,6 @@
 //! One worker with the jobs of its share, played step by step.
 use sched_pool_worker::{Finish, Gate, OpenGate, Station, Worked, work_through};
 
-mod claims;
 mod gates;
 mod jobs;
 mod plays;
