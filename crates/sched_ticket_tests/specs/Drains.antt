@@ -1,8 +1,8 @@
 -- When a budget is not drained by many threads.
 use Rattle.std.specs.Prelude.{ℕ, ◌<◌, ◌≤◌}
 use Rattle.sched_ticket.specs.declared.fault.TicketFault.TheVariants.{LimitTooLarge, NoMemory, TooManyPasses, Fixed}
-use Rattle.sched_ticket_tests.specs.declared.fault.DrainFault.{DrainFault}
-use Rattle.sched_ticket_tests.specs.declared.fault.DrainFault.TheVariants.{Refused, PassesOut}
+use Rattle.sched_ticket_tests.specs.declared.workers.DrainFault.{DrainFault}
+use Rattle.sched_ticket_tests.specs.declared.workers.DrainFault.TheVariants.{Refused, PassesOut}
 
 -- the limit is too large, or it is not and something else was refused
 abbrev pub RefusesDrain : ℕ → DrainFault → Type 0

@@ -1,12 +1,8 @@
-//! Tests of `sched_ticket` and `sched_ticket_draws` by their public calls alone, and examples of the theorem of
-//! budgets. They stand apart so that they are proved without a second proof of those libraries. The examples are read
-//! with the tests alone, and so proved once.
+//! Tests of `sched_ticket` by its public calls alone, and examples of its theorem. They stand apart so that they are
+//! proved without a second proof of that library.
 #![tactic(auto)]
 
-pub mod fault;
-#[cfg(test)]
-mod locked;
+pub mod locked;
 #[cfg(test)]
 mod tests;
-#[cfg(test)]
-mod workers;
+pub mod workers;

@@ -5,7 +5,6 @@ ghost use Rattle.sched_ticket.specs.Held.{IsOf};
 use sched_ticket::{Budget, Pass, PassesOut, TicketFault};
 use std::process::Abort;
 
-mod draws;
 mod passes;
 mod threads;
 mod worked;

@@ -4,7 +4,6 @@ ghost use Rattle.sched_ticket.specs.Lists.{total, times, once_below, IsSame};
 ghost use Rattle.sched_ticket.specs.Held.{IsOf};
 ghost use Rattle.sched_ticket_tests.specs.Drains.{RefusesDrain, IsSplitFault};
 
-use crate::fault::DrainFault;
 use sched_ticket::{Budget, Pass, TicketFault};
 use std::alloc::{AllocError, Global};
 use std::thread::{Threads, map_vec};
@@ -18,9 +17,18 @@ pub struct Drained {
     pub drawn: Vec<Vec<u64>>,
 }
 
+/// Why a budget was not drained.
+#[derive(Clone, Copy, Debug, PartialEq, Eq, Drop)]
+pub enum DrainFault {
+    /// A budget was not made or a pass not split, or memory was refused.
+    Refused(TicketFault),
+    /// A pass is missing. No clause rules it out, and no run meets it.
+    PassesOut,
+}
+
 impl From<TicketFault> for DrainFault {
     ghost use Rattle.std.specs.Prelude.{◌≡◌};
-    ghost use Rattle.sched_ticket_tests.specs.declared.fault.DrainFault.TheVariants.{Refused};
+    ghost use Rattle.sched_ticket_tests.specs.declared.workers.DrainFault.TheVariants.{Refused};
 
     ghost from_gives = { λ fault e. e ≡ Refused fault };
 
@@ -31,7 +39,7 @@ impl From<TicketFault> for DrainFault {
 
 impl From<AllocError> for DrainFault {
     ghost use Rattle.std.specs.Prelude.{◌≡◌};
-    ghost use Rattle.sched_ticket_tests.specs.declared.fault.DrainFault.TheVariants.{Refused};
+    ghost use Rattle.sched_ticket_tests.specs.declared.workers.DrainFault.TheVariants.{Refused};
     ghost use Rattle.sched_ticket.specs.declared.fault.TicketFault.TheVariants.{NoMemory};
 
     ghost from_gives = { λ _ e. e ≡ Refused NoMemory };

@@ -7,6 +7,7 @@ use sched_ticket_quota::{Quota, Terms};
 use sched_time::{Millis, Moment};
 use std::process::Abort;
 use std::sync::Arc;
+use std::test::Fail;
 
 fn at(millis: u64) -> Moment
     requires { millis ≤ 4611686018427387903 }
@@ -28,50 +29,50 @@ fn thrice<D: Draws>(rt: &impl Abort, drawing: &mut D, now: Moment, want: [bool; 
 }
 
 #[test]
-fn a_fixed_budget(rt: HostRuntime) {
-    let (budget, pass) = Budget::new(rt.alloc(), 2).expect(&rt, "the limit is in range");
+fn a_fixed_budget(rt: HostRuntime) -> Result<(), Fail> {
+    let (budget, pass) = Budget::new(rt.alloc(), 2)?;
     let mut drawing = OnBudget::new(pass, &budget);
     thrice(&rt, &mut drawing, at(0), [true, true, false], 2);
     let (pass, _) = drawing.into_parts();
     assert_eq!(rt; budget.close(pass).ok(), Some(2));
+    Ok(())
 }
 
 // A pass that is put back keeps its tickets.
 #[test]
-fn a_rising_budget_by_an_arc(rt: HostRuntime) {
-    let (budget, pass) = Budget::rising(rt.alloc(), 2).expect(&rt, "the limit is in range");
-    let budget = Arc::new(rt.alloc(), budget).expect(&rt, "there is memory");
-    let other = Arc::try_clone(&budget).expect(&rt, "there is a count left");
-    let mut drawing = OnBudget::new(pass, other);
+fn a_rising_budget_by_an_arc(rt: HostRuntime) -> Result<(), Fail> {
+    let (budget, pass) = Budget::rising(rt.alloc(), 2)?;
+    let budget = Arc::new(rt.alloc(), budget)?;
+    let mut drawing = OnBudget::new(pass, Arc::try_clone(&budget)?);
     assert!(rt; drawing.draw(at(5)));
     let (mut pass, budget) = drawing.into_parts();
-    assert_eq!(rt; pass.raise(&budget, 3), Ok(3));
+    assert_eq!(rt; pass.raise(&budget, 3)?, 3);
     let mut drawing = OnBudget::new(pass, budget);
     assert_eq!(rt; drawing.granted(), 1);
     thrice(&rt, &mut drawing, at(5), [true, true, false], 3);
+    Ok(())
 }
 
 // By parts what was refused is drawn once the limit is raised, by the same value.
 #[test]
-fn a_rising_budget_by_parts(rt: HostRuntime) {
-    let made = Budget::rising_by_parts(rt.alloc(), 1);
-    let (budget, mut pass) = made.expect(&rt, "the limit is in range");
-    let part = pass.split(&budget).expect(&rt, "passes are left");
-    let mut drawing = OnBudget::new(part, &budget);
+fn a_rising_budget_by_parts(rt: HostRuntime) -> Result<(), Fail> {
+    let (budget, mut pass) = Budget::rising_by_parts(rt.alloc(), 1)?;
+    let mut drawing = OnBudget::new(pass.split(&budget)?, &budget);
     thrice(&rt, &mut drawing, at(0), [true, false, false], 1);
-    assert_eq!(rt; pass.raise(&budget, 3), Ok(3));
+    assert_eq!(rt; pass.raise(&budget, 3)?, 3);
     thrice(&rt, &mut drawing, at(0), [true, true, false], 3);
+    Ok(())
 }
 
 // A reserve of one ticket a window, and half a ticket for each request.
 #[test]
-fn a_quota(rt: HostRuntime) {
+fn a_quota(rt: HostRuntime) -> Result<(), Fail> {
     let terms = Terms {
         reserve: 1,
         share: 500,
         period: Millis::from(1000),
     };
-    let (quota, pass) = Quota::new(rt.alloc(), at(0), terms).expect(&rt, "the terms are in range");
+    let (quota, pass) = Quota::new(rt.alloc(), at(0), terms)?;
     let mut drawing = OnQuota::new(pass, &quota);
     thrice(&rt, &mut drawing, at(0), [true, false, false], 1);
     drawing.deposit(at(1));
@@ -80,6 +81,7 @@ fn a_quota(rt: HostRuntime) {
     thrice(&rt, &mut drawing, at(1000), [true, false, false], 3);
     let (pass, _) = drawing.into_parts();
     assert_eq!(rt; quota.close(pass).ok(), Some(3));
+    Ok(())
 }
 
 #[test]
