@@ -108,7 +108,7 @@ changes() {
   makes_old '' touch crates/sched_task/src/tests.rt
   makes_old '' append crates/sched_driver_tests/src/lib.rt
   makes_old '' append crates/zsched/stdout
-  makes_old '' touch crates/sched_time/must-fail/new.edit
+  makes_old '' touch crates/sched_plan/must-fail/new.edit
   makes_old '' append README.md
   makes_old '' append docs/C.md
   makes_old '' append python/tests/test_cli.py
