@@ -252,10 +252,10 @@ without_kit() {
   wants 1 '' '' bin/build --is-built zsched
 }
 
-# A crate, and those that stand on it, are proved by `rt ci`, and the last line is that of rt.
+# A crate, and those that stand on it, are proved, tested and edited in turn, and the last line counts them.
 with_kit() {
   local few=$work/few
-  mkdir -p "$few/bin" "$few/dist"
+  mkdir -p "$few"/{bin,dist,crates/{low,side,middle,middle_tests,program}}
   cp bin/check bin/crates bin/digest bin/kit "$few/bin"
   printf '#!/bin/sh\nexit 0\n' >"$few/bin/edits"
   chmod +x "$few/bin/edits"
@@ -267,26 +267,31 @@ with_kit() {
   wants 0 $'side\nmiddle\nmiddle_tests\nprogram' '' "$few/bin/crates" above side middle
   export HIKEBOX_RT=$work/rt
   # shellcheck disable=SC2016
-  printf '#!/bin/sh\necho "$*" >>%s\necho "rt: ok"\necho "$LINE"\n[ "$LINE" = "9 passed, 0 failed" ]\n' "$work/asked" >"$HIKEBOX_RT"
+  printf '#!/bin/sh\nwords="${PWD##*/} $*"\necho "$words" >>%s\n[ "$words" != "$REFUSED" ]\n' "$work/asked" >"$HIKEBOX_RT"
   chmod +x "$HIKEBOX_RT"
-  asks 'ci middle middle_tests program' middle
-  asks 'ci middle side' middle side --alone
+  asks '' 'few must-fail middle middle_tests program' '3 passed, 0 failed' middle
+  asks 'middle_tests test' 'few must-fail middle middle_tests program' '2 passed, 1 failed' middle
+  asks '' 'few must-fail middle side' '2 passed, 0 failed' middle side --alone
+  asks 'side check' 'few must-fail middle side' '1 passed, 1 failed' middle side --alone
+  asks 'few must-fail side' 'few must-fail side' '1 passed, 1 failed' side --alone
   wants 2 '' 'bin/crates: crates.txt has no crate none' "$few/bin/check" none --alone
 }
 
-# asks WORDS WORD..: bin/check WORD.. hands WORDS to rt, and ends as rt does
+# asks REFUSED EDITS LINE WORD..: bin/check WORD.. has rt check and test each crate that EDITS names, and then try their
+# edits. Where rt refuses REFUSED, LINE is the last line all the same.
 asks() {
-  local line status
-  for line in '9 passed, 0 failed' '8 passed, 1 failed'; do
-    : >"$work/asked"
-    status=0
-    LINE=$line "$few/bin/check" "${@:2}" >"$work/out" 2>&1 </dev/null || status=$?
-    tried=$((tried + 1))
-    [ "$(tail -n 1 "$work/out")" = "$line" ] && [ "$status" = "${line:10:1}" ] && [ "$(cat "$work/asked")" = "$1" ] || {
-      echo "tests/commands.sh: bin/check ${*:2}: status $status, asked for $(cat "$work/asked"): $(cat "$work/out")" >&2
-      failed=1
-    }
+  local name status=0 asked=
+  for name in ${2#few must-fail }; do
+    asked+="$name check"$'\n'
+    [ "$1" = "$name check" ] || asked+="$name test"$'\n'
   done
+  : >"$work/asked"
+  REFUSED=$1 "$few/bin/check" "${@:4}" >"$work/out" 2>&1 </dev/null || status=$?
+  tried=$((tried + 1))
+  [ "$(tail -n 1 "$work/out")" = "$3" ] && [ "$status" = "$((${#1} > 0))" ] && [ "$(cat "$work/asked")" = "$asked$2" ] || {
+    echo "tests/commands.sh: bin/check ${*:4}: status $status, asked for $(cat "$work/asked"): $(cat "$work/out")" >&2
+    failed=1
+  }
 }
 
 # bin/check adds up what passed in `rt ci`, in its ledger of wrong bodies, in the comparison of dist/ and in bin/test, here by
@@ -300,6 +305,8 @@ counts() {
   printf '#!/bin/sh\nexit 0\n' | tee "$checks/bin/build" >"$checks/bin/spent"
   printf '#!/bin/sh\n[ "$1" != --judge ] || exit "$JUDGED"\n' >"$checks/bin/edits"
   printf '#!/bin/sh\n[ "$1" = --strict ] || exit 0\necho "$TESTED"\n[ "$TESTED" = "3 passed, 0 failed" ]\n' >"$checks/bin/test"
+  # shellcheck disable=SC2016
+  printf '#!/bin/sh\necho "rt: ok"\necho "$LINE"\n[ "$LINE" = "9 passed, 0 failed" ]\n' >"$HIKEBOX_RT"
   chmod +x "$checks"/bin/*
   export LINE BUILT DIST TESTED JUDGED
   while IFS='|' read -r LINE JUDGED BUILT DIST TESTED status line; do
