@@ -1,13 +1,12 @@
 -- What a breaker does that somebody opened or closed by hand.
-use Rattle.std.proofs.Common.{◌≡◌, ◌≢◌, ℕ, ◌+◌, ◌%◌, ◌<◌, ◌≤◌, min, Bool, true, false, not, cond, ltb, ◌==◌, ◌&&◌, ◌||◌}
-use Rattle.std.proofs.Common.{refl, ap, ◌∙◌, arith, eq-eqb, ne_eqb, lt-ltb, le-ltb}
-use Rattle.std.specs.Prelude.{Option, Some, None}
-use Rattle.sched_limit.specs.Breaker.{since_start, is_open, is_out, waits, probes_in, probed, asked, failed, succeeded}
+use Rattle.std.proofs.Common.{◌≡◌, ◌≢◌, ℕ, ◌+◌, ◌%◌, ◌<◌, ◌≤◌, min, Bool, true, not, cond, ltb, ◌==◌}
+use Rattle.std.proofs.Common.{ap, ◌∙◌, arith, eq-eqb, ne_eqb, lt-ltb, le-ltb}
+use Rattle.std.specs.Prelude.{Some, None}
+use Rattle.sched_limit.specs.Breaker.{since_start, is_open, is_out, probes_in, probed, asked, failed, succeeded}
 use Rattle.sched_limit.specs.Breaker.{refused, refused_tripped, next_generation, opened_by_hand, closed_by_hand}
 use Rattle.sched_limit.specs.ByHand.{BeginsAnew, OpensByHand, ClosesByHand}
 use Rattle.sched_limit.specs.Word.{generation_of, admitted_of, at_of, closed, tripped, stamp_of}
 use Rattle.sched_limit.specs.declared.breaker.Breaker.{Breaker}
-use Rattle.sched_limit.specs.declared.refusal.Refusal.{Refusal}
 use Rattle.sched_limit.specs.declared.refusal.Refusal.TheVariants.{Open, Probing}
 use Rattle.sched_limit.proofs.Breakers.{tripped_odd, tripped_admitted, closed_even}
 use Rattle.sched_limit.proofs.Cases.{and_both, and_no_left, and_no_right, or_left}

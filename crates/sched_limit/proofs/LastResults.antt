@@ -1,7 +1,7 @@
 -- A closed breaker keeps the last results of its generation, and opens by them.
-use Rattle.std.proofs.Common.{◌≡◌, ◌≢◌, ℕ, zero, suc, ◌+◌, ◌*◌, ◌/◌, ◌%◌, ◌^◌, ◌<◌, ◌≤◌, min, Bool, true, false, cond}
+use Rattle.std.proofs.Common.{◌≡◌, ◌≢◌, ℕ, zero, suc, ◌+◌, ◌*◌, ◌%◌, ◌^◌, ◌<◌, ◌≤◌, min, Bool, true, false, cond}
 use Rattle.std.proofs.Common.{◌==◌, ◌&&◌, leb, List, [], ◌∷◌, take, refl, sym, ap, ◌∙◌, subst, arith, le-leb, eq-eqb}
-use Rattle.std.proofs.Common.{ne_eqb, lt_of_not-le}
+use Rattle.std.proofs.Common.{ne_eqb}
 use Rattle.std.proofs.lemmas.Bool.{lt-leb}
 use Rattle.std.proofs.Math.Nat.{zero-mod, mod-lt}
 use Rattle.std.proofs.Math.Pow.{pow_pos, pow_mono}

@@ -2,7 +2,7 @@
 use Rattle.std.specs.Prelude.{◌≡◌, ℕ, ◌+◌, ◌≤◌, List, Option, Some, None}
 use Rattle.sched_limit_word.specs.Rule.{Next}
 use Rattle.sched_limit_word.specs.View.{move}
-use Rattle.sched_limit_word.specs.Tokens.{Tokens, no_tokens, MayCall, gained_by, used_by}
+use Rattle.sched_limit_word.specs.Tokens.{Tokens, MayCall, gained_by, used_by}
 use Rattle.sched_limit_word.specs.declared.call.Call.{Call}
 use Rattle.sched_limit_word.specs.declared.view.Move.{Move}
 use Rattle.sched_limit.specs.Step.{Rules, call_of, made, nothing, lost_held, step}

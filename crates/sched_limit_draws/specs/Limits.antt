@@ -1,5 +1,5 @@
 -- What contracts see of a limit that retries draw on, and what each call does.
-use Rattle.std.specs.Prelude.{◌≡◌, ℕ, ◌+◌, ◌<◌, ◌⊎◌, Bool, true, false, ⊤, Option, Some, is_some, Ok, Err, refl}
+use Rattle.std.specs.Prelude.{◌≡◌, ℕ, ◌+◌, ◌<◌, ◌⊎◌, Bool, true, false, ⊤, Option, Some, None, is_some, Ok, Err, refl}
 use Rattle.std.proofs.Common.{inl, inr, ap}
 use Rattle.rand_core.specs.Stream.{Stream, next_u32}
 use Rattle.sched_limit.specs.Step.{Answer}
@@ -24,6 +24,11 @@ pub record OfAsks (L G : Type 0) : Type 0 where
   pub granted : ℕ
   -- why it refused last, if it has
   pub refusal : Option Refusal
+
+-- a limit on which no retry has drawn, and which has refused none
+abbrev pub fresh_on : {L G : Type 0} → L → G → Costs → OfAsks L G
+fresh_on limit words costs =
+    record { limit = limit; words = words; costs = costs; cost = costs.each; granted = 0; refusal = None }
 
 -- where the run was not begun that was to be made next, its draw is cancelled first
 abbrev pub Cancelled : {L : Type 0} → Asked L → Bool → L → L → Type 0

@@ -1,6 +1,6 @@
 //! A limit that retries draw on.
-ghost use Rattle.std.specs.Prelude.{◌≡◌, None, IfOk, IfErr};
-ghost use Rattle.sched_limit_draws.specs.Limits.{Cancelled};
+ghost use Rattle.std.specs.Prelude.{◌≡◌, IfOk, IfErr};
+ghost use Rattle.sched_limit_draws.specs.Limits.{Cancelled, fresh_on};
 
 use crate::costs::Costs;
 use rand_core::Rng;
@@ -42,14 +42,7 @@ impl<L: Asks, G: Rng + Drop> Model for OnAsks<L, G> {
 impl<L: Asks, G: Rng + Drop> OnAsks<L, G> {
     /// What draws on this limit at these costs, with words of this generator.
     pub fn new(limit: L, words: G, costs: Costs) -> OnAsks<L, G>
-        ensures { result ≡ record {
-          limit = limit;
-          words = words;
-          costs = costs;
-          cost = costs.each;
-          granted = 0;
-          refusal = None;
-        } }
+        ensures { result ≡ fresh_on limit words costs }
     {
         OnAsks {
             limit,
@@ -80,8 +73,7 @@ impl<L: Asks, G: Rng + Drop> OnAsks<L, G> {
         ensures limit { IfOk result (λ part. L.asked.splits self.old.limit part.limit self.new.limit) }
         ensures spared { L.asked.spares self.old.limit self.new.limit }
         ensures rest { self.new ≡ record self.old { limit = self.new.limit } }
-        ensures fresh { IfOk result (λ part. (part.costs ≡ self.old.costs) × (part.granted ≡ 0)) }
-        ensures words { IfOk result (λ part. part.words ≡ words) }
+        ensures fresh { IfOk result (λ part. part ≡ fresh_on part.limit words self.old.costs) }
         ensures unsplit { IfErr result (λ why. L.asked.unsplit self.old.limit why) }
     {
         let limit = self.limit.split()?;

@@ -10,7 +10,7 @@ use Rattle.sched_limit.specs.declared.request.Told.{Told}
 use Rattle.sched_limit_request.specs.Asks.{Asked}
 use Rattle.sched_limit_request.specs.declared.fault.SplitFault.{SplitFault}
 use Rattle.sched_limit_request.specs.Limits.{OfLimit, limit_asked}
-use Rattle.sched_limit_request.specs.Windows.{OfThrottle, window_asked}
+use Rattle.sched_limit_request.specs.Windows.{window_asked}
 use Rattle.sched_limit_handle.specs.declared.any_limit.AnyLimit.{AnyLimit}
 use Rattle.sched_limit_handle.specs.declared.any_limit.AnyLimit.TheVariants as any
 

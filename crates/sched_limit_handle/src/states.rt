@@ -1,5 +1,5 @@
 //! What is seen of the limits of a handle, one at a time.
-ghost use Rattle.std.specs.Prelude.{◌≡◌, ◌≤◌, IfSome, IfNone};
+ghost use Rattle.std.specs.Prelude.{◌≡◌, ◌<◌, ◌≤◌, IfSome, IfNone};
 ghost use Rattle.sched_limit_handle.specs.Held.{count};
 ghost use Rattle.sched_limit_handle.specs.States.{AnySeen, TwoSeen, ThreeSeen, FourSeen, HeldSeen};
 
@@ -27,7 +27,7 @@ impl Held {
     /// What the state of the limit of this number is, from 0 on in the order in which they are asked, if there is such
     /// a limit.
     pub fn seen(&mut self, which: u64, now: Moment) -> Option<Seen>
-        ensures some { IfSome result (λ s. HeldSeen which now self.old s self.new) }
+        ensures some { IfSome result (λ s. (which < count self.old) × HeldSeen which now self.old s self.new) }
         ensures none { IfNone result ((count self.old ≤ which) × (self.new ≡ self.old)) }
     {
         if self.count() <= which {

@@ -1,10 +1,10 @@
 -- A split, a join and the first state keep the rule.
 use Rattle.std.proofs.Common.{◌≡◌, ◌≢◌, ℕ, zero, suc, ◌+◌, ◌<◌, List, [], ◌∷◌, ◌++◌, length, set, slice_index, sym}
-use Rattle.std.proofs.Common.{refl, ap, ◌∙◌, subst, ⊎_elim, arith}
+use Rattle.std.proofs.Common.{refl, subst, ⊎_elim, arith}
 use mathlib.Core.Option.{Option, some, some-injective, some-ne-none}
 use lib.ListN.{get_elem?}
 use Rattle.atomic_table.specs.Table.{Splits, Joins}
-use Rattle.atomic_table.proofs.Lists.{at_set, at_snoc, set_else}
+use Rattle.atomic_table.proofs.Lists.{at_set, at_snoc}
 use Rattle.sched_ticket.specs.Lists.{total}
 use Rattle.sched_ticket.proofs.Sums.{total-append, total-set, each-only, each-split, each-joined}
 use Rattle.sched_ticket.proofs.Ways.{part-some}
@@ -12,7 +12,6 @@ use Rattle.sched_limit_word.specs.View.{first_view, without_part, part_of, joine
 use Rattle.sched_limit_word.specs.Rule.{Next, Fits, IsKept}
 use Rattle.sched_limit_word.specs.Tokens.{Tokens, Owns, IsOwned}
 use Rattle.sched_limit_word.specs.declared.call.Call.{Call}
-use Rattle.sched_limit_word.specs.declared.view.Move.{Move}
 use Rattle.sched_limit_word.specs.declared.view.View.{View}
 use Rattle.sched_limit_word.proofs.Owned.{owns_none, owns_both, at_other}
 

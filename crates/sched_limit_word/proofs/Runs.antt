@@ -1,5 +1,5 @@
 -- What follows of a run of a machine.
-use Rattle.std.proofs.Common.{◌≡◌, ℕ, ◌+◌, Bool, true, false, List, [], ◌∷◌, refl, sym, ap, ◌∙◌, subst, inl, inr}
+use Rattle.std.proofs.Common.{◌≡◌, ℕ, ◌+◌, Bool, true, false, List, [], ◌∷◌, refl, sym, ap, ◌∙◌, inl}
 use Rattle.std.proofs.Common.{⊎_elim, arith}
 use Rattle.sched_ticket.specs.Lists.{total, Each}
 use Rattle.sched_limit_word.specs.Rule.{Next, IsRun, WasThere}

@@ -1,5 +1,5 @@
 -- The laws of all views, from the rule.
-use Rattle.std.proofs.Common.{◌≡◌, ℕ, ◌+◌, ◌≤◌, List, refl, sym, ap, ◌∙◌, arith}
+use Rattle.std.proofs.Common.{sym, ap, ◌∙◌, arith}
 use Rattle.sched_ticket.specs.Lists.{total}
 use Rattle.sched_ticket.proofs.Sums.{alone, term_le}
 use Rattle.sched_limit_word.specs.Laws.{MovesAreOneRun, SightIsTrue, WhatIsKeptHolds, EachMoveIsSo, SumsTelescope}

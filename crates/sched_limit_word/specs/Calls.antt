@@ -1,5 +1,5 @@
 -- What a call does to a pass.
-use Rattle.std.specs.Prelude.{◌≡◌, ℕ, ◌+◌, ◌≤◌}
+use Rattle.std.specs.Prelude.{◌≡◌, ℕ, ◌+◌}
 use Rattle.sched_limit_word.specs.Rule.{Next}
 use Rattle.sched_limit_word.specs.View.{moves_after}
 use Rattle.sched_limit_word.specs.declared.call.Call.{Call}
