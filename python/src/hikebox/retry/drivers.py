@@ -96,12 +96,7 @@ def run(owner: BaseRetrying, fn: Callable[..., Any], args: Any, kwargs: Any) -> 
             if settings.deposit is not None:
                 settings.deposit()
             elif settings.asks_limit:
-                place = settings.finds_quiet and settings.finds_quiet()
-                if place is not None:
-                    tells_success = place.look
-                else:
-                    request = settings.drawing()
-                    refusal, tells_success = request.admit(), request.succeeded
+                place, request, refusal, tells_success = settings.asks_first()
         if refusal is not None or not settings.is_quiet:
             progress = Progress(owner, fn, args, kwargs, start, deadline, request, refusal)
             driven = steps(progress)
@@ -181,12 +176,7 @@ async def run_async(owner: BaseRetrying, fn: Callable[..., Any], args: Any, kwar
             if settings.deposit is not None:
                 settings.deposit()
             elif settings.asks_limit:
-                place = settings.finds_quiet and settings.finds_quiet()
-                if place is not None:
-                    tells_success = place.look
-                else:
-                    request = settings.drawing()
-                    refusal, tells_success = request.admit(), request.succeeded
+                place, request, refusal, tells_success = settings.asks_first()
         if refusal is not None or not settings.is_quiet:
             progress = Progress(owner, fn, args, kwargs, start, deadline, request, refusal)
             driven = steps(progress)
