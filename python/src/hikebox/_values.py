@@ -1,5 +1,5 @@
-"""Frozen values with names: as `dataclasses` makes them, which imports `inspect`, and as `typing.NamedTuple` does, which
-compiles each annotation. Together these were a quarter of what `import hikebox` took."""
+"""Frozen values with names: as `dataclasses` makes them, which imports `inspect`, and as
+`typing.NamedTuple` does, which compiles annotations. Either took a fifteenth of `import hikebox`, or more."""
 
 from __future__ import annotations
 

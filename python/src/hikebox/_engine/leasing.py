@@ -33,6 +33,7 @@ __all__ = [
     "quota_allows",
 ]
 
+
 class Stored(Structure):
     """What a store keeps of a budget or a quota: which window it counted last, the tickets of it that were leased, and
     its requests."""

@@ -187,9 +187,10 @@ class CallLimit(OfOneProcess, Limit):
             place = self.idle.pop()
         except IndexError:
             place = self.lend()
-        place.look()
+        look = place.look
+        look()
         if place.told[0]:
-            return place, None, None, place.look
+            return place, None, None, look
         place.home.append(place)
         return self.ask()
 

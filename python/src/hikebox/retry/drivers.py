@@ -95,8 +95,8 @@ def run(owner: BaseRetrying, fn: Callable[..., Any], args: Any, kwargs: Any) -> 
         if settings.is_quiet:
             if settings.deposit is not None:
                 settings.deposit()
-            elif settings.asks_limit:
-                place, request, refusal, tells_success = settings.asks_first()
+            elif (ask := settings.asks_first) is not None:
+                place, request, refusal, tells_success = ask()
         if refusal is not None or not settings.is_quiet:
             progress = Progress(owner, fn, args, kwargs, start, deadline, request, refusal)
             driven = steps(progress)
@@ -175,8 +175,8 @@ async def run_async(owner: BaseRetrying, fn: Callable[..., Any], args: Any, kwar
         if settings.is_quiet:
             if settings.deposit is not None:
                 settings.deposit()
-            elif settings.asks_limit:
-                place, request, refusal, tells_success = settings.asks_first()
+            elif (ask := settings.asks_first) is not None:
+                place, request, refusal, tells_success = ask()
         if refusal is not None or not settings.is_quiet:
             progress = Progress(owner, fn, args, kwargs, start, deadline, request, refusal)
             driven = steps(progress)

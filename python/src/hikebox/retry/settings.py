@@ -81,7 +81,7 @@ class Settings(HasOptions):
     #: but to tell that.
     is_quiet: bool
     #: What asks such a limit before such an attempt.
-    asks_first: Callable[[], Asked]
+    asks_first: Optional[Callable[[], Asked]]
     #: Whether `retry_after` or `wait` may ask for a longer wait.
     asks: bool
     #: Whether something may take time between a failure and its wait.
@@ -128,7 +128,7 @@ class Settings(HasOptions):
         self.asks = self.retry_after is not None or self.wait is not None
         looks = self.on_result is not None or self.slow_millis is not None
         self.is_quiet = not (self.repeats or self.hooks_before or self.hooks_on_success or looks)
-        limit = self.limit
+        limit, self.asks_first = self.limit, None
         if isinstance(limit, CallLimit):
             self.asks_first = limit.look_or_ask if limit.rests else limit.ask
         self.draws_elsewhere = self.drawing is not None and not self.asks_limit
