@@ -166,8 +166,8 @@ def test_the_policy_counts_from_the_first_attempt_also_where_that_is_slow(clock:
 def test_a_success_on_a_quiet_limit_is_two_looks(limit: Any) -> None:
     retrying, awaiting = Retrying(recurs(3), limit=limit), AsyncRetrying(recurs(3), limit=limit)
     retrying(succeeds)
-    assert functions(lambda: retrying(succeeds)) == ["__call__", "run", "quiet"]
-    assert functions(lambda: asyncio.run(awaiting(succeeds_later))) == ["__call__", "run_async", "quiet"]
+    assert functions(lambda: retrying(succeeds)) == ["__call__", "run", "look_or_ask"]
+    assert functions(lambda: asyncio.run(awaiting(succeeds_later))) == ["__call__", "run_async", "look_or_ask"]
     assert retrying.statistics.won == 2 and awaiting.statistics.won == 1
 
 
@@ -177,7 +177,7 @@ def test_a_success_on_another_limit_makes_its_three_calls(limit: Any) -> None:
     retrying(succeeds)
     moment = ["_monotonic"] if limit.reads_clock else []
     word = ["<lambda>", "word_of"] if limit.reads_random else []
-    begins = ["__init__", "admit", *moment, *word]
+    begins = ["ask", "__init__", "admit", *moment, *word]
     ends = ["succeeded", *moment * limit.times_successes, "ended", "__del__"]
     assert sorted(functions(lambda: retrying(succeeds))) == sorted(["__call__", "run", *begins, *ends])
     ends = ["_end", *ends]

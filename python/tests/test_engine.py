@@ -13,7 +13,7 @@ from typing import Any, Dict, List, Tuple
 import pytest
 from conftest import TOP, python_environment
 
-from hikebox._engine import calls, kept, leasing, limits, paces, structs
+from hikebox._engine import calls, kept, leasing, limits, paces, storms, structs
 from hikebox._engine.handles import Handle, Pass, PolicyHandle
 from hikebox._engine.machine import Machine
 from hikebox.errors import EngineError
@@ -42,17 +42,17 @@ TYPES: Dict[str, Any] = {
     "hikebox_next *": (ctypes.POINTER(structs.Next),),
     "const hikebox_run *": (ctypes.POINTER(structs.Run),),
     "hikebox_usage *": (ctypes.POINTER(structs.Usage),),
-    "const hikebox_storm *": (ctypes.POINTER(structs.Storm),),
-    "hikebox_window *": (ctypes.POINTER(structs.Window),),
-    "hikebox_totals *": (ctypes.POINTER(structs.Totals),),
-    "hikebox_stored *": (ctypes.POINTER(structs.Stored),),
-    "const hikebox_asking *": (ctypes.POINTER(structs.Asking),),
-    "hikebox_range *": (ctypes.POINTER(structs.Range),),
-    **{f"{const}hikebox_ticket *": (ctypes.POINTER(structs.LeasedTicket),) for const in ("", "const ")},
-    "const hikebox_grant *": (ctypes.POINTER(structs.Grant),),
-    "const hikebox_told *": (ctypes.POINTER(structs.Told),),
+    "const hikebox_storm *": (ctypes.POINTER(storms.Storm),),
+    "hikebox_window *": (ctypes.POINTER(storms.Window),),
+    "hikebox_totals *": (ctypes.POINTER(storms.Totals),),
+    "hikebox_stored *": (ctypes.POINTER(leasing.Stored),),
+    "const hikebox_asking *": (ctypes.POINTER(leasing.Asking),),
+    "hikebox_range *": (ctypes.POINTER(leasing.Range),),
+    **{f"{const}hikebox_ticket *": (ctypes.POINTER(leasing.LeasedTicket),) for const in ("", "const ")},
+    "const hikebox_grant *": (ctypes.POINTER(leasing.Grant),),
+    "const hikebox_told *": (ctypes.POINTER(kept.Told),),
     "hikebox_kept *": (ctypes.POINTER(structs.Kept),),
-    "hikebox_request *": (ctypes.POINTER(structs.HeldRequest),),
+    "hikebox_request *": (ctypes.POINTER(kept.HeldRequest),),
     "const hikebox_rate *": (ctypes.POINTER(structs.Rate),),
     "hikebox_state *": (ctypes.POINTER(structs.State),),
     **{f"{const}hikebox_seen *": (ctypes.POINTER(structs.Seen),) for const in ("", "const ")},
@@ -67,8 +67,8 @@ CTYPES: Dict[str, Any] = {
     "uint32_t[4]": structs.Words,
     "uint64_t[64]": c_uint64 * 64,
     "bool": ctypes.c_bool,
-    "hikebox_phase[16]": structs.Phase * 16,
-    "hikebox_population": structs.Population,
+    "hikebox_phase[16]": storms.Phase * 16,
+    "hikebox_population": storms.Population,
 }
 
 
@@ -81,7 +81,7 @@ def header() -> str:
 def test_the_signatures_are_those_of_the_header() -> None:
     declared: Dict[str, Tuple[Any, ...]] = {}
     signatures = {**calls.SIGNATURES, **kept.SIGNATURES, **leasing.SIGNATURES, **limits.SIGNATURES}
-    signatures.update(paces.SIGNATURES)
+    signatures.update({**paces.SIGNATURES, **storms.SIGNATURES})
     for name, parameters in re.findall(r"hikebox_status (hikebox_\w+)\((.*?)\);", header(), flags=re.S):
         if name not in signatures:
             continue
@@ -109,13 +109,13 @@ def test_the_structures_are_those_of_the_header() -> None:
     )
     kinds: Dict[str, Any] = {"place": structs.Place, "course": structs.Course}
     kinds.update({"event": structs.Event, "line": structs.Line})
-    kinds.update({"next": structs.Next, "run": structs.Run, "usage": structs.Usage, "storm": structs.Storm})
-    kinds.update({"window": structs.Window, "totals": structs.Totals})
-    kinds.update({"stored": structs.Stored, "asking": structs.Asking, "range": structs.Range})
-    kinds.update({"ticket": structs.LeasedTicket, "grant": structs.Grant, "phase": structs.Phase})
-    kinds.update({"population": structs.Population, "seen": structs.Seen})
+    kinds.update({"next": structs.Next, "run": structs.Run, "usage": structs.Usage, "storm": storms.Storm})
+    kinds.update({"window": storms.Window, "totals": storms.Totals})
+    kinds.update({"stored": leasing.Stored, "asking": leasing.Asking, "range": leasing.Range})
+    kinds.update({"ticket": leasing.LeasedTicket, "grant": leasing.Grant, "phase": storms.Phase})
+    kinds.update({"population": storms.Population, "seen": structs.Seen})
     kinds.update({"rate": structs.Rate, "mark": structs.Mark})
-    kinds.update({"told": structs.Told, "kept": structs.Kept, "request": structs.HeldRequest})
+    kinds.update({"told": kept.Told, "kept": structs.Kept, "request": kept.HeldRequest})
     for name, kind in kinds.items():
         assert [(field, CTYPES[word]) for word, field in found[f"hikebox_{name}"]] == list(kind._fields_)
 

@@ -85,7 +85,8 @@ def loaded_by(text: str) -> List[str]:
 def test_import_hikebox_loads_nothing_of_storms_of_the_lab_or_of_adapters() -> None:
     loaded = loaded_by("import hikebox")
     assert "hikebox.retrying" in loaded
-    parts = ("advice", "storms", "traffic", "lab", "adapters", "cli", "sweeps", "leased", "metrics")
+    parts = ["advice", "storms", "traffic", "lab", "adapters", "cli", "sweeps", "leased", "metrics"]
+    parts += ["_engine.kept", "_engine.leasing", "_engine.storms"]
     assert [name for name in loaded if name.startswith(tuple(f"hikebox.{part}" for part in parts))] == []
 
 

@@ -500,6 +500,9 @@ def test_the_limits_of_depth_and_nodes() -> None:
     for _ in range(31):
         deep = {"nothing": deep}
     assert Policy.from_dict(deep).depth == 32
+    with pytest.raises(PolicyError) as caught:
+        Policy.from_dict(deep).nothing()
+    assert caught.value.fault is Fault.TOO_DEEP
     full: Any = "forever"
     wide = [full] * 128
     while len(wide) > 1:

@@ -24,7 +24,7 @@ from conftest import TOP
 from test_pictures import looks_at_texts, painted, parsed, texts, zsched_prints
 
 from hikebox import Policy, Population, Quota, Storm, StormError, exponential, milliseconds, recurs, spaced, storm
-from hikebox._engine import calls, handles
+from hikebox._engine import calls, storms as engines_storms
 from hikebox.budgets.terms import Terms
 from hikebox.cli.main import main
 from hikebox.cli.scenario import scenario_of
@@ -228,7 +228,7 @@ def test_the_engine_has_four_handles_and_want_of_memory_is_told(monkeypatch: pyt
         asked.append((len(set(map(ctypes.addressof, four))), [bool(handle.held) for handle in four]))
         return calls.NO_MEMORY
 
-    monkeypatch.setattr(handles, "_storm_play_populations", no_memory)
+    monkeypatch.setattr(engines_storms, "_patient", {"hikebox_storm_play_populations": no_memory}.__getitem__)
     for beside in ([Population(0.3, FULL)], [Population(0.1, FULL)] * 3):
         with pytest.raises(MemoryError, match="^hikebox_storm_play_populations: "):
             storm(FULL, beside=beside)

@@ -11,7 +11,7 @@ from typing import Any, Callable, List
 import pytest
 
 from limited import admitted
-from hikebox import AsyncRetrying, Breaker, BreakerState, Bucket, InFlight, Retrying, both, recurs, spaced
+from hikebox import AsyncRetrying, Breaker, BreakerState, Bucket, InFlight, Retrying, Throttle, both, recurs, spaced
 from hikebox.limits.limit import CallLimit
 from hikebox.testing import VirtualClock
 
@@ -203,6 +203,22 @@ def test_a_forked_child_tells_its_own_limit(call: Any, ends: Any, levels: Any) -
             os._exit(int(level))
     assert (level, os.waitstatus_to_exitcode(os.waitpid(child, 0)[1])) == levels
     assert places(bucket) == [1, 1]
+
+
+@CALLS
+def test_a_request_ends_at_once_where_its_limit_can_not_be_asked(call: Any, clock: VirtualClock) -> None:
+    broken = False
+
+    def now() -> float:
+        if broken:
+            raise KeyError("no clock")
+        return clock()
+
+    throttle = Throttle(2, 60, clock=now)
+    broken = True
+    with pytest.raises(KeyError) as caught:
+        call(throttle, int)
+    assert caught.tb is not None and places(throttle) == [1, 1]  # (though the exception keeps the frames)
 
 
 def test_threads_count_each_failure_once() -> None:

@@ -741,10 +741,10 @@ def test_a_terminal_has_colours_where_they_are_wanted() -> None:
 
 
 def test_want_of_memory_is_told(monkeypatch: pytest.MonkeyPatch, capsys: pytest.CaptureFixture[str]) -> None:
-    from hikebox._engine import calls, handles
+    from hikebox._engine import calls, storms
     from hikebox.cli.main import main
 
-    monkeypatch.setattr(handles, "_storm_play", lambda *_: calls.NO_MEMORY)
+    monkeypatch.setattr(storms, "_patient", lambda call: lambda *_: calls.NO_MEMORY)
     with pytest.raises(MemoryError):
         storm(recurs(1))
     assert main(["storm", "recurs(1)"]) == 5

@@ -3,7 +3,9 @@
 from __future__ import annotations
 
 import re
-from typing import Dict, List, NamedTuple, Tuple
+from typing import Dict, List, Tuple
+
+from ._values import NamedTuple
 
 __all__ = [
     "LINE",

@@ -3,9 +3,9 @@
 from __future__ import annotations
 
 import ctypes
-from typing import NamedTuple
 
 from ._engine.calls import library
+from ._values import NamedTuple
 from .version import VERSION
 
 

@@ -5,12 +5,13 @@ from __future__ import annotations
 import threading
 import time
 from functools import wraps
-from typing import Any, Callable, List, NamedTuple, Optional, Tuple, TypeVar
+from typing import Any, Callable, List, Optional, Tuple, TypeVar
 
 from ._engine.paces import PaceHandle
 from ._forks import OfOneProcess, begins_anew_in_a_child
 from ._functions import is_async, is_generator
 from ._time import Duration, Milliseconds, moment, seconds, seconds_text
+from ._values import NamedTuple
 from .budgets.terms import count_of
 from .errors import PolicyError, TermsError, TooSoon, shown
 from .retry.deadline import seconds_left

@@ -14,22 +14,7 @@ from typing import Any, Dict, Tuple
 
 from ..errors import EngineError
 from ..version import VERSION
-from .structs import (
-    Asking,
-    Course,
-    Event,
-    Handle,
-    Line,
-    Next,
-    Place,
-    Range,
-    Run,
-    Storm,
-    Stored,
-    Totals,
-    Usage,
-    Window,
-)
+from .structs import Course, Event, Handle, Line, Next, Place, Run, Usage
 
 __all__ = ["SIGNATURES", "give_memory_back", "library", "library_path", "refused", "unchecked"]
 
@@ -83,7 +68,7 @@ _HANDLE = POINTER(Handle)
 _NUMBER = POINTER(c_uint64)
 _WORDS = POINTER(c_uint32)
 
-#: Each function of the header that is used here, with the types of its parameters.
+#: Each function of the header that a retry may need, with the types of its parameters.
 SIGNATURES: Dict[str, Tuple[Any, ...]] = {
     "hikebox_policy_read": (c_char_p, c_size_t, _HANDLE, POINTER(Place)),
     "hikebox_policy_fault": (c_char_p, c_size_t, POINTER(c_uint8), c_size_t, POINTER(c_size_t)),
@@ -126,34 +111,6 @@ SIGNATURES: Dict[str, Tuple[Any, ...]] = {
     "hikebox_retry_cancel": (_HANDLE,),
     "hikebox_retry_end": (_HANDLE, _HANDLE),
     "hikebox_retry_free": (_HANDLE,),
-    "hikebox_quota_allows": (c_uint64, c_uint64, c_uint64, _NUMBER),
-    "hikebox_lease_of_budget": (c_uint64, POINTER(Asking), POINTER(Stored), POINTER(Range)),
-    "hikebox_lease_of_quota": (c_uint64, c_uint64, POINTER(Asking), POINTER(Stored), POINTER(Range)),
-    "hikebox_storm_play": (_HANDLE, POINTER(Storm), POINTER(Window), c_size_t, POINTER(c_size_t), POINTER(Totals)),
-    "hikebox_storm_play_populations": (
-        _HANDLE,
-        _HANDLE,
-        _HANDLE,
-        _HANDLE,
-        POINTER(Storm),
-        POINTER(Window),
-        c_size_t,
-        POINTER(c_size_t),
-        POINTER(Totals),
-    ),
-    "hikebox_storm_play_arrivals": (
-        _HANDLE,
-        _HANDLE,
-        _HANDLE,
-        _HANDLE,
-        POINTER(Storm),
-        _NUMBER,
-        c_size_t,
-        POINTER(Window),
-        c_size_t,
-        POINTER(c_size_t),
-        POINTER(Totals),
-    ),
 }
 
 

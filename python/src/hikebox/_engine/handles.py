@@ -9,9 +9,9 @@ from __future__ import annotations
 import ctypes
 import struct
 from ctypes import byref, c_size_t, c_uint8, c_uint64
-from functools import lru_cache
-from typing import Any, Callable, List, NamedTuple, Optional, Sequence, Tuple
+from typing import Any, Callable, List, Optional, Sequence, Tuple
 
+from .._values import NamedTuple
 from .calls import (
     FIXED,
     LANES,
@@ -24,15 +24,13 @@ from .calls import (
     OK,
     PASSES_OUT,
     RACES_LOST,
-    SIGNATURES,
     TOO_MANY,
     TOO_MANY_PASSES,
     library,
-    library_path,
     refused,
     unchecked,
 )
-from .structs import Course, Event, Handle, Line, Place, Storm, Totals, Usage, Window
+from .structs import Course, Event, Handle, Line, Place, Usage
 
 __all__ = [
     "ONE",
@@ -40,11 +38,7 @@ __all__ = [
     "Handle",
     "Pass",
     "PolicyHandle",
-    "Storm",
-    "Totals",
-    "Window",
     "pass_deposit",
-    "play_storm",
 ]
 
 _policy_node = unchecked("hikebox_policy_node")
@@ -53,27 +47,6 @@ _pass_draw = unchecked("hikebox_pass_draw")
 pass_deposit = unchecked("hikebox_pass_deposit")
 _pass_hand_back = unchecked("hikebox_pass_hand_back")
 _pass_free = unchecked("hikebox_pass_free")
-
-
-@lru_cache(maxsize=None)
-def _patient(call: str) -> Any:
-    """A call that takes long: it lets go of the interpreter's lock."""
-    function = ctypes.CDLL(library_path())[call]
-    function.argtypes = SIGNATURES[call]
-    function.restype = ctypes.c_uint32
-    return function
-
-
-def _storm_play(*given: Any) -> Any:
-    return _patient("hikebox_storm_play")(*given)
-
-
-def _storm_play_populations(*given: Any) -> Any:
-    return _patient("hikebox_storm_play_populations")(*given)
-
-
-def _storm_play_arrivals(*given: Any) -> Any:
-    return _patient("hikebox_storm_play_arrivals")(*given)
 
 
 class Refusal(NamedTuple):
@@ -228,30 +201,6 @@ def _decided(lines: bytes, text: str) -> List[Decided]:
         told.append(Decided(moment, start if goes_on else None, text[begins:ends]))
         begins = ends
     return told
-
-
-def play_storm(
-    policies: Sequence[PolicyHandle], storm: Storm, arrivals: Sequence[int] = ()
-) -> Tuple[List[Tuple[int, ...]], Totals]:
-    """Plays a storm whose parameters are within their ranges, with the policy of each of its populations, up to four,
-    and the moments of its requests, where they have such: the fields of each window, and the totals."""
-    room = storm.until // storm.window + 1
-    windows, count, totals = (Window * room)(), c_size_t(), Totals()
-    told = (byref(storm), windows, room, byref(count), byref(totals))
-    four = [*policies, *(PolicyHandle() for _ in range(4 - len(policies)))]
-    if arrivals:
-        call, moments = "hikebox_storm_play_arrivals", (c_uint64 * len(arrivals))(*arrivals)
-        status = _storm_play_arrivals(*(policy.at for policy in four), told[0], moments, len(arrivals), *told[1:])
-    elif len(policies) == 1:
-        call, status = "hikebox_storm_play", _storm_play(policies[0].at, *told)
-    else:
-        call = "hikebox_storm_play_populations"
-        status = _storm_play_populations(*(policy.at for policy in four), *told)
-    if status != OK:
-        raise refused(call, status)
-    wide = ctypes.sizeof(Window) // ctypes.sizeof(c_uint64)
-    numbers = (c_uint64 * (wide * count.value)).from_buffer(windows)[:]
-    return [tuple(numbers[at : at + wide]) for at in range(0, len(numbers), wide)], totals
 
 
 class Pass:

@@ -2,12 +2,12 @@
 
 from __future__ import annotations
 
-from ctypes import POINTER, byref, c_size_t, c_uint32, c_uint64
+from ctypes import POINTER, Structure, byref, c_bool, c_size_t, c_uint32, c_uint64
 from typing import Any, Callable, Dict, Optional, Sequence, Tuple
 
 from .calls import OK, library, refused
 from .limits import OUT_OF_TURN, REFUSALS, Refused
-from .structs import BreakerTerms, BucketTerms, HeldRequest, Kept, Told
+from .structs import BreakerTerms, BucketTerms, Kept, numbers
 
 __all__ = [
     "ADMIT",
@@ -25,6 +25,18 @@ __all__ = [
 
 #: The calls of a request.
 ADMIT, DRAW, FAILED, SUCCEEDED, CANCELLED = range(5)
+
+
+class HeldRequest(Structure):
+    """What a request holds of such a limit."""
+
+    counted: bool
+
+    _fields_ = [("counted", c_bool), ("drew", c_bool), *numbers("slots cost generation")]
+
+
+class Told(Structure):
+    _fields_ = [("call", c_uint32), *numbers("at cost")]
 
 
 #: A step of a limit: the call, the moment and the cost of a draw; what the store keeps and what the request holds,

@@ -2,7 +2,7 @@
 
 from __future__ import annotations
 
-from ctypes import POINTER, byref, c_uint32, c_uint64
+from ctypes import POINTER, Structure, byref, c_uint32, c_uint64
 from functools import lru_cache
 from typing import Any, Dict, NamedTuple, Optional, Tuple, Union
 
@@ -17,7 +17,7 @@ from .calls import (
     library,
     refused,
 )
-from .structs import Asking, Grant, Handle, LeasedTicket, Range, Stored
+from .structs import Handle, numbers
 
 __all__ = [
     "BACKWARDS",
@@ -33,10 +33,51 @@ __all__ = [
     "quota_allows",
 ]
 
+
+class Stored(Structure):
+    """What a store keeps of a budget or a quota: which window it counted last, the tickets of it that were leased, and
+    its requests."""
+
+    window: int
+    given: int
+    asked: int
+
+    _fields_ = numbers("window given asked")
+
+
+class Asking(Structure):
+    _fields_ = numbers("window told wanted")
+
+
+class Range(Structure):
+    first: int
+    tickets: int
+
+    _fields_ = numbers("first tickets")
+
+
+class LeasedTicket(Structure):
+    window: int
+    number: int
+
+    _fields_ = numbers("window number")
+
+
+class Grant(Structure):
+    """What a store granted: so many tickets of a window, from `first` on, and the moment at which the window ends."""
+
+    window: int
+    first: int
+    tickets: int
+    until: int
+
+    _fields_ = numbers("window first tickets until")
+
+
 _HANDLE = POINTER(Handle)
 _NUMBER = POINTER(c_uint64)
 
-#: Each call on leased passes, with the types of its parameters.
+#: Each call on leases and on leased passes, with the types of its parameters.
 SIGNATURES: Dict[str, Tuple[Any, ...]] = {
     "hikebox_leased_new": (c_uint64, _HANDLE),
     "hikebox_leased_draw": (_HANDLE, c_uint64, POINTER(LeasedTicket), _NUMBER),
@@ -47,13 +88,24 @@ SIGNATURES: Dict[str, Tuple[Any, ...]] = {
     "hikebox_leased_tell": (_HANDLE, c_uint64, _NUMBER),
     "hikebox_leased_seen": (_HANDLE, _NUMBER, _NUMBER, _NUMBER),
     "hikebox_leased_free": (_HANDLE,),
+    "hikebox_quota_allows": (c_uint64, c_uint64, c_uint64, _NUMBER),
+    "hikebox_lease_of_budget": (c_uint64, POINTER(Asking), POINTER(Stored), POINTER(Range)),
+    "hikebox_lease_of_quota": (c_uint64, c_uint64, POINTER(Asking), POINTER(Stored), POINTER(Range)),
 }
+
+
+@lru_cache(maxsize=None)
+def _call(name: str) -> Any:
+    """This call of the library, which is looked up where the first lease is made."""
+    function = getattr(library, name)
+    function.argtypes, function.restype = SIGNATURES[name], c_uint32
+    return function
 
 
 def quota_allows(reserve: int, share: int, asked: int) -> int:
     """How many tickets a window of so many requests may give, by a quota of these terms."""
     tickets = c_uint64()
-    status = library.hikebox_quota_allows(reserve, share, min(asked, MAX_UINT64), byref(tickets))
+    status = _call("hikebox_quota_allows")(reserve, share, min(asked, MAX_UINT64), byref(tickets))
     if status != OK:
         raise refused("hikebox_quota_allows", status)
     return tickets.value
@@ -64,7 +116,7 @@ def lease_of_budget(limit: int, window: int, wanted: int, stored: Stored) -> Opt
     then on. None where the store counts a later window."""
     range_ = Range()
     asking = Asking(window, 0, wanted)
-    status = library.hikebox_lease_of_budget(limit, byref(asking), byref(stored), byref(range_))
+    status = _call("hikebox_lease_of_budget")(limit, byref(asking), byref(stored), byref(range_))
     return _range("hikebox_lease_of_budget", status, range_)
 
 
@@ -73,7 +125,7 @@ def lease_of_quota(terms: Tuple[int, int, int], window: int, told: int, wanted: 
     reserve, share, _ = terms
     range_ = Range()
     asking = Asking(window, min(told, MAX_UINT64), wanted)
-    status = library.hikebox_lease_of_quota(reserve, share, byref(asking), byref(stored), byref(range_))
+    status = _call("hikebox_lease_of_quota")(reserve, share, byref(asking), byref(stored), byref(range_))
     return _range("hikebox_lease_of_quota", status, range_)
 
 
@@ -92,14 +144,6 @@ class Seen(NamedTuple):
     drawn: int
     at_hand: int
     untold: int
-
-
-@lru_cache(maxsize=None)
-def _call(name: str) -> Any:
-    """This call of the library, which is looked up where the first lease is made."""
-    function = getattr(library, name)
-    function.argtypes, function.restype = SIGNATURES[name], c_uint32
-    return function
 
 
 class LeasedPass:

@@ -2,10 +2,11 @@
 
 from __future__ import annotations
 
-from typing import NamedTuple, Optional
+from typing import Optional
 
 from .._engine.calls import MAX_SHARE, MAX_TICKETS, MIN_PERIOD
 from .._time import Duration, seconds, seconds_text
+from .._values import NamedTuple
 from ..errors import PolicyError, TermsError, shown
 
 __all__ = [

@@ -5,7 +5,6 @@ from __future__ import annotations
 import argparse
 import os
 import sys
-import textwrap
 from itertools import groupby
 from typing import Any, Callable, Iterable, List, NoReturn, Optional
 
@@ -47,10 +46,12 @@ class Layout(_Plain, argparse.RawDescriptionHelpFormatter):
     """A help whose prose is wrapped for the terminal. Lines that begin with a space stay as they are."""
 
     def _fill_text(self, text: str, width: int, indent: str) -> str:
+        from textwrap import wrap  # which only a help needs
+
         lines: List[str] = []
         for is_prose, block in groupby(text.splitlines(), lambda line: line[:1].strip() != ""):
             columns = min(width, _MAX_COLUMNS)
-            lines += textwrap.wrap(" ".join(block), columns, break_on_hyphens=False) if is_prose else block
+            lines += wrap(" ".join(block), columns, break_on_hyphens=False) if is_prose else block
         return "".join(f"{indent}{line}\n" for line in lines)
 
 

@@ -194,21 +194,9 @@ def _fill_plan(plan: Any) -> None:
     several = f"{_POLICY}; - or nothing reads standard input; with several, a picture shows all of them"
     plan.add_argument("file", nargs="*", metavar="POLICY", help=several)
     plan.add_argument("--steps", type=values.number(4096), default=10, metavar="N", help="how many events at most (10)")
-    plan.add_argument(
-        "--from",
-        type=values.number(MAX_NUMBER),
-        default=0,
-        metavar="M",
-        dest="start",
-        help="the first moment, in milliseconds (0)",
-    )
-    plan.add_argument(
-        "--took",
-        type=values.number(MAX_NUMBER),
-        default=0,
-        metavar="M",
-        help="how long each further call takes, in milliseconds (0)",
-    )
+    millis: Any = {"metavar": "M", "type": values.number(MAX_NUMBER), "default": 0}
+    plan.add_argument("--from", dest="start", help="the first moment, in milliseconds (0)", **millis)
+    plan.add_argument("--took", help="how long each further call takes, in milliseconds (0)", **millis)
     codes = plan.add_mutually_exclusive_group()
     codes.add_argument(
         "--input", type=values.number(MAX_NUMBER), default=0, metavar="N", help="the code of each failure (0)"

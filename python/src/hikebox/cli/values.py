@@ -50,7 +50,6 @@ def duration(text: str) -> float:
 
 
 _SIZES = {"K": 1 << 10, "M": 1 << 20, "G": 1 << 30}
-_SIZE = re.compile(r"([1-9][0-9]{0,14})([KMG]?)", re.ASCII)
 
 
 def size(text: str) -> int:
@@ -59,7 +58,7 @@ def size(text: str) -> int:
     >>> size("10M"), size("7")
     (10485760, 7)
     """
-    found = _SIZE.fullmatch(text)
+    found = re.fullmatch(r"([1-9][0-9]{0,14})([KMG]?)", text, re.ASCII)
     if not found:
         raise argparse.ArgumentTypeError(f"expected a number of bytes, as 500, 10K, 10M or 10G, got {text!r}")
     return int(found[1]) * _SIZES.get(found[2], 1)
@@ -101,14 +100,15 @@ def span(text: str) -> Optional[float]:
     >>> span("1.5s"), span("30m"), span("30")
     (1.5, 1800.0, None)
     """
-    found = _SPAN.fullmatch(text)
+    found = re.fullmatch(_SPAN, text, re.ASCII)
     return _exact(float(found[1]) * _UNITS[found[2]]) if found else None
 
 
 _UNITS = {"ms": 0.001, "s": 1.0, "m": 60.0, "h": 3600.0, "d": 86400.0}
-_SPAN = re.compile(r"(\d+(?:\.\d+)?)(ms|s|m|h|d)", re.ASCII)
-_SPELT = re.compile(r"(\d+)/(\d+(?:\.\d+)?)%/(\d+(?:\.\d+)?)(ms|s|m|h|d)")
-_BARE = re.compile(r"(\d+)/(\d+(?:\.\d+)?)/(\d+(?:\.\d+)?)")
+#: How times and quotas are spelt. (What is compiled is kept by `re`; most runs need none of them.)
+_SPAN = r"(\d+(?:\.\d+)?)(ms|s|m|h|d)"
+_SPELT = r"(\d+)/(\d+(?:\.\d+)?)%/(\d+(?:\.\d+)?)(ms|s|m|h|d)"
+_BARE = r"(\d+)/(\d+(?:\.\d+)?)/(\d+(?:\.\d+)?)"
 
 
 def terms(text: str) -> Tuple[int, float, float]:
@@ -122,11 +122,11 @@ def terms(text: str) -> Tuple[int, float, float]:
     hikebox.errors.LimitError: '1/500/100' has no units: write 1/50000%/100s (retries a request, and seconds) or \
 1/50%/100ms (thousandths and milliseconds, as zsched reads it)
     """
-    found = _SPELT.fullmatch(text)
+    found = re.fullmatch(_SPELT, text)
     if found:
         reserve, share, count, unit = found.groups()
         return int(reserve), _exact(float(share) / 100), _exact(float(count) * _UNITS[unit])
-    bare = _BARE.fullmatch(text)
+    bare = re.fullmatch(_BARE, text)
     if bare:
         reserve, share, count = bare.groups()
         ours = f"{reserve}/{_plain(float(share) * 100)}%/{count}s"
@@ -138,7 +138,7 @@ def terms(text: str) -> Tuple[int, float, float]:
     raise LimitError(f"expected RESERVE/SHARE%/PERIOD, such as 10/20%/60s (units: ms, s, m, h, d), got {text!r}")
 
 
-_PACE = re.compile(r"(\d{1,13})/(\d+(?:\.\d+)?(?:ms|s|m|h|d))(?:/(\d{1,7}))?", re.ASCII)
+_PACE = r"(\d{1,13})/(\d+(?:\.\d+)?(?:ms|s|m|h|d))(?:/(\d{1,7}))?"
 
 
 def pace(text: str) -> Tuple[int, float, int]:
@@ -147,7 +147,7 @@ def pace(text: str) -> Tuple[int, float, int]:
     >>> pace("10/1s"), pace("100/1m/20")
     ((10, 1.0, 1), (100, 60.0, 20))
     """
-    found = _PACE.fullmatch(text)
+    found = re.fullmatch(_PACE, text, re.ASCII)
     if found is None:
         wanted = "expected RUNS/PERIOD or RUNS/PERIOD/BURST, such as 10/1s or 100/1m/20 (units: ms, s, m, h, d)"
         raise LimitError(f"{wanted}, got {text[:100]!r}")

@@ -4,7 +4,7 @@ from __future__ import annotations
 
 import random as _random
 import threading
-from typing import Any, Callable, ClassVar, List, Optional, Type
+from typing import Any, Callable, ClassVar, List, Optional, Tuple, Type
 
 from .._engine.calls import OK, RACES_LOST, refused
 from .._engine.limits import (
@@ -35,7 +35,7 @@ from ..budgets.tickets import Refusal, RefusalReason
 from ..policy.preview import word_of
 from .terms import LimitTerms
 
-__all__ = ["NONE_UNDER_WAY", "CallLimit", "Request", "WatchedRequest", "look_at_no_limit", "of_pace"]
+__all__ = ["NONE_UNDER_WAY", "Asked", "CallLimit", "Request", "WatchedRequest", "look_at_no_limit", "of_pace"]
 
 #: What is told of a call that is out of its turn.
 NONE_UNDER_WAY = "expected a request that was admitted, got none under way"
@@ -47,6 +47,10 @@ _REASONS = {
     PROBING: RefusalReason.PROBING,
     THROTTLED: RefusalReason.THROTTLED,
 }
+
+#: What comes of asking a limit before a first attempt: a place that found it quiet, or a request; why that was refused;
+#: and what tells of a success.
+Asked = Tuple[Optional[Place], Optional["Request"], Optional[Refusal], Callable[[], Any]]
 
 
 class CallLimit(OfOneProcess, Limit):
@@ -167,18 +171,28 @@ class CallLimit(OfOneProcess, Limit):
                 split.append(made)
                 return made
 
-    def quiet(self) -> Optional[Place]:
-        """A place that finds the limit quiet, so that a call is admitted which holds it; or None. If that succeeds at
-        once and finds it quiet again, the look stands for all calls of its request."""
+    def ask(self) -> Asked:
+        """Asks before a first attempt."""
+        request = self.REQUEST(self)
+        try:
+            return None, request, request.admit(), request.succeeded
+        except BaseException:
+            request.ended()
+            raise
+
+    def look_or_ask(self) -> Asked:
+        """The same, or a place that finds the limit quiet, so that a call is admitted which holds it. If that succeeds
+        at once and finds it quiet again, the look stands for all calls of its request."""
         try:
             place = self.idle.pop()
         except IndexError:
             place = self.lend()
-        place.look()
+        look = place.look
+        look()
         if place.told[0]:
-            return place
+            return place, None, None, look
         place.home.append(place)
-        return None
+        return self.ask()
 
     def cost_of(self, error: Optional[BaseException]) -> int:
         """What a retry after this error costs, in thousandths."""

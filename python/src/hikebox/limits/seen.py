@@ -3,7 +3,9 @@
 from __future__ import annotations
 
 import enum
-from typing import NamedTuple, Optional, Union
+from typing import Optional, Union
+
+from .._values import NamedTuple
 
 __all__ = ["AdaptiveSeen", "BreakerSeen", "BreakerState", "BucketSeen", "InFlightSeen", "Seen", "ThrottleSeen"]
 

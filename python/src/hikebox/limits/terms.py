@@ -2,10 +2,11 @@
 
 from __future__ import annotations
 
-from typing import Any, NamedTuple, Optional, Tuple
+from typing import Any, Optional, Tuple
 
 from .._engine.calls import ON_ADAPTIVE, ON_BREAKER, ON_BUCKET, ON_IN_FLIGHT, ON_THROTTLE
 from .._engine.limits import NO_MOST
+from .._values import NamedTuple
 
 __all__ = ["NO_MOST", "LimitTerms", "adaptive", "breaker", "bucket", "in_flight", "throttle"]
 

@@ -2,12 +2,13 @@
 
 from __future__ import annotations
 
-from typing import Any, Dict, List, NamedTuple, Tuple
+from typing import Any, Dict, List, Tuple
 
-__all__ = ["FOLDS", "Item", "MAX_DEPTH", "MAX_NODES", "NODES", "Node", "parts_of"]
+from .._values import NamedTuple
 
-#: The most nodes of a policy, and the most of them one below another.
-MAX_NODES = 256
+__all__ = ["FOLDS", "Item", "MAX_DEPTH", "NODES", "Node", "parts_of"]
+
+#: The most nodes of a policy that lie one below another.
 MAX_DEPTH = 32
 
 

@@ -5,9 +5,10 @@ from __future__ import annotations
 import ast
 import operator
 import re
-from typing import Any, Callable, Dict, Iterable, List, NamedTuple, NoReturn, Type, Union
+from typing import Any, Callable, Dict, Iterable, List, NoReturn, Type, Union
 
 from .._time import milliseconds
+from .._values import NamedTuple
 from ..errors import Fault, PolicyError
 from . import builders
 from .nodes import MAX_DEPTH, NODES

@@ -34,6 +34,7 @@ class Plan(PolicyHandle):
 
     _text: Optional[str] = None
     _tree: Any = None
+    _reads: Optional[Tuple[Tuple[int, ...], bool]] = None
 
     @classmethod
     def of_text(cls, text: bytes) -> Plan:
@@ -74,6 +75,11 @@ class Plan(PolicyHandle):
 
             self._tree = json.loads(self.text)
         return self._tree
+
+    def reads(self) -> Tuple[Tuple[int, ...], bool]:
+        if self._reads is None:
+            self._reads = PolicyHandle.reads(self)
+        return self._reads
 
 
 def _written(value: Any) -> str:

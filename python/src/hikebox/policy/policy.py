@@ -8,7 +8,7 @@ from typing import TYPE_CHECKING, Any, Callable, Dict, Iterable, List, Optional,
 from .._time import Duration, seconds
 from ..errors import Fault, PolicyError, shown
 from .checks import interval, ratio, whole
-from .nodes import FOLDS, MAX_DEPTH, MAX_NODES
+from .nodes import FOLDS, MAX_DEPTH
 from .plan import Plan
 from .preview import Step, played
 
@@ -36,15 +36,13 @@ class Policy:
     recurs(5) & exponential(0.1, 2).cap(1)
     """
 
-    __slots__ = ("_plan", "_node", "_nodes", "_depth", "_reads", "__weakref__")
+    __slots__ = ("_plan", "_node", "_nodes", "__weakref__")
 
     #: What the engine has of it, once that is needed.
     _plan: Optional[Plan]
     #: Its topmost node, where a builder made it: the name, the parameters, and the policies under it.
     _node: Optional[Tuple[str, Tuple[Any, ...], Optional[Policy], Optional[Policy]]]
     _nodes: int
-    _depth: int
-    _reads: Optional[Tuple[Tuple[int, ...], bool]]
 
     def __init__(self, *_: Any, **__: Any) -> None:
         raise TypeError("a policy is made by a builder, as recurs(5), or by Policy.from_json, from_dict or from_file")
@@ -52,8 +50,7 @@ class Policy:
     @classmethod
     def _of_plan(cls, plan: Plan) -> Policy:
         policy = object.__new__(cls)
-        policy._plan, policy._node, policy._reads = plan, None, None
-        policy._nodes, policy._depth, _ = plan.size()
+        policy._plan, policy._node, policy._nodes = plan, None, plan.size()[0]
         return policy
 
     @staticmethod
@@ -62,19 +59,14 @@ class Policy:
     ) -> Policy:
         """The policy of a node, with parameters that were looked at, over other policies: for builders."""
         policy = _new(Policy)
-        policy._plan = policy._reads = None
+        policy._plan = None
         policy._node = (name, own, first, second)
         if first is None:
-            policy._nodes = policy._depth = 1
+            policy._nodes = 1
             return policy
-        nodes, depth = first._nodes + 1, first._depth + 1
-        if second is not None:
-            nodes += second._nodes
-            if second._depth >= depth:
-                depth = second._depth + 1
-        policy._nodes, policy._depth = nodes, depth
-        if nodes > MAX_NODES or depth > MAX_DEPTH:
-            policy.plan  # (the engine says what is wrong)
+        nodes = policy._nodes = first._nodes + 1 + (0 if second is None else second._nodes)
+        if nodes > MAX_DEPTH:
+            policy.plan  # (which the engine refuses where it is too deep, or has too many nodes)
         return policy
 
     @classmethod
@@ -232,9 +224,7 @@ class Policy:
     def reads(self) -> Tuple[Tuple[int, ...], bool]:
         """The lanes by which its nodes pick at random, and whether one of them reads the code of a failure, as the
         engine says."""
-        if self._reads is None:
-            self._reads = self.plan.reads()
-        return self._reads
+        return self.plan.reads()
 
     def preview(
         self,

@@ -95,13 +95,8 @@ def run(owner: BaseRetrying, fn: Callable[..., Any], args: Any, kwargs: Any) -> 
         if settings.is_quiet:
             if settings.deposit is not None:
                 settings.deposit()
-            elif settings.asks_limit:
-                place = settings.finds_quiet and settings.finds_quiet()
-                if place is not None:
-                    tells_success = place.look
-                else:
-                    request = settings.drawing()
-                    refusal, tells_success = request.admit(), request.succeeded
+            elif (ask := settings.asks_first) is not None:
+                place, request, refusal, tells_success = ask()
         if refusal is not None or not settings.is_quiet:
             progress = Progress(owner, fn, args, kwargs, start, deadline, request, refusal)
             driven = steps(progress)
@@ -180,13 +175,8 @@ async def run_async(owner: BaseRetrying, fn: Callable[..., Any], args: Any, kwar
         if settings.is_quiet:
             if settings.deposit is not None:
                 settings.deposit()
-            elif settings.asks_limit:
-                place = settings.finds_quiet and settings.finds_quiet()
-                if place is not None:
-                    tells_success = place.look
-                else:
-                    request = settings.drawing()
-                    refusal, tells_success = request.admit(), request.succeeded
+            elif (ask := settings.asks_first) is not None:
+                place, request, refusal, tells_success = ask()
         if refusal is not None or not settings.is_quiet:
             progress = Progress(owner, fn, args, kwargs, start, deadline, request, refusal)
             driven = steps(progress)

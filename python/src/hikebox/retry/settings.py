@@ -5,10 +5,10 @@ from __future__ import annotations
 from functools import lru_cache
 from typing import TYPE_CHECKING, Any, Callable, Dict, Generic, Iterable, List, Optional, Tuple, Type, TypeVar
 
-from .._engine.limits import Place
 from .._time import MAX_NUMBER
 from ..budgets.passes import Grants
 from ..limits import CallLimit
+from ..limits.limit import Asked
 from ..policy import Policy
 from ..policy.plan import Plan
 from .deadline import Deadline
@@ -80,8 +80,8 @@ class Settings(HasOptions):
     #: Whether nothing is to be done before a first attempt but to count it or to ask the limit, nor where it succeeds
     #: but to tell that.
     is_quiet: bool
-    #: What finds such a limit quiet before such an attempt, where it can be.
-    finds_quiet: Optional[Callable[[], Optional[Place]]]
+    #: What asks such a limit before such an attempt.
+    asks_first: Optional[Callable[[], Asked]]
     #: Whether `retry_after` or `wait` may ask for a longer wait.
     asks: bool
     #: Whether something may take time between a failure and its wait.
@@ -128,8 +128,9 @@ class Settings(HasOptions):
         self.asks = self.retry_after is not None or self.wait is not None
         looks = self.on_result is not None or self.slow_millis is not None
         self.is_quiet = not (self.repeats or self.hooks_before or self.hooks_on_success or looks)
-        limit = self.limit
-        self.finds_quiet = limit.quiet if self.is_quiet and isinstance(limit, CallLimit) and limit.rests else None
+        limit, self.asks_first = self.limit, None
+        if isinstance(limit, CallLimit):
+            self.asks_first = limit.look_or_ask if limit.rests else limit.ask
         self.draws_elsewhere = self.drawing is not None and not self.asks_limit
         self.takes_time = bool(self.hooks_after or self.asks or self.draws_elsewhere or self.stop is not None)
         may_end = self.stop is not None or self.deadline_millis is not None

@@ -7,11 +7,11 @@ import itertools
 import operator
 import sys
 import threading
-from typing import TYPE_CHECKING, Any, Callable, Dict, Mapping, NamedTuple, Optional, Tuple
+from typing import TYPE_CHECKING, Any, Callable, Dict, Mapping, Optional, Tuple
 
 from .._forks import begins_anew_in_a_child
 from .._time import MAX_NUMBER
-from .._values import dataclass
+from .._values import NamedTuple, dataclass
 from ..budgets.tickets import Refusal
 from .deadline import Deadline
 

@@ -5,7 +5,7 @@ from __future__ import annotations
 from typing import Any, Dict, List, NamedTuple, Optional, Tuple, Union
 
 from .._engine.calls import ON_BUDGET, ON_QUOTA
-from .._engine.structs import Phase, Population, Storm
+from .._engine.storms import Phase, Population, Storm
 from ..budgets.terms import Terms
 from ..errors import StormError, shown
 from ..policy import Policy

@@ -7,7 +7,7 @@ from dataclasses import dataclass
 from typing import Any, Dict, Iterable, Iterator, List, NamedTuple, Optional, Sequence, Tuple, Union
 
 from .._engine.calls import MAX_TICKETS
-from .._engine.handles import Totals, play_storm
+from .._engine.storms import Totals, play_storm
 from .._time import Duration, seconds as in_milliseconds
 from ..budget import Budget
 from ..errors import PolicyError, StormError, shown
