@@ -32,13 +32,12 @@ impl Coded for Outage {
     }
 }
 
-// A call that is pending for some polls, and is then answered or not; `starves` says that memory is refused instead.
+// A call that is pending for some polls, and is then answered or not.
 #[derive(Drop)]
 pub(super) struct Calls {
     pending: u32,
     left: u32,
     outages: u32,
-    starves: bool,
     runs: Vec<Ran>,
 }
 
@@ -51,18 +50,8 @@ impl Calls {
             pending,
             left: pending,
             outages,
-            starves: false,
             runs: Vec::new(alloc),
         }
-    }
-
-    // A call whose first poll says that memory is wanting.
-    pub(super) fn starving(alloc: Global) -> Calls
-        ensures { result.runs.items ≡ [] }
-    {
-        let mut calls = Calls::new(alloc, 0, 1);
-        calls.starves = true;
-        calls
     }
 }
 
@@ -81,9 +70,6 @@ impl Effect for Calls {
         if self.left > 0 {
             self.left -= 1;
             return Poll::Pending;
-        }
-        if self.starves {
-            return Poll::Ready(Err(NoMemory));
         }
         self.left = self.pending;
         if self.outages > 0 {
@@ -165,57 +151,6 @@ impl Fallback<Calls> for Cache {
                 Poll::Ready(Ok(Err(Outage { after })))
             }
         }
-    }
-
-    fn asked(&self) -> Option<(Millis, &Val)> {
-        match &self.asked {
-            Some((code, output)) => Some((*code, output)),
-            None => None,
-        }
-    }
-
-    fn answered(&self) -> Option<Ran> {
-        self.answered
-    }
-}
-
-// A fallback for scripted effects that has its answer at once.
-#[derive(Drop)]
-pub(super) struct Spare {
-    alloc: Global,
-    code: Millis,
-    asked: Option<(Millis, Val)>,
-    answered: Option<Ran>,
-}
-
-impl Spare {
-    pub(super) fn new(alloc: Global, code: Millis) -> Spare {
-        Spare {
-            alloc,
-            code,
-            asked: None,
-            answered: None,
-        }
-    }
-}
-
-impl Fallback<Scripted> for Spare {
-    ghost asked = { λ spare. spare.asked };
-
-    ghost answered = { λ spare. spare.answered };
-
-    fn poll_fallback(
-        &mut self,
-        fault: &Code,
-        output: &Val,
-        _cx: &mut Context<'_>,
-    ) -> Poll<Result<Result<Code, Code>, NoMemory>> {
-        let Ok(output) = output.copy(self.alloc) else {
-            return Poll::Ready(Err(NoMemory));
-        };
-        self.asked = Some((fault.code(), output));
-        self.answered = Some(Ran::Won(self.code));
-        Poll::Ready(Ok(Ok(Code(self.code))))
     }
 
     fn asked(&self) -> Option<(Millis, &Val)> {

@@ -1,6 +1,5 @@
 // The page docs/RATTLE.md as code.
 use super::calls::{Cache, Calls};
-use super::plays::drawing_and_fallback;
 use super::*;
 
 // Five more tries, after 100, 200, 400 and then 500 milliseconds each, made up to a fifth shorter or longer.
@@ -23,8 +22,13 @@ fn retry_a_call(rt: HostRuntime) {
     let retry = RetryOr::new(alloc, calls, driver, OnBudget::new(pass, &budget), cache);
     let mut retry = finish(&rt, retry);
     assert_refused(&rt, &mut retry);
-    let (drawing, _) = drawing_and_fallback(retry);
-    assert_eq!(rt; drawing.granted(), 4);
+    assert_eq!(rt; granted(retry), 4);
+}
+
+// How many tickets were granted by what the retry drew on.
+fn granted<X: Effect, D: Draws, F: Fallback<X>>(retry: RetryOr<X, D, F>) -> u64 {
+    let (_, _, drawing, _) = retry.into_parts();
+    drawing.granted()
 }
 
 // The budget refused a fifth ticket, and the cache answered.
