@@ -15,7 +15,6 @@ use std::random::RandomSource;
 use std::sync::Wait;
 
 mod answers;
-mod calls;
 mod closures;
 mod draws;
 mod guide;

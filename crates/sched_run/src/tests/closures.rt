@@ -1,15 +1,14 @@
 //! Closures at their calls. Most give the number of their call, so that a test sees which call an ending is of; the
 //! helpers answer what came of it, so that a test holds few values.
 ghost use Rattle.std.specs.Prelude.{◌≡◌, ⊤, [], IfOk};
-ghost use Rattle.sched_ticket.specs.Held.{IsOf};
 ghost use Rattle.sched_driver_stepper.specs.Standing.{standing_after};
 
+use super::{budget, moment};
 use sched_closure::{CallEnding, RepeatCallEnding, repeat_call, retry_call};
 use sched_driver_stepper::Stepper;
 use sched_plan::{Plan, PlanFault};
 use sched_run_machine::{Drives, Machine};
 use sched_task::{Clock, How, MidWords, RunFault, VirtualClock};
-use sched_ticket::{Budget, Pass};
 use sched_ticket_draws::{Draws, OnBudget, Quiet};
 use sched_time::{Millis, Moment, NoMemory};
 use std::alloc::{AllocGlobal, Global};
@@ -22,10 +21,6 @@ mod deadlines;
 
 // So many calls are not made in a test.
 const NEVER: u32 = u32::MAX;
-
-fn moment(rt: &impl Abort, at: u64) -> Moment {
-    Moment::new(at).expect(rt, "the moment is in range")
-}
 
 fn clock_at(rt: &impl Abort, at: u64) -> VirtualClock {
     VirtualClock::at(moment(rt, at))
@@ -50,32 +45,14 @@ fn spaced(alloc: Global, recurs: u64) -> Result<Plan, PlanFault> {
     Plan::meet(alloc, Plan::recurs(recurs)?, Plan::spaced(100)?)
 }
 
-fn budget(rt: &impl Abort, alloc: Global, limit: u64) -> (Budget, Pass)
-    ensures { IsOf result.0 result.1 }
-{
-    Budget::new(alloc, limit).expect(rt, "the limit is in range")
-}
-
 // What came of a closure that gives the number of its call: how it ended, what the last call gave, how many were made,
 // and the moment after them.
-#[derive(Clone, Copy, Debug, PartialEq)]
-struct Came {
-    how: How,
-    gave: Result<u32, u32>,
-    calls: u32,
-    now: u64,
-}
+type Came = (How, Result<u32, u32>, u32, u64);
 
 // Asserts that so it came.
 fn assert_came(rt: &impl Abort, came: Came, how: How, gave: Result<u32, u32>, now: u64) {
     let (Ok(calls) | Err(calls)) = gave;
-    let want = Came {
-        how,
-        gave,
-        calls,
-        now,
-    };
-    assert_eq!(rt; came, want);
+    assert_eq!(rt; came, (how, gave, calls, now));
 }
 
 // Asserts how many tickets the retry was granted.
@@ -107,12 +84,8 @@ where
             Ok(calls)
         }
     });
-    let came = Came {
-        how: ending.how(),
-        gave: ending.into_result(),
-        calls,
-        now: clock.now().get(),
-    };
+    let how = ending.how();
+    let came = (how, ending.into_result(), calls, clock.now().get());
     (came, retry.expect(rt, "the first call failed"))
 }
 

@@ -21,7 +21,7 @@ use std::sync::Wait;
 const LATE: u32 = 9;
 
 // A call at a moment, of a closure that fails so often with this code, and then succeeds.
-#[derive(Clone, Copy, Debug)]
+#[derive(Clone, Copy)]
 struct Call {
     at: u64,
     failures: u32,
@@ -30,12 +30,7 @@ struct Call {
 
 // What is to come of it: how it ended, where its first call was admitted, how many calls it made, and why the limit
 // refused last.
-#[derive(Clone, Copy, Debug, PartialEq)]
-struct Came {
-    how: Option<How>,
-    calls: u32,
-    refusal: Option<Refusal>,
-}
+type Came = (Option<How>, u32, Option<Refusal>);
 
 fn moment(at: u64) -> Moment {
     match Moment::new(at.min(FAR)) {
@@ -95,14 +90,7 @@ fn called<L: Asks>(
     };
     let (_, limit) = retry.into_parts();
     let refusal = limit.refusal();
-    (
-        Came {
-            how,
-            calls,
-            refusal,
-        },
-        limit,
-    )
+    ((how, calls, refusal), limit)
 }
 
 // Makes the calls, one after another, of which this is to come.
@@ -115,33 +103,21 @@ fn calls<L: Asks>(
         let (at, failures, code, want) = *entry;
         let (got, after) = called(rt, limit, Call { at, failures, code });
         limit = after;
-        assert!(rt; got == want, "{place}: {got:?} in the place of {want:?}");
+        assert_eq!(rt; got, want, "call {place}");
     }
     limit
 }
 
 fn won(calls: u32, refusal: Option<Refusal>) -> Came {
-    Came {
-        how: Some(How::Won),
-        calls,
-        refusal,
-    }
+    (Some(How::Won), calls, refusal)
 }
 
 fn refused(calls: u32, refusal: Refusal) -> Came {
-    Came {
-        how: Some(How::BudgetRefused),
-        calls,
-        refusal: Some(refusal),
-    }
+    (Some(How::BudgetRefused), calls, Some(refusal))
 }
 
 fn not_admitted(refusal: Refusal) -> Came {
-    Came {
-        how: None,
-        calls: 0,
-        refusal: Some(refusal),
-    }
+    (None, 0, Some(refusal))
 }
 
 fn bucket(rt: &impl Abort, alloc: Global, bucket: Bucket) -> OnLimit<Bucket> {

@@ -4,7 +4,7 @@ use futures::task::Context;
 
 // An action that ends one way in each of its first runs, and the other way in the one with this number.
 #[derive(Drop)]
-struct Tries {
+pub(super) struct Tries {
     runs: u64,
     turn: u64,
     wins: bool,
@@ -12,7 +12,7 @@ struct Tries {
 
 impl Tries {
     // Fails until this run, which succeeds.
-    fn winning(turn: u64) -> Tries {
+    pub(super) fn winning(turn: u64) -> Tries {
         Tries {
             runs: 0,
             turn,
@@ -54,10 +54,10 @@ impl Action for Tries {
 }
 
 // How a task ended, and the value that its ending holds.
-type Told = (&'static str, u64);
+pub(super) type Told = (&'static str, u64);
 
 // A task of tries.
-trait Hands: Task {
+pub(super) trait Hands: Task {
     // What its ending holds, where that is an item or a fault. The ending is taken.
     fn handed(&mut self) -> Option<Told>;
 }
@@ -110,11 +110,22 @@ fn retry_hands_out_the_last_value(rt: HostRuntime) {
 // A fallback that answers with a hundred more than the value of the fault that it is asked with: an item where it
 // spares one, else a fault.
 #[derive(Drop)]
-struct Hundred {
+pub(super) struct Hundred {
     alloc: Global,
     spares: bool,
     asked: Option<(Millis, Val)>,
     answered: Option<Ran>,
+}
+
+impl Hundred {
+    pub(super) fn new(alloc: Global, spares: bool) -> Hundred {
+        Hundred {
+            alloc,
+            spares,
+            asked: None,
+            answered: None,
+        }
+    }
 }
 
 impl Fallback<Call<Tries>> for Hundred {
@@ -173,12 +184,7 @@ where
     let alloc = rt.alloc();
     let (budget, pass) = budget(rt, alloc, 100);
     let driver = driver(rt, alloc, Plan::recurs(2));
-    let hundred = Hundred {
-        alloc,
-        spares,
-        asked: None,
-        answered: None,
-    };
+    let hundred = Hundred::new(alloc, spares);
     let calls = Call::new(alloc, tries);
     let drawing = OnBudget::new(pass, &budget);
     let retry = RetryOr::new(alloc, calls, driver, drawing, hundred);

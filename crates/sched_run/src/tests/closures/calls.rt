@@ -2,6 +2,7 @@ ghost use Rattle.std.specs.Prelude.{◌≡◌, ⊤, [], IfOk};
 ghost use Rattle.sched_driver_stepper.specs.Standing.{standing_after};
 
 use super::*;
+use sched_ticket::Budget;
 use sched_ticket_draws::Unlimited;
 
 // What steps so many recurrences, and a pass with no tickets.

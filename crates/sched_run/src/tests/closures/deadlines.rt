@@ -2,6 +2,7 @@ ghost use Rattle.sched_ticket.specs.Held.{IsOf};
 
 use super::*;
 use sched_run_machine::Until;
+use sched_ticket::{Budget, Pass};
 
 // The retry, until a deadline, of a closure that never succeeds, by fifty recurrences and this pass of the budget.
 fn drawn_until<'a>(
