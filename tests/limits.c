@@ -488,12 +488,13 @@ static uint64_t race(hikebox_limit *limit, uint64_t now) {
     return granted;
 }
 
-// Of 100,000 tokens eight threads draw each once; what is in flight is none in the end; a breaker whose time is over has
-// one probe, and that draws once; and a throttle counts each request once.
+// Of 100,000 tokens eight threads draw each once; what is in flight is none in the end, nor of an adaptive limit, whose
+// level stays; a breaker whose time is over has one probe, and that draws once; and a throttle counts each request once.
 static void races(void) {
     hikebox_bucket terms = {sizeof terms, 100000, 0, 0, 0, false};
     hikebox_breaker one = {sizeof one, 1, 1, 1000000, 0};
-    hikebox_limit limit = HIKEBOX_INIT, beside = HIKEBOX_INIT;
+    hikebox_adaptive two = {sizeof two, 2, 2, 2, 500};
+    hikebox_limit limit = HIKEBOX_INIT, beside = HIKEBOX_INIT, last = HIKEBOX_INIT;
     wants(hikebox_bucket_new(&terms, &limit), HIKEBOX_OK);
     holds(race(&limit, 0) == 100000);
     wants(hikebox_limit_free(&limit), HIKEBOX_OK);
@@ -505,6 +506,17 @@ static void races(void) {
     draws(&limit, 0, 0, HIKEBOX_RETRIES_FULL, 0);
     admits(&beside, 0, HIKEBOX_OK, 0);
     draws(&limit, 0, 0, HIKEBOX_OK, 0);
+    wants(hikebox_limit_free(&beside), HIKEBOX_OK);
+    wants(hikebox_limit_free(&limit), HIKEBOX_OK);
+
+    wants(hikebox_adaptive_new(&two, &limit), HIKEBOX_OK);
+    holds(race(&limit, 0) <= (uint64_t)THREADS * TIMES);
+    wants(hikebox_limit_split(&limit, &beside), HIKEBOX_OK);
+    wants(hikebox_limit_split(&limit, &last), HIKEBOX_OK);
+    admits(&limit, 0, HIKEBOX_OK, 0);
+    admits(&beside, 0, HIKEBOX_OK, 0);
+    admits(&last, 0, HIKEBOX_REQUESTS_FULL, 0);
+    wants(hikebox_limit_free(&last), HIKEBOX_OK);
     wants(hikebox_limit_free(&beside), HIKEBOX_OK);
     wants(hikebox_limit_free(&limit), HIKEBOX_OK);
 

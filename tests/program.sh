@@ -96,6 +96,12 @@ wants 0 '0: 10 next 15\n15: 20 next 45\n45: 30 next 90\n' '' plan --steps 3 --wo
 input '{"feed":["identity",{"gate":["input",true,"below",9,"elapsed"]}]}'
 wants 0 '5: 0 next 5\n' '' plan --steps 1 --from 5 --input 8
 wants 0 '5: 0 done\n' '' plan --from 5 --input 9
+# Rows worked out by hand: what is printed of plans and of jobs on a quota, and what is told of texts.
+while IFS='|' read -r words status text output line; do
+  input "$text"
+  # shellcheck disable=SC2086
+  wants "$status" "$output" "$line" $words
+done < <(grep -v '^#' "$top/tests/printed.txt")
 helps --help
 helps plan --help
 helps pool --help
@@ -148,8 +154,59 @@ bad "invalid value '4294967297' for '--budget <N>': 4294967297 is not in 0..=429
 bad "invalid value '4294967297' for '--turns <N>': 4294967297 is not in 0..=4294967296" pool --turns 4294967297
 bad .. pool --steps 1
 bad .. check --steps 1
+while read -r words; do
+  # shellcheck disable=SC2086
+  bad .. $words
+done <<'END'
+plans
+--steps 1
+plan file file
+plan --version
+plan --steps
+plan --steps 4097
+plan --steps -1
+plan --steps 1.5
+plan --steps ten
+plan --steps 1 --steps 2
+plan --from 4611686018427387904
+plan --took 4611686018427387904
+plan --input 4611686018427387904
+plan --input 18446744073709551616
+plan --word 4294967296
+plan --word -1
+plan --inputs 1,,2
+plan --inputs 1,4611686018427387904
+plan --inputs 1 --input 1
+plan --inputs 1 --inputs 2
+plan --words 18446744073709551616
+plan --words 1 --word 2147483648
+pool --inputs 1
+pool --words 1
+plan --workers 1
+pool --workers 0
+pool --budget 4294967297
+pool --turns 4294967297
+pool --turns -1
+pool --turns
+pool --quota 1/2
+pool --quota 1/2/300/4
+pool --quota 1//300
+pool --quota a/2/300
+pool --quota 4294967297/2/300
+pool --quota 1/1000001/300
+pool --quota 1/2/99
+pool --quota 1/2%/300
+pool --quota 1/2/3s
+pool --quota 1/0.55%/3s
+pool --quota 1/2%/99ms
+pool --quota 1/2/4611686018427387904
+pool --quota 1/2/300 --budget 100
+pool --quota 1/2/300 --workers 2
+END
 bad 'a word is not UTF-8' plan --from $'\xff'
-{ printf '"forever"'; head -c 1048568 /dev/zero | tr '\0' ' '; } >"$work/in"
+{ printf '"forever"'; head -c 1048567 /dev/zero | tr '\0' ' '; } >"$work/in"
+wants 0 '0: 0 next 0\n' '' plan --steps 1
+printf ' ' >>"$work/in"
 wants 3 '' 'zsched: input too long\n' plan
 input ''
 refuses 'not JSON' 'not JSON: line 1, column 1: the text is empty' plan

@@ -1,4 +1,3 @@
 mod driver;
-mod plan;
-mod record;
 mod step;
+mod values;

@@ -1,4 +1,4 @@
-//! Boards, their workers and what is taken back.
+//! Boards, their workers and what is taken back; and one worker by itself.
 ghost use Rattle.std.specs.Prelude.{◌≡◌, [], None, IfSome};
 ghost use Rattle.sched_pool.specs.Held.{IsOf};
 ghost use Rattle.sched_pool.specs.Past.{nothing_yet};
@@ -10,12 +10,11 @@ use sched_pool::{
 use std::alloc::Global;
 use std::process::Abort;
 
-mod boards;
 mod calls;
 mod gates;
 mod pools;
-mod stops;
 mod watchers;
+mod worker;
 mod works;
 
 // A retry of the effect by the plan, with a pass that is split off.

@@ -6,26 +6,20 @@ use futures::executor::block_on;
 use futures::task::Poll;
 use futures::test::MockTask;
 use sched_driver::Driver;
-use sched_plan::{Plan, PlanFault, Val};
+use sched_plan::{Plan, PlanFault};
 use sched_ticket::{Budget, Pass};
-use sched_time::{Millis, Moment, NoMemory, Tick};
+use sched_time::{Millis, Moment, Tick};
 use std::alloc::{AllocGlobal, Global};
 use std::process::Abort;
 use std::random::RandomSource;
 use std::sync::Wait;
 
 mod answers;
-mod calls;
-mod deadlines;
+mod closures;
 mod draws;
 mod guide;
-mod plays;
+mod limits;
 mod polls;
-mod repeats;
-mod retries;
-mod retries_or;
-mod shows;
-mod steps;
 mod values;
 
 fn moment(rt: &impl Abort, at: u64) -> Moment {
@@ -104,11 +98,4 @@ fn assert_moments(rt: &impl Abort, begun: &[Moment], want: &[u64]) {
     for (begin, at) in begun.iter().zip(want) {
         assert_eq!(rt; begin.get(), *at);
     }
-}
-
-// The number that a value is.
-fn number_of(rt: &impl Abort, alloc: Global, value: Option<&Val>, want: &str) {
-    let value = value.expect(rt, "there is a value");
-    let text = value.text(alloc).expect(rt, "there is memory");
-    assert_eq!(rt; text.as_str(), want);
 }

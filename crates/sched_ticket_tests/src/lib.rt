@@ -1,8 +1,7 @@
-//! Tests of `sched_ticket` by its public calls alone, and examples of its theorem. They stand apart so that they are
-//! proved without a second proof of that library.
+//! Tests of `sched_ticket`, `sched_ticket_quota` and `sched_ticket_lease` by their public calls alone: what the tests in
+//! C (`tests/library.c`, `tests/leases.c`) do not do. They stand apart so that they are proved without a second proof of
+//! those libraries.
 #![tactic(auto)]
 
-pub mod locked;
 #[cfg(test)]
 mod tests;
-pub mod workers;

@@ -69,3 +69,35 @@ impl Write for Stuck {
         Ok(())
     }
 }
+
+/// A reader of these bytes, one a call.
+#[derive(Drop)]
+pub(crate) struct Slow<'a>(pub(crate) &'a [u8]);
+
+impl Read for Slow<'_> {
+    fn read(&mut self, buf: &mut [u8]) -> io::Result<usize> {
+        let (Some((first, rest)), Some(place)) = (self.0.split_first(), buf.first_mut()) else {
+            return Ok(0);
+        };
+        *place = *first;
+        self.0 = rest;
+        Ok(1)
+    }
+}
+
+/// A writer that takes all, and counts its calls.
+#[derive(Drop)]
+pub(crate) struct Whole {
+    pub(crate) calls: u64,
+}
+
+impl Write for Whole {
+    fn write(&mut self, buf: &[u8]) -> io::Result<usize> {
+        self.calls = self.calls.saturating_add(1);
+        Ok(buf.len())
+    }
+
+    fn flush(&mut self) -> io::Result<()> {
+        Ok(())
+    }
+}

@@ -16,12 +16,13 @@ fn stops(rt: &impl Abort, alloc: Global, stop: &Stop, wanted: (&str, u8)) {
 }
 
 // Asserts what is told of what these words do, and with which status it ends: nothing and 0 where it stops at no fault.
-fn tells<R, S: Read + Drop, W: Write + Drop>(
+// Gives the writer back.
+pub(super) fn tells<R, S: Read + Drop, W: Write + Drop>(
     rt: &R,
     line: &str,
     streams: (S, W),
     wanted: (&str, u8),
-)
+) -> W
 where
     R: Threads + Wait + RandomSource + AllocGlobal + Sync + Abort,
 {
@@ -33,6 +34,7 @@ where
         Ok(()) => assert_eq!(rt; ("", 0), wanted, "{line}"),
         Err(stop) => stops(rt, alloc, &stop, wanted),
     }
+    writer.into_inner()
 }
 
 // Command lines with an input, what is told of it, and the status.

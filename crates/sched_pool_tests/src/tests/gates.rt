@@ -1,34 +1,8 @@
-//! Two jobs on a thread each, with gates that tell that both threads run.
+//! Two jobs on a thread each, with a gate that tells that both threads run.
 use super::pools::total;
 use super::*;
 use sched_pool::Gate;
 use std::sync::atomic::{AtomicBool, Ordering};
-
-// Holds up job 0 until job 1 was polled.
-#[derive(Drop)]
-struct AfterOne {
-    polled: AtomicBool,
-}
-
-impl Gate for AfterOne {
-    fn ready(&self, job: usize) -> bool {
-        job != 0 || self.polled.load(Ordering::SeqCst)
-    }
-
-    fn polled(&self, job: usize) {
-        if job == 1 {
-            self.polled.store(true, Ordering::SeqCst);
-        }
-    }
-}
-
-#[test]
-fn one_waits_for_the_other(rt: HostRuntime) {
-    let gate = AfterOne {
-        polled: AtomicBool::new(false),
-    };
-    assert_eq!(rt; total(&rt, rt.alloc(), 100, (2, 2), &gate), 6);
-}
 
 // Each of jobs 0 and 1, where it is first asked for, looks for the other one to have begun.
 #[derive(Drop)]

@@ -1,9 +1,9 @@
-//! Pools on threads of their own, and their totals.
+//! Pools on threads of their own.
 ghost use Rattle.std.specs.Prelude.{◌≡◌};
 ghost use Rattle.sched_pool.specs.Held.{IsOf};
 
 use super::*;
-use sched_pool::{Gate, OpenGate};
+use sched_pool::Gate;
 use std::alloc::AllocGlobal;
 use std::marker::Brand;
 use std::random::RandomSource;
@@ -52,20 +52,4 @@ where
     let (pass, granted) = runs_all::<_, Brand, _>(rt, alloc, &budget, pass, size.0, size.1, gate);
     assert_eq!(rt; budget.close(pass).ok(), Some(granted));
     granted
-}
-
-// 4,096 jobs want 12,288.
-#[test]
-fn tickets_are_spent_to_the_last(rt: HostRuntime) {
-    for limit in [0, 5, 10_000] {
-        assert_eq!(rt; total(&rt, rt.alloc(), limit, (4096, 16), &OpenGate), limit);
-    }
-}
-
-// 16 jobs want 48 tickets, and 20 are there.
-#[test]
-fn the_same_total_each_time(rt: HostRuntime) {
-    for _ in 0..200u32 {
-        assert_eq!(rt; total(&rt, rt.alloc(), 20, (16, 16), &OpenGate), 20);
-    }
 }

@@ -108,17 +108,8 @@ where
     seen && cancelled
 }
 
-// Two threads read the job, while this one cancels it.
-fn two_read<R, N: Naming + Send + Sync>(rt: &R, board: &Board<'_, Stuck, N>, gate: &Noting) -> bool
-where
-    R: Threads + Wait + Abort + Sync,
-{
-    let (seen, others) = join(rt, move || reads(rt, board), || one_reads(rt, board, gate));
-    seen && others
-}
-
 // The one share of a board.
-fn one_share<X: Effect, N: Naming>(
+pub(super) fn one_share<X: Effect, N: Naming>(
     rt: &impl Abort,
     alloc: Global,
     board: &mut Board<'_, X, N>,
@@ -149,7 +140,7 @@ fn stuck_board<'a, N: Naming>(
     board
 }
 
-// A worker polls the job, while two threads watch it and one cancels it. Tells how far it got, and what they saw.
+// A worker polls the job, while one thread watches it and another cancels it. Tells how far it got, and what they saw.
 fn works_watched<R, N: Naming + Send + Sync>(
     rt: &R,
     board: &Board<'_, Stuck, N>,
@@ -173,7 +164,7 @@ where
                 .work(rt, &mut share, &mut station, noting, 100_000_000)
                 .finish
         },
-        || two_read(rt, board, noting),
+        || one_reads(rt, board, noting),
     );
     (finish, seen)
 }

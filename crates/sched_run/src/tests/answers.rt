@@ -1,6 +1,4 @@
 //! Runs that are futures.
-use super::plays::play_retry;
-use super::shows::{Counts, Step, Told};
 use super::*;
 use futures::Future;
 use futures::task::Context;
@@ -51,20 +49,23 @@ impl FutureAction for Server {
 }
 
 // A run that is pending goes on at the next poll. One that ends is listed once, and the next is started at its time.
+fn runs_twice<R, X: Effect, D: Draws>(rt: &R, mut retry: Retry<X, D>)
+where
+    R: RandomSource + AllocGlobal + Abort,
+{
+    for at in [1, 2, 3, 103, 104] {
+        assert!(rt; !poll(rt, &mut retry, at), "it goes on at {at}");
+    }
+    assert!(rt; poll(rt, &mut retry, 105), "it is over");
+    assert_eq!(rt; retry.over(), Some(How::Won));
+    assert_moments(rt, retry.begun(), &[1, 103]);
+    assert_eq!(rt; retry.effect().runs().len(), 2);
+}
+
 #[test]
 fn run_is_a_future(rt: HostRuntime) {
-    let steps = [
-        Step::Goes(1),
-        Step::Goes(2),
-        Step::Waits(3, 103),
-        Step::Goes(103),
-        Step::Goes(104),
-        Step::Ends(105),
-        Step::Over(How::Won),
-        Step::Counts(Counts::of(2, 1, 1)),
-        Step::Begun(&[1, 103]),
-        Step::Tells(Told::Won(200)),
-    ];
-    let call = FutureCall::new(rt.alloc(), Server { asked: 0 });
-    play_retry(&rt, call, Plan::spaced(100), 5, &steps);
+    let alloc = rt.alloc();
+    let call = FutureCall::new(alloc, Server { asked: 0 });
+    let driver = driver(&rt, alloc, Plan::spaced(100));
+    runs_twice(&rt, Retry::new(alloc, call, driver, Unlimited::new()));
 }

@@ -1,6 +1,5 @@
 // The page docs/RATTLE.md as code.
-use super::calls::{Cache, Calls};
-use super::plays::drawing_and_fallback;
+use super::values::{Hands, Hundred, Tries};
 use super::*;
 
 // Five more tries, after 100, 200, 400 and then 500 milliseconds each, made up to a fifth shorter or longer.
@@ -18,24 +17,26 @@ fn retry_a_call(rt: HostRuntime) {
     let (budget, mut all) = budget(&rt, alloc, 4);
     let pass = all.split(&budget).expect(&rt, "passes are left");
     let driver = driver(&rt, alloc, back_off(alloc));
-    let calls = Calls::new(alloc, 1, 9);
-    let cache = Cache::new(alloc, 0, Some(Ok(203)));
+    let calls = Call::new(alloc, Tries::winning(99));
+    let cache = Hundred::new(alloc, true);
     let retry = RetryOr::new(alloc, calls, driver, OnBudget::new(pass, &budget), cache);
     let mut retry = finish(&rt, retry);
     assert_refused(&rt, &mut retry);
-    let (drawing, _) = drawing_and_fallback(retry);
-    assert_eq!(rt; drawing.granted(), 4);
+    assert_eq!(rt; granted(retry), 4);
 }
 
-// The budget refused a fifth ticket, and the cache answered.
-fn assert_refused<D: Draws>(rt: &impl Abort, retry: &mut RetryOr<Calls, D, Cache>) {
+// How many tickets were granted by what the retry drew on.
+fn granted<X: Effect, D: Draws, F: Fallback<X>>(retry: RetryOr<X, D, F>) -> u64 {
+    let (_, _, drawing, _) = retry.into_parts();
+    drawing.granted()
+}
+
+// The budget refused a fifth ticket, and the cache answered the fifth failure.
+fn assert_refused<D: Draws>(rt: &impl Abort, retry: &mut RetryOr<Call<Tries>, D, Hundred>) {
     assert_eq!(rt; retry.over(), Some(How::BudgetRefused));
     assert_eq!(rt; retry.granted(), 4);
     assert_moments(rt, retry.begun(), &[0, 100, 300, 700, 1200]);
-    match retry.take_ending() {
-        Some(RetryOrEnding::Fallen(Ok(reply))) => assert_eq!(rt; reply.body, "cached"),
-        _ => assert!(rt; false, "another ending"),
-    }
+    assert_eq!(rt; retry.handed(), Some(("fallen", 105)));
 }
 
 // Goes on while the status is 202, a second after it.

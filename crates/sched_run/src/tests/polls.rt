@@ -1,8 +1,6 @@
 //! A run is polled once in each poll of its task.
 ghost use Rattle.std.specs.Prelude.{◌≡◌, [], None};
 
-use super::plays::{play_repeat, play_retry, play_retry_or};
-use super::shows::Step;
 use super::*;
 use futures::task::Context;
 use std::sync::Arc;
@@ -79,37 +77,44 @@ fn counter(rt: &impl Abort, alloc: Global) -> Arc<AtomicU64, Global> {
     Arc::new(alloc, AtomicU64::new(0)).expect(rt, "there is memory")
 }
 
-// Three polls, each of which polls the effect that counts here, and once.
-fn each_once(polls: &AtomicU64) -> [Step<'_>; 6] {
-    [
-        Step::Goes(1),
-        Step::Polled(polls, 1),
-        Step::Goes(2),
-        Step::Polled(polls, 2),
-        Step::Goes(3),
-        Step::Polled(polls, 3),
-    ]
+// Three polls of the task, each of which polls the effect that counts here, and once.
+fn each_once<R, T: Task>(rt: &R, mut task: T, polls: &AtomicU64)
+where
+    R: RandomSource + AllocGlobal + Abort,
+{
+    for at in [1, 2, 3] {
+        assert!(rt; !poll(rt, &mut task, at), "it goes on at {at}");
+        assert_eq!(rt; polls.load(Ordering::SeqCst), at);
+    }
 }
 
 #[test]
 fn retry_polls_once(rt: HostRuntime) {
-    let polls = counter(&rt, rt.alloc());
-    let stuck = Stuck::new(&rt, rt.alloc(), &polls);
-    play_retry(&rt, stuck, Plan::forever(), 1, &each_once(&polls));
+    let alloc = rt.alloc();
+    let polls = counter(&rt, alloc);
+    let stuck = Stuck::new(&rt, alloc, &polls);
+    let driver = driver(&rt, alloc, Plan::forever());
+    let retry = Retry::new(alloc, stuck, driver, Unlimited::new());
+    each_once(&rt, retry, &polls);
 }
 
 #[test]
 fn retry_or_polls_once(rt: HostRuntime) {
-    let polls = counter(&rt, rt.alloc());
-    let both = (Stuck::new(&rt, rt.alloc(), &polls), Barren);
-    play_retry_or(&rt, both, Plan::forever(), 1, &each_once(&polls));
+    let alloc = rt.alloc();
+    let polls = counter(&rt, alloc);
+    let stuck = Stuck::new(&rt, alloc, &polls);
+    let driver = driver(&rt, alloc, Plan::forever());
+    let retry = RetryOr::new(alloc, stuck, driver, Unlimited::new(), Barren);
+    each_once(&rt, retry, &polls);
 }
 
 #[test]
 fn repeat_polls_once(rt: HostRuntime) {
-    let polls = counter(&rt, rt.alloc());
-    let stuck = Stuck::new(&rt, rt.alloc(), &polls);
-    play_repeat(&rt, stuck, Plan::forever(), &each_once(&polls));
+    let alloc = rt.alloc();
+    let polls = counter(&rt, alloc);
+    let stuck = Stuck::new(&rt, alloc, &polls);
+    let repeat = Repeat::new(alloc, stuck, driver(&rt, alloc, Plan::forever()));
+    each_once(&rt, repeat, &polls);
 }
 
 // The same of a future, whose task is a repeat.

@@ -1,11 +1,10 @@
 //! An ending hands out the very item or fault that the last run gave: here all have one code, and their values differ.
-use super::shows::Told;
 use super::*;
 use futures::task::Context;
 
 // An action that ends one way in each of its first runs, and the other way in the one with this number.
 #[derive(Drop)]
-struct Tries {
+pub(super) struct Tries {
     runs: u64,
     turn: u64,
     wins: bool,
@@ -13,7 +12,7 @@ struct Tries {
 
 impl Tries {
     // Fails until this run, which succeeds.
-    fn winning(turn: u64) -> Tries {
+    pub(super) fn winning(turn: u64) -> Tries {
         Tries {
             runs: 0,
             turn,
@@ -54,22 +53,23 @@ impl Action for Tries {
     }
 }
 
+// How a task ended, and the value that its ending holds.
+pub(super) type Told = (&'static str, u64);
+
 // A task of tries.
-trait Hands: Task {
-    // What its ending holds, by its value, where that is an item or a fault. The ending is taken.
+pub(super) trait Hands: Task {
+    // What its ending holds, where that is an item or a fault. The ending is taken.
     fn handed(&mut self) -> Option<Told>;
 }
 
 impl<D: Draws, A: Aims> Hands for Rerun<Call<Tries>, D, Driver, A> {
     fn handed(&mut self) -> Option<Told> {
         match self.take_ending() {
-            Some(Ending::Won(item)) => Some(Told::Won(item.value)),
-            Some(Ending::Failed(fault)) => Some(Told::Lost(How::Failed, fault.value)),
-            Some(Ending::ScheduleDone(Ok(item))) => Some(Told::Won(item.value)),
-            Some(Ending::ScheduleDone(Err(fault))) => {
-                Some(Told::Lost(How::ScheduleDone, fault.value))
-            }
-            Some(Ending::BudgetRefused(fault)) => Some(Told::Lost(How::BudgetRefused, fault.value)),
+            Some(Ending::Won(item)) => Some(("won", item.value)),
+            Some(Ending::Failed(fault)) => Some(("failed", fault.value)),
+            Some(Ending::ScheduleDone(Ok(item))) => Some(("done", item.value)),
+            Some(Ending::ScheduleDone(Err(fault))) => Some(("done by a failure", fault.value)),
+            Some(Ending::BudgetRefused(fault)) => Some(("refused", fault.value)),
             _ => None,
         }
     }
@@ -101,21 +101,31 @@ where
 
 #[test]
 fn retry_hands_out_the_last_value(rt: HostRuntime) {
-    retry_hands(&rt, Tries::winning(3), 5, 100, Told::Won(3));
-    let done = Told::Lost(How::ScheduleDone, 3);
+    retry_hands(&rt, Tries::winning(3), 5, 100, ("won", 3));
+    let done = ("done by a failure", 3);
     retry_hands(&rt, Tries::winning(99), 2, 100, done);
-    let refused = Told::Lost(How::BudgetRefused, 2);
-    retry_hands(&rt, Tries::winning(99), 5, 1, refused);
+    retry_hands(&rt, Tries::winning(99), 5, 1, ("refused", 2));
 }
 
 // A fallback that answers with a hundred more than the value of the fault that it is asked with: an item where it
 // spares one, else a fault.
 #[derive(Drop)]
-struct Hundred {
+pub(super) struct Hundred {
     alloc: Global,
     spares: bool,
     asked: Option<(Millis, Val)>,
     answered: Option<Ran>,
+}
+
+impl Hundred {
+    pub(super) fn new(alloc: Global, spares: bool) -> Hundred {
+        Hundred {
+            alloc,
+            spares,
+            asked: None,
+            answered: None,
+        }
+    }
 }
 
 impl Fallback<Call<Tries>> for Hundred {
@@ -158,9 +168,9 @@ impl Fallback<Call<Tries>> for Hundred {
 impl<D: Draws> Hands for RetryOr<Call<Tries>, D, Hundred> {
     fn handed(&mut self) -> Option<Told> {
         match self.take_ending() {
-            Some(RetryOrEnding::Won(item)) => Some(Told::Won(item.value)),
-            Some(RetryOrEnding::Fallen(Ok(item))) => Some(Told::Fallen(Ok(item.value))),
-            Some(RetryOrEnding::Fallen(Err(fault))) => Some(Told::Fallen(Err(fault.value))),
+            Some(RetryOrEnding::Won(item)) => Some(("won", item.value)),
+            Some(RetryOrEnding::Fallen(Ok(item))) => Some(("fallen", item.value)),
+            Some(RetryOrEnding::Fallen(Err(fault))) => Some(("fallen to a failure", fault.value)),
             _ => None,
         }
     }
@@ -174,12 +184,7 @@ where
     let alloc = rt.alloc();
     let (budget, pass) = budget(rt, alloc, 100);
     let driver = driver(rt, alloc, Plan::recurs(2));
-    let hundred = Hundred {
-        alloc,
-        spares,
-        asked: None,
-        answered: None,
-    };
+    let hundred = Hundred::new(alloc, spares);
     let calls = Call::new(alloc, tries);
     let drawing = OnBudget::new(pass, &budget);
     let retry = RetryOr::new(alloc, calls, driver, drawing, hundred);
@@ -188,9 +193,10 @@ where
 
 #[test]
 fn retry_or_hands_out_the_last_value(rt: HostRuntime) {
-    retry_or_hands(&rt, Tries::winning(2), true, Told::Won(2));
-    retry_or_hands(&rt, Tries::winning(99), true, Told::Fallen(Ok(103)));
-    retry_or_hands(&rt, Tries::winning(99), false, Told::Fallen(Err(103)));
+    retry_or_hands(&rt, Tries::winning(2), true, ("won", 2));
+    retry_or_hands(&rt, Tries::winning(99), true, ("fallen", 103));
+    let fallen = ("fallen to a failure", 103);
+    retry_or_hands(&rt, Tries::winning(99), false, fallen);
 }
 
 #[test]
@@ -199,7 +205,7 @@ fn repeat_hands_out_the_last_value(rt: HostRuntime) {
     let driver = driver(&rt, alloc, Plan::recurs(5));
     let calls = Call::new(alloc, Tries::losing(3));
     let repeat = Repeat::new(alloc, calls, driver);
-    assert_hands(&rt, repeat, Told::Lost(How::Failed, 3));
+    assert_hands(&rt, repeat, ("failed", 3));
 }
 
 #[test]
@@ -208,5 +214,5 @@ fn repeat_that_is_done_hands_out_its_last_item(rt: HostRuntime) {
     let driver = driver(&rt, alloc, Plan::recurs(2));
     let calls = Call::new(alloc, Tries::losing(99));
     let repeat = Repeat::new(alloc, calls, driver);
-    assert_hands(&rt, repeat, Told::Won(3));
+    assert_hands(&rt, repeat, ("done", 3));
 }

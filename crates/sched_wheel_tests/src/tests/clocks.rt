@@ -43,23 +43,6 @@ fn an_early_answer_is_waited_on(rt: HostRuntime) {
     assert_polled(&rt, &tasks[0], &[0, 100, 200]);
 }
 
-#[test]
-fn a_clock_may_jump_to_the_last_moment(rt: HostRuntime) {
-    let mut tasks = [pausing(&rt, rt.alloc(), 3, 100)];
-    let mut clock = Stepping {
-        at: moment(&rt, 0),
-        step: millis(&rt, 4611686018427387903),
-        waits: 0,
-    };
-    runs(&rt, &mut tasks, &mut clock, 1000, Ok(4));
-    assert_eq!(rt; clock.waits, 1);
-    assert_polled(
-        &rt,
-        &tasks[0],
-        &[0, 4611686018427387903, 4611686018427387903],
-    );
-}
-
 // Tells these moments, one at each call of either kind, and then the last there is; it notes what is waited for.
 #[derive(Drop)]
 struct Telling {

@@ -4,13 +4,6 @@ use sched_wheel::LoopStop;
 use std::alloc::Global;
 use std::process::Abort;
 
-#[test]
-fn no_task_takes_no_turn(rt: HostRuntime) {
-    let mut tasks: [Paced; 0] = [];
-    let mut clock = VirtualClock::at(moment(&rt, 0));
-    runs(&rt, &mut tasks, &mut clock, 0, Ok(0));
-}
-
 // Three polls and two waits.
 #[test]
 fn turns_are_polls_and_waits(rt: HostRuntime) {
@@ -54,14 +47,6 @@ fn each_of_many_waits_for_its_own_moment(rt: HostRuntime) {
     for (pause, task) in (1..=100).zip(tasks.iter()) {
         assert_polled(&rt, task, &[0, pause]);
     }
-}
-
-#[test]
-fn a_moment_may_be_the_last_one(rt: HostRuntime) {
-    let mut tasks = [pausing(&rt, rt.alloc(), 2, 4611686018427387903)];
-    let mut clock = VirtualClock::at(moment(&rt, 0));
-    runs(&rt, &mut tasks, &mut clock, 9, Ok(3));
-    assert_polled(&rt, &tasks[0], &[0, 4611686018427387903]);
 }
 
 // What waits for nothing uses up all turns by polls; what was over is not polled.

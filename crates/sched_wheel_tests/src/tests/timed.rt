@@ -75,30 +75,3 @@ fn a_task_that_waits_is_polled_at_the_clocks_answer(rt: HostRuntime) {
     let task = Paced::new(rt.alloc(), 3, Some(millis(&rt, 100)));
     ends(&rt, task, 7, MidWords, How::Won, &polls);
 }
-
-#[test]
-fn what_is_over_is_given_at_its_first_poll(rt: HostRuntime) {
-    let mut task = Paced::new(rt.alloc(), 9, None);
-    task.cancel();
-    ends(&rt, task, 0, MidWords, How::Cancelled, &[]);
-}
-
-#[test]
-fn a_virtual_clock_never_goes_back(rt: HostRuntime) {
-    let mut clock = VirtualClock::at(moment(&rt, 50));
-    assert_eq!(rt; clock.now().get(), 50);
-    for until in [60, 10] {
-        let woke = clock.wait_until(moment(&rt, until)).get();
-        assert_eq!(rt; (until, woke, clock.now().get()), (until, 60, 60));
-    }
-}
-
-#[test]
-fn mid_words_are_the_middle(rt: HostRuntime) {
-    let mut rng = MidWords;
-    assert_eq!(rt; rng.next_u32(), 2147483648);
-    assert_eq!(rt; rng.next_u64(), 9223372039002259456);
-    let mut bytes = [1; 6];
-    rng.fill_bytes(&mut bytes);
-    assert_eq!(rt; bytes, [0, 0, 0, 128, 0, 0]);
-}

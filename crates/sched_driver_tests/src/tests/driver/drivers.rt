@@ -1,6 +1,5 @@
 use super::*;
-use sched_driver::{DriverCell, MAX_EVENTS};
-use std::sync::Wait;
+use sched_driver::MAX_EVENTS;
 
 // Drives a new driver of three recurrences 100 milliseconds apart to its third start.
 fn drive(rt: &impl Abort, alloc: Global, driver: &mut Driver) {
@@ -58,68 +57,11 @@ fn all_of_it(rt: &impl Abort, alloc: Global, mut driver: Driver) {
     assert_reset(rt, alloc, &driver);
 }
 
-// The same with one lock for each half, and with the driver out of its cell at the end.
-fn through_a_cell(rt: &(impl Abort + Wait), alloc: Global, driver: Driver) {
-    let cell = DriverCell::new(driver);
-    drive(rt, alloc, &mut cell.enter(rt));
-    reset(rt, alloc, &mut cell.enter(rt));
-    assert_reset(rt, alloc, &cell.into_driver());
-}
-
 #[test]
 fn driver_steps_its_plan_and_begins_again(rt: HostRuntime) {
     let alloc = rt.alloc();
-    let plan = spaced_recurs(&rt, alloc);
-    all_of_it(&rt, alloc, driver_of(&rt, alloc, copied(&rt, alloc, &plan)));
+    let plan = copied(&rt, alloc, &spaced_recurs(&rt, alloc));
     all_of_it(&rt, alloc, driver_of(&rt, alloc, plan));
-}
-
-#[test]
-fn cell_leads_to_its_driver(rt: HostRuntime) {
-    let alloc = rt.alloc();
-    let plan = spaced_recurs(&rt, alloc);
-    through_a_cell(&rt, alloc, driver_of(&rt, alloc, copied(&rt, alloc, &plan)));
-    through_a_cell(&rt, alloc, driver_of(&rt, alloc, plan));
-}
-
-fn nine(rt: &impl Abort) -> Val {
-    Val::num(9).expect(rt, "the number is in range")
-}
-
-// Asserts that one more event, with an input and words of its own, is done with this output.
-fn is_done(rt: &impl Abort, alloc: Global, driver: &mut Driver, output: &str) {
-    let tick = Tick {
-        now: moment(rt, 7),
-        words: [1, 2, 3, 4],
-    };
-    assert_eq!(rt; driver.next(alloc, tick, nine(rt)), Ok(Decision::Done));
-    assert!(rt; driver.next_start().is_none());
-    assert_last(rt, alloc, driver, output);
-}
-
-// Asserts that the journal has so many of these events.
-fn assert_kept(rt: &impl Abort, journal: &[Event], events: usize) {
-    assert_eq!(rt; journal.len(), events);
-    for event in journal {
-        assert_eq!(rt; event.now, moment(rt, 7));
-        assert_eq!(rt; event.words, [1, 2, 3, 4]);
-        assert!(rt; event.input.same(&nine(rt)));
-    }
-}
-
-// Asserts that each of two such events is done, and kept.
-fn is_done_twice(rt: &impl Abort, alloc: Global, mut driver: Driver) {
-    is_done(rt, alloc, &mut driver, "0");
-    assert_kept(rt, driver.journal(), 1);
-    is_done(rt, alloc, &mut driver, "1");
-    assert_kept(rt, driver.journal(), 2);
-}
-
-#[test]
-fn steps_after_done_and_keeps_what_it_was_given(rt: HostRuntime) {
-    let alloc = rt.alloc();
-    let none = Plan::recurs(0).expect(&rt, "it is in range");
-    is_done_twice(&rt, alloc, driver_of(&rt, alloc, none));
 }
 
 // Asserts what the full journal of a driver of `forever` refuses.

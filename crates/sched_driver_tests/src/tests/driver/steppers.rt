@@ -65,14 +65,6 @@ fn begins_again(rt: &impl Abort, alloc: Global, stepper: &mut Stepper) {
     assert!(rt; stepper.plan().same(&spaced_recurs(rt, alloc)));
 }
 
-#[test]
-fn stepper_steps_its_plan_and_begins_again(rt: HostRuntime) {
-    let alloc = rt.alloc();
-    let mut stepper = stepper_of(&rt, alloc, spaced_recurs(&rt, alloc));
-    steps_once(&rt, alloc, &mut stepper);
-    begins_again(&rt, alloc, &mut stepper);
-}
-
 // Two recurrences, 100 milliseconds apart: the gate reads a part of a part of an output, which no record tells.
 fn nested(rt: &impl Abort, alloc: Global) -> Plan {
     let spaced = Plan::spaced(100).expect(rt, "it is in range");
@@ -90,15 +82,6 @@ fn goes_on_twice(rt: &impl Abort, alloc: Global, stepper: &mut Stepper) {
     steps_to(rt, alloc, stepper, 150, 250);
     assert_eq!(rt; step(rt, alloc, stepper, 250), Ok(Decision::Done));
     assert_stands(rt, stepper, 250, None);
-}
-
-#[test]
-fn stepper_steps_a_plan_that_reads_a_part_of_a_part(rt: HostRuntime) {
-    let alloc = rt.alloc();
-    let mut stepper = stepper_of(&rt, alloc, nested(&rt, alloc));
-    goes_on_twice(&rt, alloc, &mut stepper);
-    stepper.reset();
-    goes_on_twice(&rt, alloc, &mut stepper);
 }
 
 // A stepper of this compiled plan.

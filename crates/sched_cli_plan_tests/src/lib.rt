@@ -1,6 +1,0 @@
-//! Tests of `sched_cli_plan` by its public calls alone. They stand apart so that they are proved without a second proof
-//! of that library.
-#![tactic(auto)]
-
-#[cfg(test)]
-mod tests;

@@ -1,6 +1,0 @@
--- The loop keeps a share of the claims.
-use Rattle.sched_pool_claim.specs.Portion.{IsPartOf}
-use Rattle.sched_pool_worker_tests.proofs.tests.plays.play_share.Given as goal
-
-abbrev pub invariant-loop-step : goal.invariant-loop-step
-invariant-loop-step g l = IsPartOf l.claims l.share

@@ -1,6 +1,0 @@
-//! Tests of `sched_storm` and `sched_calendar` by their public calls alone. They stand apart so that they are proved
-//! without a second proof of those libraries.
-#![tactic(auto)]
-
-#[cfg(test)]
-mod tests;

@@ -1,6 +1,0 @@
--- The loop keeps a pass of the quota.
-use Rattle.sched_ticket_quota.specs.Held.{IsOf}
-use Rattle.sched_ticket_quota_tests.proofs.tests.passes.split_and_join.Given as goal
-
-abbrev pub invariant-loop : goal.invariant-loop
-invariant-loop g l = IsOf l.quota l.pass
