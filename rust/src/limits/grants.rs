@@ -1,14 +1,17 @@
 //! What retries draw on.
 
 use crate::clock::Moment;
+use crate::engine::Status;
 #[cfg(feature = "leased")]
 use crate::leased::{Leased, LeasedQuota};
 use crate::limits::asked::{Asked, Quiet};
 use crate::limits::budget::Budget;
 use crate::limits::call_limit::{Admitted, CallLimit};
+use crate::limits::lender::{Begun, Lender};
 use crate::limits::quota::Quota;
 use crate::limits::refused::Refused;
 use crate::limits::ticket::{NoTicket, Ticket};
+use crate::policy::Policy;
 use std::convert::Infallible;
 use std::fmt;
 use std::sync::Arc;
@@ -181,7 +184,8 @@ pub trait Tickets: Send + Sync {
 }
 
 mod sealed {
-    use super::{Admitted, Arc, Asked, CallLimit, Infallible, Moment, Quiet, Refused, Source, Ticket};
+    use super::{Admitted, Arc, Asked, Begun, CallLimit, Infallible, Lender, Moment, Policy, Quiet, Refused};
+    use super::{Source, Status, Ticket, Tickets};
     use std::error::Error;
 
     /// What a retry draws on, and by which clock.
@@ -194,8 +198,15 @@ mod sealed {
             None
         }
 
-        /// A request is made at this moment: a quota, or a store, counts it.
-        fn count_request(&self, _now: Moment) {}
+        /// The store that is asked for each retry, if it is one.
+        fn store(&self) -> Option<&dyn Tickets> {
+            None
+        }
+
+        /// A request is made: a quota, or a store, counts it. The moment of that, where it looked at the clock.
+        fn count_request(&self, _clock: &dyn Fn() -> Moment) -> Option<Moment> {
+            None
+        }
 
         /// Whether it is told of successes.
         fn hears_of_successes(&self) -> bool {
@@ -208,6 +219,17 @@ mod sealed {
         /// Moment 0 of a retry that began then, in milliseconds: of a quota it is the one on the quota's clock.
         fn origin(&self, _began: Moment) -> u64 {
             0
+        }
+
+        /// A retry by this policy is put here, where none is, with a deadline or `NO_DEADLINE`.
+        fn begin(&self, policy: &Policy, deadline: u64, retry: &mut Begun) -> Result<(), Status> {
+            Lender::begin_on_nothing(policy, deadline, retry)
+        }
+
+        /// Takes back what a retry has, which is over or dropped: whether it waits for a run that never began, or has
+        /// succeeded.
+        fn end(&self, retry: &mut Begun, _waits: bool, _won: bool) {
+            Lender::end_on_nothing(retry);
         }
     }
 
@@ -295,46 +317,15 @@ pub enum Source {
     Unlimited,
 }
 
-impl Limit for Source {
-    fn source(&self) -> Source {
-        self.clone()
-    }
-
-    fn call_limit(&self) -> Option<&CallLimit> {
+impl Source {
+    #[inline(never)]
+    pub(crate) fn get(&self) -> &dyn Limit {
         match self {
-            Self::CallLimit(limit) => Some(limit),
-            Self::Budget(_) | Self::Quota(_) | Self::Store(_) | Self::Unlimited => None,
-        }
-    }
-
-    fn count_request(&self, now: Moment) {
-        match self {
-            Self::Quota(quota) => quota.count_request(now),
-            Self::Store(store) => store.deposit(),
-            Self::Budget(_) | Self::CallLimit(_) | Self::Unlimited => (),
-        }
-    }
-
-    fn count_success(&self, last: Option<Ticket>, clock: &dyn Fn() -> Moment) {
-        match self {
-            Self::Quota(quota) => quota.count_success(last, clock),
-            Self::Store(store) => store.succeeded(last),
-            Self::Budget(_) | Self::CallLimit(_) | Self::Unlimited => (),
-        }
-    }
-
-    fn hears_of_successes(&self) -> bool {
-        match self {
-            Self::Quota(quota) => quota.hears_of_successes(),
-            Self::Store(_) => true,
-            Self::Budget(_) | Self::CallLimit(_) | Self::Unlimited => false,
-        }
-    }
-
-    fn origin(&self, began: Moment) -> u64 {
-        match self {
-            Self::Quota(quota) => quota.origin(began),
-            Self::Budget(_) | Self::CallLimit(_) | Self::Store(_) | Self::Unlimited => 0,
+            Self::Budget(budget) => budget,
+            Self::Quota(quota) => quota,
+            Self::CallLimit(limit) => limit,
+            Self::Store(store) => store,
+            Self::Unlimited => &Unlimited,
         }
     }
 }
@@ -343,6 +334,18 @@ impl Limit for Budget {
     fn source(&self) -> Source {
         Source::Budget(self.clone())
     }
+
+    fn begin(&self, policy: &Policy, deadline: u64, retry: &mut Begun) -> Result<(), Status> {
+        self.lend(retry, |lender, retry| lender.begin(policy, deadline, retry))
+    }
+
+    fn end(&self, retry: &mut Begun, _waits: bool, _won: bool) {
+        let ended = self.lend(retry, |lender, retry| {
+            lender.end(retry);
+            Ok(())
+        });
+        debug_assert_eq!(ended, Ok(()));
+    }
 }
 
 impl Limit for Quota {
@@ -350,10 +353,12 @@ impl Limit for Quota {
         Source::Quota(self.clone())
     }
 
-    fn count_request(&self, now: Moment) {
+    fn count_request(&self, clock: &dyn Fn() -> Moment) -> Option<Moment> {
+        let now = clock();
         if !self.counts_successes() {
             self.deposit_by_clock(now);
         }
+        Some(now)
     }
 
     fn hears_of_successes(&self) -> bool {
@@ -368,6 +373,14 @@ impl Limit for Quota {
 
     fn origin(&self, began: Moment) -> u64 {
         self.millis_at(began)
+    }
+
+    fn begin(&self, policy: &Policy, deadline: u64, retry: &mut Begun) -> Result<(), Status> {
+        self.lock().begin(policy, deadline, retry)
+    }
+
+    fn end(&self, retry: &mut Begun, waits: bool, won: bool) {
+        self.ends(retry, waits || (won && self.returns_tickets()));
     }
 }
 
@@ -390,8 +403,13 @@ macro_rules! store {
                 Source::Store(self.clone())
             }
 
-            fn count_request(&self, _now: Moment) {
+            fn store(&self) -> Option<&dyn Tickets> {
+                Some(&**self)
+            }
+
+            fn count_request(&self, _clock: &dyn Fn() -> Moment) -> Option<Moment> {
                 self.deposit();
+                None
             }
 
             fn hears_of_successes(&self) -> bool {
@@ -427,8 +445,12 @@ impl Limit for AnyLimit {
         self.get().source()
     }
 
-    fn count_request(&self, now: Moment) {
-        self.get().count_request(now);
+    fn store(&self) -> Option<&dyn Tickets> {
+        self.get().store()
+    }
+
+    fn count_request(&self, clock: &dyn Fn() -> Moment) -> Option<Moment> {
+        self.get().count_request(clock)
     }
 
     fn hears_of_successes(&self) -> bool {
@@ -441,6 +463,14 @@ impl Limit for AnyLimit {
 
     fn origin(&self, began: Moment) -> u64 {
         self.get().origin(began)
+    }
+
+    fn begin(&self, policy: &Policy, deadline: u64, retry: &mut Begun) -> Result<(), Status> {
+        self.get().begin(policy, deadline, retry)
+    }
+
+    fn end(&self, retry: &mut Begun, waits: bool, won: bool) {
+        self.get().end(retry, waits, won);
     }
 }
 

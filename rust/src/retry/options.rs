@@ -26,10 +26,16 @@ impl Options {
         self.deadline.map(|deadline| Duration::from_millis(whole_millis(deadline)))
     }
 
+    /// Whether somebody wants to know when a run begins.
+    #[inline]
+    pub(crate) fn times_runs(&self) -> bool {
+        self.deadline.is_some() || self.slow.is_some()
+    }
+
     /// Whether a run that began then and succeeded now was slow.
     #[inline]
-    pub(crate) fn was_slow(&self, began: Moment, clock: impl FnOnce() -> Moment) -> bool {
-        self.slow.map_or(false, |slow| clock().since(began) > slow)
+    pub(crate) fn was_slow(&self, began: Option<Moment>, clock: impl FnOnce() -> Moment) -> bool {
+        self.slow.zip(began).map_or(false, |(slow, began)| clock().since(began) > slow)
     }
 
     /// The wait that is granted to an error that asks for this one so long after the first run began; `None` where the

@@ -1,9 +1,11 @@
 //! What a retry goes by, of whatever kind.
 
+use crate::clock::Moment;
 use crate::limits::grants::{Limit, Source};
 use crate::policy::Policy;
 use crate::retry::options::Options;
 use std::borrow::Cow;
+use std::fmt;
 
 /// What a retry goes by.
 #[derive(Clone)]
@@ -18,6 +20,22 @@ pub(crate) struct Rules<'a> {
 pub(crate) enum CowLimit<'a> {
     Borrowed(&'a dyn Limit),
     Owned(Source),
+}
+
+impl CowLimit<'_> {
+    #[inline]
+    pub(crate) fn get(&self) -> &dyn Limit {
+        match self {
+            Self::Borrowed(limit) => *limit,
+            Self::Owned(source) => source.get(),
+        }
+    }
+}
+
+impl fmt::Debug for CowLimit<'_> {
+    fn fmt(&self, f: &mut fmt::Formatter<'_>) -> fmt::Result {
+        self.get().source().fmt(f)
+    }
 }
 
 impl<'a> Rules<'a> {
@@ -40,9 +58,13 @@ impl<'a> Rules<'a> {
     /// What it draws on.
     #[inline]
     pub(crate) fn limit(&self) -> &dyn Limit {
-        match &self.limit {
-            CowLimit::Borrowed(limit) => *limit,
-            CowLimit::Owned(source) => source,
-        }
+        self.limit.get()
+    }
+
+    /// A request is made, which its limit counts: the moment at which, where that or an option wants to know it.
+    #[inline]
+    pub(crate) fn counted(&self, clock: &dyn Fn() -> Moment) -> Option<Moment> {
+        let counted = self.limit().count_request(clock);
+        counted.or_else(|| self.options.times_runs().then(clock))
     }
 }

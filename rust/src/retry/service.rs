@@ -1,11 +1,12 @@
 //! A service with its retries, and a call of it.
 
 use crate::clock::Moment;
-use crate::limits::grants::{Held, Limit, MayRefuse};
+use crate::limits::grants::{Held, MayRefuse};
 use crate::retry::course::Course;
 use crate::retry::layer::{LayerError, RetryLayer, Settings};
 use crate::retry::machine::Ending;
 use crate::retry::progress::Progress;
+use crate::retry::rules::{CowLimit, Rules};
 use ::tokio::time::{sleep, Sleep};
 use pin_project_lite::pin_project;
 use std::fmt;
@@ -84,11 +85,11 @@ pin_project! {
 struct Retries<S: Service<Request>, Request, L: MayRefuse> {
     service: S,
     settings: Arc<Settings<Request, S::Response, S::Error>>,
-    began: Moment,
+    began: Option<Moment>,
     /// What it holds of its limit, until its first run fails.
     held: L::Held,
     /// From then on. Most calls succeed at once, and need no more than the above.
-    progress: Option<Box<Progress>>,
+    progress: Option<Box<Progress<'static>>>,
     /// The request of the next run, if it could be copied.
     next: Option<Request>,
     course: Course,
@@ -100,12 +101,11 @@ impl<S: Service<Request> + Clone, Request, L: LayerError<S::Error>> At<S, Reques
     fn begun(service: &mut S, settings: &Arc<Settings<Request, S::Response, S::Error>>, request: Request) -> Self {
         let mut course = Course::begun(&settings.rules.options);
         let mut held = L::Held::default();
-        if let Err(refused) = L::admit(&settings.source, &mut held) {
-            course.not_admitted(refused.why(), &settings.source);
+        if let Err(refused) = L::admit(settings.rules.limit(), &mut held) {
+            course.not_admitted(refused.why(), settings.rules.limit());
             return Self::NotAdmitted { refused };
         }
-        let began = Moment::now();
-        settings.source.count_request(began);
+        let began = settings.rules.counted(&Moment::now);
         let next = (settings.copy)(&request);
         let run = course.run(|| service.call(request));
         let (service, settings) = (service.clone(), settings.clone());
@@ -138,26 +138,25 @@ impl<S: Service<Request>, Request, L: MayRefuse> Retries<S, Request, L> {
     #[cold]
     fn gave_up(&mut self, ended: Ending) {
         if let Some(progress) = &self.progress {
-            self.course.gave_up(ended, progress, &self.settings.source);
+            self.course.gave_up(ended, progress, self.settings.rules.limit());
         }
     }
 
     #[inline]
     fn succeeded(&mut self) {
         self.course.won();
-        let (source, options) = (&self.settings.source, &self.settings.rules.options);
-        match &mut self.progress {
-            Some(progress) => progress.succeeded(source, options, &Moment::now),
-            None if options.slow.is_none() => self.held.succeeded_at_once(source, &Moment::now),
-            None => Progress::new(self.began, mem::take(&mut self.held)).succeeded(source, options, &Moment::now),
+        let Rules { limit, options, .. } = &self.settings.rules;
+        if self.progress.is_none() && options.slow.is_none() {
+            return self.held.succeeded_at_once(limit.get(), &Moment::now);
         }
+        begun(&mut self.progress, limit, self.began, &mut self.held).succeeded(options, &Moment::now);
     }
 
     #[inline(never)]
     fn failed(&mut self, code: Option<u64>, result: Result<&S::Response, &S::Error>) -> Result<Duration, Ending> {
         let Self { settings, began, held, progress, next, .. } = self;
-        let progress = progress.get_or_insert_with(|| Box::new(Progress::new(*began, mem::take(held))));
-        progress.failed(&settings.source);
+        let progress = begun(progress, &settings.rules.limit, *began, held);
+        progress.failed();
         match (next, code) {
             (Some(_), Some(code)) => settings.wait(progress, code, result),
             _ => Err(Ending::Cancelled),
@@ -244,6 +243,16 @@ impl<S: Service<Request>, Request, L: MayRefuse> At<S, Request, L> {
         }
         None
     }
+}
+
+/// The progress of a call on this limit whose first run began then, holding this.
+fn begun<'p>(
+    progress: &'p mut Option<Box<Progress<'static>>>,
+    limit: &CowLimit<'static>,
+    began: Option<Moment>,
+    held: &mut impl Held,
+) -> &'p mut Progress<'static> {
+    progress.get_or_insert_with(|| Box::new(Progress::new(limit.clone(), began, mem::take(held))))
 }
 
 /// A timer, where there is something to wait for: a timer's tick is a millisecond.
