@@ -318,7 +318,7 @@ pub enum Source {
 }
 
 impl Source {
-    #[inline(never)]
+    #[inline]
     pub(crate) fn get(&self) -> &dyn Limit {
         match self {
             Self::Budget(budget) => budget,

@@ -63,7 +63,7 @@ impl<E, H: Hooked<E>, K: Clock, S, R: Random, T, L: MayRefuse> Retrying<'_, E, (
             course.not_admitted(refused.why(), self.rules.limit());
             return Err(RetryError::NotAdmitted(refused));
         }
-        Ok(self.rules.counted(&|| self.host.clock.moment()))
+        Ok(self.rules.options.counted(self.rules.limit(), &|| self.host.clock.moment()))
     }
 
     /// A request whose first run succeeded.

@@ -1,6 +1,7 @@
 //! The options that retries of all kinds have.
 
 use crate::clock::{whole_millis, Moment};
+use crate::limits::grants::Limit;
 use std::time::Duration;
 
 /// The options of a retry, with what they are unless a builder says otherwise.
@@ -26,10 +27,13 @@ impl Options {
         self.deadline.map(|deadline| Duration::from_millis(whole_millis(deadline)))
     }
 
-    /// Whether somebody wants to know when a run begins.
+    /// A request is made, which this limit counts: the moment at which, where that or an option wants to know it.
     #[inline]
-    pub(crate) fn times_runs(&self) -> bool {
-        self.deadline.is_some() || self.slow.is_some()
+    pub(crate) fn counted(&self, limit: &dyn Limit, clock: &dyn Fn() -> Moment) -> Option<Moment> {
+        match limit.count_request(clock) {
+            None if self.deadline.is_some() || self.slow.is_some() => Some(clock()),
+            counted => counted,
+        }
     }
 
     /// Whether a run that began then and succeeded now was slow.

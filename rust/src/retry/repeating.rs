@@ -264,8 +264,9 @@ impl<T, C: Fn(&T) -> u64, K: Clock, S: AsyncSleep, R: Random> Repeating<'_, T, C
 
 impl<T, C: Fn(&T) -> u64, K: Clock, S, R: Random> Repeating<'_, T, C, Host<K, S, R>> {
     fn begin(&self) -> Progress<'_> {
-        let limit = CowLimit::Borrowed(self.rules.limit());
-        Progress::new(limit, self.rules.counted(&|| self.host.clock.moment()), ())
+        let limit = self.rules.limit();
+        let began = self.rules.options.counted(limit, &|| self.host.clock.moment());
+        Progress::new(CowLimit::Borrowed(limit), began, ())
     }
 
     /// How long it is waited after a run that gave this value now. To the engine each run whose value is not wanted is

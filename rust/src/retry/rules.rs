@@ -1,6 +1,5 @@
 //! What a retry goes by, of whatever kind.
 
-use crate::clock::Moment;
 use crate::limits::grants::{Limit, Source};
 use crate::policy::Policy;
 use crate::retry::options::Options;
@@ -27,9 +26,15 @@ impl CowLimit<'_> {
     pub(crate) fn get(&self) -> &dyn Limit {
         match self {
             Self::Borrowed(limit) => *limit,
-            Self::Owned(source) => source.get(),
+            Self::Owned(source) => owned(source),
         }
     }
+}
+
+/// That of a source, which is seldom: so that the other is told from it by one comparison.
+#[cold]
+fn owned(source: &Source) -> &dyn Limit {
+    source.get()
 }
 
 impl fmt::Debug for CowLimit<'_> {
@@ -59,12 +64,5 @@ impl<'a> Rules<'a> {
     #[inline]
     pub(crate) fn limit(&self) -> &dyn Limit {
         self.limit.get()
-    }
-
-    /// A request is made, which its limit counts: the moment at which, where that or an option wants to know it.
-    #[inline]
-    pub(crate) fn counted(&self, clock: &dyn Fn() -> Moment) -> Option<Moment> {
-        let counted = self.limit().count_request(clock);
-        counted.or_else(|| self.options.times_runs().then(clock))
     }
 }
