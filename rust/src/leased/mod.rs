@@ -360,9 +360,9 @@ impl Limit for LeasedQuota {
         Some(self)
     }
 
-    fn count_request(&self, _clock: &dyn Fn() -> Moment) -> Option<Moment> {
+    fn count_request(&self) -> bool {
         Tickets::deposit(self);
-        None
+        false
     }
 
     fn hears_of_successes(&self) -> bool {

@@ -203,10 +203,13 @@ mod sealed {
             None
         }
 
-        /// A request is made: a quota, or a store, counts it. The moment of that, where it looked at the clock.
-        fn count_request(&self, _clock: &dyn Fn() -> Moment) -> Option<Moment> {
-            None
+        /// A request is made, which a store counts. Whether it is counted at its moment, as by a quota.
+        fn count_request(&self) -> bool {
+            false
         }
+
+        /// A request is made at this moment.
+        fn count_request_at(&self, _now: Moment) {}
 
         /// Whether it is told of successes.
         fn hears_of_successes(&self) -> bool {
@@ -353,12 +356,14 @@ impl Limit for Quota {
         Source::Quota(self.clone())
     }
 
-    fn count_request(&self, clock: &dyn Fn() -> Moment) -> Option<Moment> {
-        let now = clock();
+    fn count_request(&self) -> bool {
+        true
+    }
+
+    fn count_request_at(&self, now: Moment) {
         if !self.counts_successes() {
             self.deposit_by_clock(now);
         }
-        Some(now)
     }
 
     fn hears_of_successes(&self) -> bool {
@@ -407,9 +412,9 @@ macro_rules! store {
                 Some(&**self)
             }
 
-            fn count_request(&self, _clock: &dyn Fn() -> Moment) -> Option<Moment> {
+            fn count_request(&self) -> bool {
                 self.deposit();
-                None
+                false
             }
 
             fn hears_of_successes(&self) -> bool {
@@ -449,8 +454,12 @@ impl Limit for AnyLimit {
         self.get().store()
     }
 
-    fn count_request(&self, clock: &dyn Fn() -> Moment) -> Option<Moment> {
-        self.get().count_request(clock)
+    fn count_request(&self) -> bool {
+        self.get().count_request()
+    }
+
+    fn count_request_at(&self, now: Moment) {
+        self.get().count_request_at(now);
     }
 
     fn hears_of_successes(&self) -> bool {

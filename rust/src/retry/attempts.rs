@@ -7,9 +7,8 @@ use crate::retry::error::RetryError;
 use crate::retry::hooks::Hooked;
 use crate::retry::host::{Host, Random};
 use crate::retry::machine::Ending;
-use crate::retry::progress::{Lost, Progress};
+use crate::retry::progress::{Lent, Lost, Progress};
 use crate::retry::retrying::Retrying;
-use crate::retry::rules::CowLimit;
 use std::mem;
 use std::time::Duration;
 
@@ -52,7 +51,7 @@ impl<E, H: Hooked<E>, K: Clock, S, R: Random, T, L: MayRefuse> Retrying<'_, E, (
     /// The retry whose first run began then, holding this.
     #[inline]
     pub(crate) fn progress(&self, began: Option<Moment>, held: L::Held) -> Progress<'_> {
-        Progress::new(CowLimit::Borrowed(self.rules.limit()), began, held)
+        Progress::new(Lent::Borrowed(self.rules.limit()), began, held)
     }
 
     /// A request begins, which is counted; what it holds of a limit that is asked is put here. The moment at which, where
@@ -63,7 +62,7 @@ impl<E, H: Hooked<E>, K: Clock, S, R: Random, T, L: MayRefuse> Retrying<'_, E, (
             course.not_admitted(refused.why(), self.rules.limit());
             return Err(RetryError::NotAdmitted(refused));
         }
-        Ok(self.rules.options.counted(self.rules.limit(), &|| self.host.clock.moment()))
+        Ok(self.rules.options.counted(self.rules.limit(), || self.host.clock.moment()))
     }
 
     /// A request whose first run succeeded.

@@ -28,12 +28,17 @@ impl Options {
     }
 
     /// A request is made, which this limit counts: the moment at which, where that or an option wants to know it.
-    #[inline]
-    pub(crate) fn counted(&self, limit: &dyn Limit, clock: &dyn Fn() -> Moment) -> Option<Moment> {
-        match limit.count_request(clock) {
-            None if self.deadline.is_some() || self.slow.is_some() => Some(clock()),
-            counted => counted,
+    #[inline(always)]
+    pub(crate) fn counted(&self, limit: &dyn Limit, clock: impl FnOnce() -> Moment) -> Option<Moment> {
+        let is_timed = limit.count_request();
+        if !is_timed && self.deadline.is_none() && self.slow.is_none() {
+            return None;
         }
+        let now = clock();
+        if is_timed {
+            limit.count_request_at(now);
+        }
+        Some(now)
     }
 
     /// Whether a run that began then and succeeded now was slow.

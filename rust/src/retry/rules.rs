@@ -5,6 +5,7 @@ use crate::policy::Policy;
 use crate::retry::options::Options;
 use std::borrow::Cow;
 use std::fmt;
+use std::sync::Arc;
 
 /// What a retry goes by.
 #[derive(Clone)]
@@ -18,7 +19,7 @@ pub(crate) struct Rules<'a> {
 #[derive(Clone)]
 pub(crate) enum CowLimit<'a> {
     Borrowed(&'a dyn Limit),
-    Owned(Source),
+    Owned(Arc<Source>),
 }
 
 impl CowLimit<'_> {
@@ -54,7 +55,7 @@ impl<'a> Rules<'a> {
     /// The same, with a policy and a limit of their own.
     pub(crate) fn into_owned(self) -> Rules<'static> {
         let limit = match self.limit {
-            CowLimit::Borrowed(limit) => limit.source(),
+            CowLimit::Borrowed(limit) => Arc::new(limit.source()),
             CowLimit::Owned(source) => source,
         };
         Rules { policy: Cow::Owned(self.policy.into_owned()), limit: CowLimit::Owned(limit), options: self.options }

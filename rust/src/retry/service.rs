@@ -1,12 +1,11 @@
 //! A service with its retries, and a call of it.
 
 use crate::clock::Moment;
-use crate::limits::grants::{Held, MayRefuse};
+use crate::limits::grants::{Held, Limit, MayRefuse};
 use crate::retry::course::Course;
 use crate::retry::layer::{LayerError, RetryLayer, Settings};
 use crate::retry::machine::Ending;
-use crate::retry::progress::Progress;
-use crate::retry::rules::Rules;
+use crate::retry::progress::{Lent, Progress};
 use ::tokio::time::{sleep, Sleep};
 use pin_project_lite::pin_project;
 use std::fmt;
@@ -115,7 +114,7 @@ impl<S: Service<Request> + Clone, Request, L: MayRefuse> Stage<S, Request, L> {
             course.not_admitted(refused.why(), limit);
             return Self::NotAdmitted { refused };
         }
-        let began = settings.rules.options.counted(limit, &Moment::now);
+        let began = settings.rules.options.counted(limit, Moment::now);
         let next = (settings.copy)(&request);
         let run = course.run(|| service.call(request));
         let (service, settings) = (service.clone(), settings.clone());
@@ -160,13 +159,13 @@ impl<S: Service<Request>, Request, L: MayRefuse> Retries<S, Request, L> {
         if self.progress.is_none() && rules.options.slow.is_none() {
             return self.held.succeeded_at_once(&**limit, &Moment::now);
         }
-        begun(&mut self.progress, rules, self.began, &mut self.held).succeeded(&rules.options, &Moment::now);
+        begun(&mut self.progress, limit, self.began, &mut self.held).succeeded(&rules.options, &Moment::now);
     }
 
     #[inline(never)]
     fn failed(&mut self, code: Option<u64>, result: Result<&S::Response, &S::Error>) -> Result<Duration, Ending> {
         let Self { settings, began, held, progress, next, .. } = self;
-        let progress = begun(progress, &settings.rules, *began, held);
+        let progress = begun(progress, &settings.limit, *began, held);
         progress.failed();
         match (next, code) {
             (Some(_), Some(code)) => settings.wait(progress, code, result),
@@ -265,14 +264,14 @@ impl<S: Service<Request>, Request, L: LayerError<S::Error>> Future for RetryCall
     }
 }
 
-/// The progress of a call by these rules whose first run began then, holding this.
+/// The progress of a call on this limit whose first run began then, holding this.
 fn begun<'p>(
     progress: &'p mut Option<Box<Progress<'static>>>,
-    rules: &Rules<'static>,
+    limit: &Arc<dyn Limit>,
     began: Option<Moment>,
     held: &mut impl Held,
 ) -> &'p mut Progress<'static> {
-    progress.get_or_insert_with(|| Box::new(Progress::new(rules.limit.clone(), began, mem::take(held))))
+    progress.get_or_insert_with(|| Box::new(Progress::new(Lent::Shared(limit.clone()), began, mem::take(held))))
 }
 
 /// A timer, where there is something to wait for: a timer's tick is a millisecond.
