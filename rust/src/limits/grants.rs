@@ -321,7 +321,17 @@ pub enum Source {
 }
 
 impl Source {
-    #[inline]
+    /// The limit, behind a pointer that several have.
+    pub(crate) fn shared(self) -> Arc<dyn Limit> {
+        match self {
+            Self::Budget(budget) => Arc::new(budget),
+            Self::Quota(quota) => Arc::new(quota),
+            Self::CallLimit(limit) => Arc::new(limit),
+            Self::Store(store) => Arc::new(store),
+            Self::Unlimited => Arc::new(Unlimited),
+        }
+    }
+
     pub(crate) fn get(&self) -> &dyn Limit {
         match self {
             Self::Budget(budget) => budget,

@@ -7,8 +7,9 @@ use crate::retry::error::RetryError;
 use crate::retry::hooks::Hooked;
 use crate::retry::host::{Host, Random};
 use crate::retry::machine::Ending;
-use crate::retry::progress::{Lent, Lost, Progress};
+use crate::retry::progress::{Lost, Progress};
 use crate::retry::retrying::Retrying;
+use crate::retry::rules::CowLimit;
 use std::mem;
 use std::time::Duration;
 
@@ -51,7 +52,7 @@ impl<E, H: Hooked<E>, K: Clock, S, R: Random, T, L: MayRefuse> Retrying<'_, E, (
     /// The retry whose first run began then, holding this.
     #[inline]
     pub(crate) fn progress(&self, began: Option<Moment>, held: L::Held) -> Progress<'_> {
-        Progress::new(Lent::Borrowed(self.rules.limit()), began, held)
+        Progress::new(CowLimit::Borrowed(self.rules.limit()), began, held)
     }
 
     /// A request begins, which is counted; what it holds of a limit that is asked is put here. The moment at which, where

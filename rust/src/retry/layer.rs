@@ -1,7 +1,7 @@
 //! A `tower` layer that retries.
 
 use crate::clock::Moment;
-use crate::limits::grants::{Grants, Limit, MayRefuse};
+use crate::limits::grants::{Grants, MayRefuse};
 use crate::limits::refused::Refused;
 use crate::policy::Policy;
 use crate::random;
@@ -115,8 +115,6 @@ type AsksOutcome<A, Response, E> = Option<Arc<dyn Fn(Result<&Response, &E>) -> A
 /// What all requests of a layer have in common.
 pub(super) struct Settings<Request, Response, E> {
     pub(super) rules: Rules<'static>,
-    /// That of the rules, behind one pointer.
-    pub(super) limit: Arc<dyn Limit>,
     pub(super) copy: Copying<Request>,
     when: Asks<E, bool>,
     failed: Asks<Response, bool>,
@@ -142,7 +140,6 @@ impl<Request, Response, E> RetryLayer<Request, Response, E> {
     ) -> RetryLayer<Request, Response, E, G::Refusal> {
         let settings = Settings {
             rules: Rules::new(&policy, &limit).into_owned(),
-            limit: Arc::new(limit),
             copy: Arc::new(copy),
             when: None,
             failed: None,
@@ -274,7 +271,6 @@ impl<Request, Response, E> Clone for Settings<Request, Response, E> {
     fn clone(&self) -> Self {
         Self {
             rules: self.rules.clone(),
-            limit: self.limit.clone(),
             copy: self.copy.clone(),
             when: self.when.clone(),
             failed: self.failed.clone(),

@@ -10,9 +10,8 @@ use crate::limits::refused::RefusalReason;
 use crate::retry::error::RetryError;
 use crate::retry::machine::{Cause, Ending};
 use crate::retry::options::Options;
-use crate::retry::rules::Rules;
+use crate::retry::rules::{CowLimit, Rules};
 use crate::retry::stepped::Stepped;
-use std::fmt;
 use std::sync::Arc;
 use std::time::Duration;
 
@@ -37,17 +36,10 @@ pub(crate) struct Progress<'a> {
     on: On<'a>,
 }
 
-/// The limit of a retry, which whoever makes the call has, or shares.
-pub(crate) enum Lent<'a> {
-    Borrowed(&'a dyn Limit),
-    #[cfg(feature = "tower")]
-    Shared(Arc<dyn Limit>),
-}
-
 /// The limit of a retry, and what it has of that.
 #[derive(Debug)]
 struct On<'a> {
-    limit: Lent<'a>,
+    limit: CowLimit<'a>,
     /// What admitted it, of a limit that was looked at before the first run, until that fails.
     quiet: Option<Quiet>,
     /// The request, of a limit that was asked before the first run: the retry draws by it.
@@ -71,7 +63,7 @@ struct Running {
 impl<'a> Progress<'a> {
     /// One on this limit whose first run begins now, holding this.
     #[inline]
-    pub(crate) fn new(limit: Lent<'a>, began: Option<Moment>, held: impl Held) -> Self {
+    pub(crate) fn new(limit: CowLimit<'a>, began: Option<Moment>, held: impl Held) -> Self {
         let (quiet, request) = held.parted();
         Self { began, run_began: began, running: None, on: On { limit, quiet, request } }
     }
@@ -228,23 +220,6 @@ impl Drop for Progress<'_> {
         if let Some(running) = &mut self.running {
             running.retry.give_back(self.on.limit());
         }
-    }
-}
-
-impl Lent<'_> {
-    #[inline]
-    fn get(&self) -> &dyn Limit {
-        match self {
-            Self::Borrowed(limit) => *limit,
-            #[cfg(feature = "tower")]
-            Self::Shared(limit) => &**limit,
-        }
-    }
-}
-
-impl fmt::Debug for Lent<'_> {
-    fn fmt(&self, f: &mut fmt::Formatter<'_>) -> fmt::Result {
-        self.get().source().fmt(f)
     }
 }
 

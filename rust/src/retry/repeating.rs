@@ -6,8 +6,8 @@ use crate::policy::{Policy, PolicyError};
 use crate::retry::asynchronous::AsyncSleep;
 use crate::retry::host::{Host, Random, Sleep, SystemHost};
 use crate::retry::machine::Ending;
-use crate::retry::progress::{Lent, Lost, Progress};
-use crate::retry::rules::Rules;
+use crate::retry::progress::{Lost, Progress};
+use crate::retry::rules::{CowLimit, Rules};
 use std::error::Error;
 use std::fmt;
 use std::future::Future;
@@ -266,7 +266,7 @@ impl<T, C: Fn(&T) -> u64, K: Clock, S, R: Random> Repeating<'_, T, C, Host<K, S,
     fn begin(&self) -> Progress<'_> {
         let limit = self.rules.limit();
         let began = self.rules.options.counted(limit, || self.host.clock.moment());
-        Progress::new(Lent::Borrowed(limit), began, ())
+        Progress::new(CowLimit::Borrowed(limit), began, ())
     }
 
     /// How long it is waited after a run that gave this value now. To the engine each run whose value is not wanted is

@@ -1,6 +1,6 @@
 //! What a retry goes by, of whatever kind.
 
-use crate::limits::grants::{Limit, Source};
+use crate::limits::grants::Limit;
 use crate::policy::Policy;
 use crate::retry::options::Options;
 use std::borrow::Cow;
@@ -19,7 +19,7 @@ pub(crate) struct Rules<'a> {
 #[derive(Clone)]
 pub(crate) enum CowLimit<'a> {
     Borrowed(&'a dyn Limit),
-    Owned(Arc<Source>),
+    Owned(Arc<dyn Limit>),
 }
 
 impl CowLimit<'_> {
@@ -27,15 +27,9 @@ impl CowLimit<'_> {
     pub(crate) fn get(&self) -> &dyn Limit {
         match self {
             Self::Borrowed(limit) => *limit,
-            Self::Owned(source) => owned(source),
+            Self::Owned(limit) => &**limit,
         }
     }
-}
-
-/// That of a source, which is seldom: so that the other is told from it by one comparison.
-#[cold]
-fn owned(source: &Source) -> &dyn Limit {
-    source.get()
 }
 
 impl fmt::Debug for CowLimit<'_> {
@@ -55,8 +49,8 @@ impl<'a> Rules<'a> {
     /// The same, with a policy and a limit of their own.
     pub(crate) fn into_owned(self) -> Rules<'static> {
         let limit = match self.limit {
-            CowLimit::Borrowed(limit) => Arc::new(limit.source()),
-            CowLimit::Owned(source) => source,
+            CowLimit::Borrowed(limit) => limit.source().shared(),
+            CowLimit::Owned(limit) => limit,
         };
         Rules { policy: Cow::Owned(self.policy.into_owned()), limit: CowLimit::Owned(limit), options: self.options }
     }

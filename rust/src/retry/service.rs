@@ -1,11 +1,12 @@
 //! A service with its retries, and a call of it.
 
 use crate::clock::Moment;
-use crate::limits::grants::{Held, Limit, MayRefuse};
+use crate::limits::grants::{Held, MayRefuse};
 use crate::retry::course::Course;
 use crate::retry::layer::{LayerError, RetryLayer, Settings};
 use crate::retry::machine::Ending;
-use crate::retry::progress::{Lent, Progress};
+use crate::retry::progress::Progress;
+use crate::retry::rules::{CowLimit, Rules};
 use ::tokio::time::{sleep, Sleep};
 use pin_project_lite::pin_project;
 use std::fmt;
@@ -109,7 +110,7 @@ impl<S: Service<Request> + Clone, Request, L: MayRefuse> Stage<S, Request, L> {
     fn begun(service: &mut S, settings: &Arc<Settings<Request, S::Response, S::Error>>, request: Request) -> Self {
         let mut course = Course::begun(&settings.rules.options);
         let mut held = L::Held::default();
-        let limit = &*settings.limit;
+        let limit = settings.rules.limit();
         if let Err(refused) = L::admit(limit, &mut held) {
             course.not_admitted(refused.why(), limit);
             return Self::NotAdmitted { refused };
@@ -148,24 +149,24 @@ impl<S: Service<Request>, Request, L: MayRefuse> Retries<S, Request, L> {
     #[cold]
     fn gave_up(&mut self, ended: Ending) {
         if let Some(progress) = &self.progress {
-            self.course.gave_up(ended, progress, &*self.settings.limit);
+            self.course.gave_up(ended, progress, self.settings.rules.limit());
         }
     }
 
     #[inline]
     fn succeeded(&mut self) {
         self.course.won();
-        let Settings { rules, limit, .. } = &*self.settings;
-        if self.progress.is_none() && rules.options.slow.is_none() {
-            return self.held.succeeded_at_once(&**limit, &Moment::now);
+        let Rules { limit, options, .. } = &self.settings.rules;
+        if self.progress.is_none() && options.slow.is_none() {
+            return self.held.succeeded_at_once(limit.get(), &Moment::now);
         }
-        begun(&mut self.progress, limit, self.began, &mut self.held).succeeded(&rules.options, &Moment::now);
+        begun(&mut self.progress, limit, self.began, &mut self.held).succeeded(options, &Moment::now);
     }
 
     #[inline(never)]
     fn failed(&mut self, code: Option<u64>, result: Result<&S::Response, &S::Error>) -> Result<Duration, Ending> {
         let Self { settings, began, held, progress, next, .. } = self;
-        let progress = begun(progress, &settings.limit, *began, held);
+        let progress = begun(progress, &settings.rules.limit, *began, held);
         progress.failed();
         match (next, code) {
             (Some(_), Some(code)) => settings.wait(progress, code, result),
@@ -267,11 +268,11 @@ impl<S: Service<Request>, Request, L: LayerError<S::Error>> Future for RetryCall
 /// The progress of a call on this limit whose first run began then, holding this.
 fn begun<'p>(
     progress: &'p mut Option<Box<Progress<'static>>>,
-    limit: &Arc<dyn Limit>,
+    limit: &CowLimit<'static>,
     began: Option<Moment>,
     held: &mut impl Held,
 ) -> &'p mut Progress<'static> {
-    progress.get_or_insert_with(|| Box::new(Progress::new(Lent::Shared(limit.clone()), began, mem::take(held))))
+    progress.get_or_insert_with(|| Box::new(Progress::new(limit.clone(), began, mem::take(held))))
 }
 
 /// A timer, where there is something to wait for: a timer's tick is a millisecond.
