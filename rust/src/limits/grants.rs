@@ -241,6 +241,9 @@ mod sealed {
         /// What a call that is admitted holds.
         type Held: Held;
 
+        /// Whether it holds anything.
+        const HOLDS: bool;
+
         /// Asks, where the limit is one that is asked; what the call then holds is put here.
         fn admit(limit: &dyn Limit, held: &mut Self::Held) -> Result<(), Self>;
 
@@ -268,6 +271,8 @@ mod sealed {
     impl Admission for Infallible {
         type Held = ();
 
+        const HOLDS: bool = false;
+
         #[inline]
         fn admit(_: &dyn Limit, _: &mut ()) -> Result<(), Self> {
             Ok(())
@@ -292,6 +297,8 @@ mod sealed {
 
     impl Admission for Refused {
         type Held = Asked;
+
+        const HOLDS: bool = true;
 
         #[inline]
         fn admit(limit: &dyn Limit, held: &mut Asked) -> Result<(), Self> {

@@ -88,7 +88,7 @@ impl<E, H: Hooked<E>, K: Clock, S, R: Random, T, L: MayRefuse> Retrying<'_, E, (
     #[inline]
     pub(crate) fn succeeds(&self, progress: &mut Progress<'_>, course: &mut Course) {
         course.won();
-        if progress.has_request() || self.rules.limit().hears_of_successes() {
+        if (L::HOLDS && progress.has_request()) || self.rules.limit().hears_of_successes() {
             self.succeeded(progress);
         }
     }
@@ -115,7 +115,9 @@ impl<E, H: Hooked<E>, K: Clock, S, R: Random, T, L: MayRefuse> Retrying<'_, E, (
         is_late: bool,
     ) -> Result<Duration, Ending> {
         let now = self.host.clock.moment();
-        progress.failed();
+        if L::HOLDS {
+            progress.failed();
+        }
         if !is_late && !self.hooks.when(error) {
             return Err(Ending::Cancelled);
         }

@@ -79,7 +79,10 @@ impl<'a> Progress<'a> {
     #[inline(always)]
     pub(crate) fn lost(&mut self, rules: &Rules<'_>, now: Moment, lost: &mut Lost) -> Result<Duration, Ending> {
         match lost.retry_after {
-            None => self.planned(rules, now, lost).map(Duration::from_millis),
+            None => Ok(match self.planned(rules, now, lost)? {
+                0 => Duration::ZERO,
+                wait => Duration::from_millis(wait),
+            }),
             Some(retry_after) => self.planned_no_earlier(rules, now, lost, retry_after),
         }
     }
