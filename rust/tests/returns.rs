@@ -229,6 +229,25 @@ fn the_ticket_of_a_run_that_never_began_comes_back() {
 }
 
 #[test]
+fn the_ticket_that_comes_back_is_none_of_a_retry_before_by_the_same_policy() {
+    let (quota, policy, lost) = (quota(5, 0.0), policy(r#"{"spaced":100}"#), Some(Report::Lost(7)));
+    let by_hand = |steps: &[Option<Report>]| {
+        let mut machine = Machine::new(&policy, &quota).unwrap();
+        for (moment, report) in (0..).zip(steps) {
+            let _ = machine.step(at(100 * moment), *report);
+        }
+    };
+    by_hand(&[None, lost, None]);
+    by_hand(&[None, lost]);
+    assert_eq!((quota.granted(), quota.seen().left), (1, 4));
+    // and where nobody asks between
+    by_hand(&[None, lost, None, lost, None]);
+    by_hand(&[None, lost]);
+    assert_eq!(quota.seen().left, 2);
+    assert_eq!(quota.close().unwrap(), 3);
+}
+
+#[test]
 fn a_sleep_that_panics_leaves_its_ticket_to_others() {
     let (policy, quota) = (policy(r#"{"spaced":60000}"#), quota(1, 0.0));
     let interrupted = catch_unwind(AssertUnwindSafe(|| {

@@ -6,6 +6,7 @@ use std::error::Error;
 use std::io::Write;
 use std::path::Path;
 use std::process::{Command, Stdio};
+use std::sync::atomic::{AtomicU64, Ordering};
 use std::time::Duration;
 
 const SECOND: Duration = Duration::from_secs(1);
@@ -37,8 +38,10 @@ fn zsched(form: &str, options: &str, policy: &Policy) -> String {
 
 /// The same with populations beside the first one: the words of `--beside` before the file, and the policy.
 fn zsched_beside(form: &str, options: &str, policy: &Policy, others: &[(&str, &Policy)]) -> String {
+    // (tests run side by side)
+    static FILES: AtomicU64 = AtomicU64::new(0);
     let beside = |(words, policy): &(&str, &Policy)| {
-        let name = format!("{}.json", words.replace(['@', '+'], "-"));
+        let name = format!("beside-{}.json", FILES.fetch_add(1, Ordering::Relaxed));
         let path = Path::new(env!("CARGO_TARGET_TMPDIR")).join(name);
         std::fs::write(&path, policy.as_json()).unwrap();
         ["--beside".to_owned(), format!("{words}={}", path.to_str().unwrap())]

@@ -40,7 +40,7 @@ pub(crate) use sys::{STATE_BUCKET, STATE_CLOSED, STATE_HALF_OPEN, STATE_IN_FLIGH
 
 /// Why a call is refused.
 #[derive(Clone, Copy, Debug, PartialEq, Eq)]
-pub(crate) enum Status {
+pub enum Status {
     NoMemory,
     TooLarge,
     NoRoom,

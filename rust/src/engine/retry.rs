@@ -4,6 +4,13 @@ use super::pass::PassKind;
 use super::policy::PolicyKind;
 use super::sys::*;
 use super::{Handle, Kind, Status};
+use std::mem;
+
+impl Next {
+    /// What is told before the first step.
+    pub(crate) const NOTHING: Self =
+        Self { size: mem::size_of::<Self>(), what: 0, how: 0, until: 0, granted: 0, runs: 0, left: 0 };
+}
 
 /// The kind of a retry.
 #[derive(Debug)]

@@ -339,6 +339,10 @@ impl Limit for Leased {
     fn source(&self) -> Source {
         Source::Store(Arc::new(self.clone()))
     }
+
+    fn store(&self) -> Option<&dyn Tickets> {
+        Some(self)
+    }
 }
 
 impl Tickets for Leased {
@@ -352,8 +356,13 @@ impl Limit for LeasedQuota {
         Source::Store(Arc::new(self.clone()))
     }
 
-    fn count_request(&self, _now: Moment) {
+    fn store(&self) -> Option<&dyn Tickets> {
+        Some(self)
+    }
+
+    fn count_request(&self) -> bool {
         Tickets::deposit(self);
+        false
     }
 
     fn hears_of_successes(&self) -> bool {

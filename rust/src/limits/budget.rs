@@ -2,7 +2,7 @@
 
 use crate::engine::{Handle, PassKind, Status};
 use crate::limits::error::LimitError;
-use crate::limits::lender::Lender;
+use crate::limits::lender::{Begun, Lender};
 use crate::limits::part::{Part, Root};
 use crate::limits::per_key::Counted;
 use crate::limits::slots::Slots;
@@ -110,8 +110,8 @@ impl Budget {
     /// The number of tickets that were drawn by retries that have ended and by passes that were dropped.
     #[must_use]
     pub fn granted(&self) -> u64 {
-        let root = self.lock().pass.count();
-        root + self.passes().own.sum(|lender| lender.pass.count())
+        let root = self.lock().granted();
+        root + self.passes().own.sum(Lender::granted)
     }
 
     /// Closes the budget if no other clone, no pass and no retry of it is alive, and returns the exact number of
@@ -134,16 +134,36 @@ impl Budget {
 
     /// Lends a pass to a call that begins or ends a retry: that of this thread, or the first one where another thread uses
     /// that, or it has no part to give.
-    #[inline]
-    pub(crate) fn with_own<T>(&self, mut call: impl FnMut(&mut Lender) -> Result<T, Status>) -> Result<T, Status> {
+    #[inline(always)]
+    pub(crate) fn lend<C>(&self, retry: &mut Begun, call: C) -> Result<(), Status>
+    where
+        C: Fn(&mut Lender, &mut Begun) -> Result<(), Status> + Copy,
+    {
         let own = |slot: &mut Option<Lender>| match slot {
-            Some(lender) => call(lender),
-            None => call(slot.insert(Lender::of(self.lock().pass.split()?))),
+            Some(lender) => call(lender, retry),
+            None => self.lend_another(slot, retry, call),
         };
         match self.passes().own.own(own) {
-            Some(Err(Status::TooManyPasses)) | None => call(&mut self.lock()),
+            Some(Err(Status::TooManyPasses)) | None => self.lend_first(retry, call),
             Some(given) => given,
         }
+    }
+
+    /// The same of one for this thread, which has none yet.
+    #[cold]
+    fn lend_another<C>(&self, slot: &mut Option<Lender>, retry: &mut Begun, call: C) -> Result<(), Status>
+    where
+        C: Fn(&mut Lender, &mut Begun) -> Result<(), Status>,
+    {
+        call(slot.insert(Lender::of(self.lock().pass.split()?)), retry)
+    }
+
+    #[cold]
+    fn lend_first<C>(&self, retry: &mut Begun, call: C) -> Result<(), Status>
+    where
+        C: Fn(&mut Lender, &mut Begun) -> Result<(), Status>,
+    {
+        call(&mut self.lock(), retry)
     }
 
     fn lock(&self) -> MutexGuard<'_, Lender> {
@@ -153,9 +173,13 @@ impl Budget {
     /// The passes of this process.
     #[inline]
     fn passes(&self) -> &Passes {
-        let Shared { limit, rises, passes } = &*self.shared;
-        let root = || root_of(limit.load(Ordering::Relaxed), *rises).expect("memory for a budget");
-        passes.get(|| Passes::of(root()))
+        self.shared.passes.get(|| self.anew())
+    }
+
+    /// The passes of a forked child.
+    fn anew(&self) -> Passes {
+        let Shared { limit, rises, .. } = &*self.shared;
+        Passes::of(root_of(limit.load(Ordering::Relaxed), *rises).expect("memory for a budget"))
     }
 
     fn made(limit: u64, rises: bool) -> Result<Self, LimitError> {

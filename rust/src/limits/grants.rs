@@ -1,14 +1,17 @@
 //! What retries draw on.
 
 use crate::clock::Moment;
+use crate::engine::Status;
 #[cfg(feature = "leased")]
 use crate::leased::{Leased, LeasedQuota};
 use crate::limits::asked::{Asked, Quiet};
 use crate::limits::budget::Budget;
 use crate::limits::call_limit::{Admitted, CallLimit};
+use crate::limits::lender::{Begun, Lender};
 use crate::limits::quota::Quota;
 use crate::limits::refused::Refused;
 use crate::limits::ticket::{NoTicket, Ticket};
+use crate::policy::Policy;
 use std::convert::Infallible;
 use std::fmt;
 use std::sync::Arc;
@@ -181,7 +184,8 @@ pub trait Tickets: Send + Sync {
 }
 
 mod sealed {
-    use super::{Admitted, Arc, Asked, CallLimit, Infallible, Moment, Quiet, Refused, Source, Ticket};
+    use super::{Admitted, Arc, Asked, Begun, CallLimit, Infallible, Lender, Moment, Policy, Quiet, Refused};
+    use super::{Source, Status, Ticket, Tickets};
     use std::error::Error;
 
     /// What a retry draws on, and by which clock.
@@ -194,8 +198,18 @@ mod sealed {
             None
         }
 
-        /// A request is made at this moment: a quota, or a store, counts it.
-        fn count_request(&self, _now: Moment) {}
+        /// The store that is asked for each retry, if it is one.
+        fn store(&self) -> Option<&dyn Tickets> {
+            None
+        }
+
+        /// A request is made, which a store counts. Whether it is counted at its moment, as by a quota.
+        fn count_request(&self) -> bool {
+            false
+        }
+
+        /// A request is made at this moment.
+        fn count_request_at(&self, _now: Moment) {}
 
         /// Whether it is told of successes.
         fn hears_of_successes(&self) -> bool {
@@ -209,12 +223,26 @@ mod sealed {
         fn origin(&self, _began: Moment) -> u64 {
             0
         }
+
+        /// A retry by this policy is put here, where none is, with a deadline or `NO_DEADLINE`.
+        fn begin(&self, policy: &Policy, deadline: u64, retry: &mut Begun) -> Result<(), Status> {
+            Lender::begin_on_nothing(policy, deadline, retry)
+        }
+
+        /// Takes back what a retry has, which is over or dropped: whether it waits for a run that never began, or has
+        /// succeeded.
+        fn end(&self, retry: &mut Begun, _waits: bool, _won: bool) {
+            Lender::end_on_nothing(retry);
+        }
     }
 
     /// How a limit is asked before the first run, where it may refuse that.
     pub trait Admission: Error + Sized + Send + Sync + 'static {
         /// What a call that is admitted holds.
         type Held: Held;
+
+        /// Whether it holds anything.
+        const HOLDS: bool;
 
         /// Asks, where the limit is one that is asked; what the call then holds is put here.
         fn admit(limit: &dyn Limit, held: &mut Self::Held) -> Result<(), Self>;
@@ -243,6 +271,8 @@ mod sealed {
     impl Admission for Infallible {
         type Held = ();
 
+        const HOLDS: bool = false;
+
         #[inline]
         fn admit(_: &dyn Limit, _: &mut ()) -> Result<(), Self> {
             Ok(())
@@ -267,6 +297,8 @@ mod sealed {
 
     impl Admission for Refused {
         type Held = Asked;
+
+        const HOLDS: bool = true;
 
         #[inline]
         fn admit(limit: &dyn Limit, held: &mut Asked) -> Result<(), Self> {
@@ -295,46 +327,25 @@ pub enum Source {
     Unlimited,
 }
 
-impl Limit for Source {
-    fn source(&self) -> Source {
-        self.clone()
-    }
-
-    fn call_limit(&self) -> Option<&CallLimit> {
+impl Source {
+    /// The limit, behind a pointer that several have.
+    pub(crate) fn shared(self) -> Arc<dyn Limit> {
         match self {
-            Self::CallLimit(limit) => Some(limit),
-            Self::Budget(_) | Self::Quota(_) | Self::Store(_) | Self::Unlimited => None,
+            Self::Budget(budget) => Arc::new(budget),
+            Self::Quota(quota) => Arc::new(quota),
+            Self::CallLimit(limit) => Arc::new(limit),
+            Self::Store(store) => Arc::new(store),
+            Self::Unlimited => Arc::new(Unlimited),
         }
     }
 
-    fn count_request(&self, now: Moment) {
+    pub(crate) fn get(&self) -> &dyn Limit {
         match self {
-            Self::Quota(quota) => quota.count_request(now),
-            Self::Store(store) => store.deposit(),
-            Self::Budget(_) | Self::CallLimit(_) | Self::Unlimited => (),
-        }
-    }
-
-    fn count_success(&self, last: Option<Ticket>, clock: &dyn Fn() -> Moment) {
-        match self {
-            Self::Quota(quota) => quota.count_success(last, clock),
-            Self::Store(store) => store.succeeded(last),
-            Self::Budget(_) | Self::CallLimit(_) | Self::Unlimited => (),
-        }
-    }
-
-    fn hears_of_successes(&self) -> bool {
-        match self {
-            Self::Quota(quota) => quota.hears_of_successes(),
-            Self::Store(_) => true,
-            Self::Budget(_) | Self::CallLimit(_) | Self::Unlimited => false,
-        }
-    }
-
-    fn origin(&self, began: Moment) -> u64 {
-        match self {
-            Self::Quota(quota) => quota.origin(began),
-            Self::Budget(_) | Self::CallLimit(_) | Self::Store(_) | Self::Unlimited => 0,
+            Self::Budget(budget) => budget,
+            Self::Quota(quota) => quota,
+            Self::CallLimit(limit) => limit,
+            Self::Store(store) => store,
+            Self::Unlimited => &Unlimited,
         }
     }
 }
@@ -343,6 +354,18 @@ impl Limit for Budget {
     fn source(&self) -> Source {
         Source::Budget(self.clone())
     }
+
+    fn begin(&self, policy: &Policy, deadline: u64, retry: &mut Begun) -> Result<(), Status> {
+        self.lend(retry, |lender, retry| lender.begin(policy, deadline, retry))
+    }
+
+    fn end(&self, retry: &mut Begun, _waits: bool, _won: bool) {
+        let ended = self.lend(retry, |lender, retry| {
+            lender.end(retry);
+            Ok(())
+        });
+        debug_assert_eq!(ended, Ok(()));
+    }
 }
 
 impl Limit for Quota {
@@ -350,7 +373,11 @@ impl Limit for Quota {
         Source::Quota(self.clone())
     }
 
-    fn count_request(&self, now: Moment) {
+    fn count_request(&self) -> bool {
+        true
+    }
+
+    fn count_request_at(&self, now: Moment) {
         if !self.counts_successes() {
             self.deposit_by_clock(now);
         }
@@ -368,6 +395,14 @@ impl Limit for Quota {
 
     fn origin(&self, began: Moment) -> u64 {
         self.millis_at(began)
+    }
+
+    fn begin(&self, policy: &Policy, deadline: u64, retry: &mut Begun) -> Result<(), Status> {
+        self.lock().begin(policy, deadline, retry)
+    }
+
+    fn end(&self, retry: &mut Begun, waits: bool, won: bool) {
+        self.ends(retry, waits || (won && self.returns_tickets()));
     }
 }
 
@@ -390,8 +425,13 @@ macro_rules! store {
                 Source::Store(self.clone())
             }
 
-            fn count_request(&self, _now: Moment) {
+            fn store(&self) -> Option<&dyn Tickets> {
+                Some(&**self)
+            }
+
+            fn count_request(&self) -> bool {
                 self.deposit();
+                false
             }
 
             fn hears_of_successes(&self) -> bool {
@@ -427,8 +467,16 @@ impl Limit for AnyLimit {
         self.get().source()
     }
 
-    fn count_request(&self, now: Moment) {
-        self.get().count_request(now);
+    fn store(&self) -> Option<&dyn Tickets> {
+        self.get().store()
+    }
+
+    fn count_request(&self) -> bool {
+        self.get().count_request()
+    }
+
+    fn count_request_at(&self, now: Moment) {
+        self.get().count_request_at(now);
     }
 
     fn hears_of_successes(&self) -> bool {
@@ -441,6 +489,14 @@ impl Limit for AnyLimit {
 
     fn origin(&self, began: Moment) -> u64 {
         self.get().origin(began)
+    }
+
+    fn begin(&self, policy: &Policy, deadline: u64, retry: &mut Begun) -> Result<(), Status> {
+        self.get().begin(policy, deadline, retry)
+    }
+
+    fn end(&self, retry: &mut Begun, waits: bool, won: bool) {
+        self.get().end(retry, waits, won);
     }
 }
 

@@ -1,6 +1,6 @@
 //! Passes of which retries have parts.
 
-use crate::engine::{Handle, PassKind, RetryKind, Status, NO_DEADLINE};
+use crate::engine::{Handle, Next, PassKind, RetryKind, Status};
 use crate::policy::Policy;
 use std::cell::RefCell;
 use std::mem;
@@ -15,7 +15,7 @@ pub(crate) struct Lender {
 
 /// A retry of the engine, and the policy that it goes by; or neither.
 #[derive(Debug)]
-pub(crate) struct Begun {
+pub struct Begun {
     policy: Option<Policy>,
     pub(crate) handle: Handle<RetryKind>,
 }
@@ -29,12 +29,18 @@ impl Begun {
     pub(crate) const EMPTY: Self = Self { policy: None, handle: Handle::EMPTY };
 
     fn is_by(&self, policy: &Policy) -> bool {
-        self.policy.as_ref().map_or(false, |own| own.is(policy))
+        matches!(&self.policy, Some(own) if own.is(policy))
     }
 
     /// Whether nobody else has its policy.
     fn is_left(&self) -> bool {
         self.policy.as_ref().map_or(false, Policy::is_last)
+    }
+
+    /// Gives its pass back to this one, and is none then.
+    fn end(&mut self, pass: &mut Handle<PassKind>) {
+        self.handle.end(pass);
+        *self = Self::EMPTY;
     }
 }
 
@@ -43,54 +49,74 @@ impl Lender {
         Self { pass, over: Begun::EMPTY }
     }
 
-    /// A retry by this policy, with a deadline or [`NO_DEADLINE`].
+    /// A retry by this policy is put here, where none is, with a deadline or `NO_DEADLINE`.
     #[inline]
-    pub(crate) fn begin(&mut self, policy: &Policy, deadline: u64) -> Result<Begun, Status> {
+    pub(crate) fn begin(&mut self, policy: &Policy, deadline: u64, retry: &mut Begun) -> Result<(), Status> {
         let Self { pass, over } = self;
-        if over.is_by(policy) && (deadline == NO_DEADLINE || over.handle.again(pass, deadline).is_ok()) {
-            return Ok(mem::replace(over, Begun::EMPTY));
+        if over.is_by(policy) && over.handle.again(pass, deadline).is_ok() {
+            mem::swap(over, retry);
+            return Ok(());
         }
-        let mut handle = Handle::<RetryKind>::EMPTY;
-        policy.with(|policy| handle.begin(policy, pass, deadline))?;
-        Ok(Begun { policy: Some(policy.clone()), handle })
+        self.begin_another(policy, deadline, retry)
     }
 
-    /// Takes back what a retry has, which is over or dropped.
+    #[cold]
+    fn begin_another(&mut self, policy: &Policy, deadline: u64, retry: &mut Begun) -> Result<(), Status> {
+        policy.with(|policy| retry.handle.begin(policy, &mut self.pass, deadline))?;
+        retry.policy = Some(policy.clone());
+        Ok(())
+    }
+
+    /// Takes back what a retry has, which is over or dropped. It keeps its part of the pass until another one begins.
     #[inline]
     pub(crate) fn end(&mut self, retry: &mut Begun) {
+        if !self.over.handle.is_empty() {
+            self.end_one(retry);
+        } else {
+            mem::swap(&mut self.over, retry);
+        }
+    }
+
+    /// The same where it keeps one already: that ends, where nobody else has its policy.
+    #[cold]
+    fn end_one(&mut self, retry: &mut Begun) {
         let Self { pass, over } = self;
         if over.is_left() {
-            over.handle.end(pass);
-            over.policy = None;
-        }
-        if over.handle.is_empty() && retry.handle.again(pass, NO_DEADLINE).is_ok() {
             mem::swap(over, retry);
-        } else {
-            retry.handle.end(pass);
         }
+        retry.end(pass);
+    }
+
+    /// The tickets that its pass and a retry that is over drew.
+    pub(crate) fn granted(&mut self) -> u64 {
+        let mut told = Next::NOTHING;
+        if !self.over.handle.is_empty() {
+            self.over.handle.cancel(&mut told);
+        }
+        self.pass.count() + told.granted
     }
 
     /// The pass, with what retries that are over have.
     pub(crate) fn into_pass(self) -> Handle<PassKind> {
         let Self { mut pass, mut over } = self;
         if !over.handle.is_empty() {
-            over.handle.end(&mut pass);
+            over.end(&mut pass);
         }
         pass
     }
 
-    /// A retry that draws on nothing.
-    pub(crate) fn begin_on_nothing(policy: &Policy, deadline: u64) -> Result<Begun, Status> {
-        let own = |nothing: &RefCell<Self>| {
+    /// The same where it draws on nothing.
+    pub(crate) fn begin_on_nothing(policy: &Policy, deadline: u64, retry: &mut Begun) -> Result<(), Status> {
+        let mut own = |nothing: &RefCell<Self>| {
             let mut nothing = nothing.borrow_mut();
             // (where it is refused it is the thread's first, or 2^42 retries have each a part of the pass)
-            nothing.begin(policy, deadline).or_else(|_| {
+            nothing.begin(policy, deadline, retry).or_else(|_| {
                 *nothing = Self::of(Handle::unlimited()?);
-                nothing.begin(policy, deadline)
+                nothing.begin(policy, deadline, retry)
             })
         };
         // (where the thread ends it has none)
-        NOTHING.try_with(own).unwrap_or_else(|_| own(&RefCell::new(Self::of(Handle::EMPTY))))
+        NOTHING.try_with(&mut own).unwrap_or_else(|_| own(&RefCell::new(Self::of(Handle::EMPTY))))
     }
 
     /// Takes back what one has that drew on nothing.
@@ -102,7 +128,7 @@ impl Lender {
 
 #[cfg(test)]
 mod tests {
-    use super::Lender;
+    use super::{Begun, Lender};
     use crate::engine::{Handle, NO_DEADLINE};
     use crate::policy::Policy;
 
@@ -111,7 +137,8 @@ mod tests {
         let [first, second]: [Policy; 2] = [r#"{"recurs":1}"#, r#"{"recurs":2}"#].map(|json| json.parse().unwrap());
         let mut lender = Lender::of(Handle::fixed(1).unwrap());
         let mut goes_by = |policy: &Policy| {
-            let mut retry = lender.begin(policy, NO_DEADLINE).unwrap();
+            let mut retry = Begun::EMPTY;
+            lender.begin(policy, NO_DEADLINE, &mut retry).unwrap();
             assert!(retry.is_by(policy));
             lender.end(&mut retry);
             (lender.over.is_by(&first.clone()), lender.over.is_by(policy), retry.handle.is_empty())
@@ -120,7 +147,8 @@ mod tests {
         assert_eq!(goes_by(&second), (true, false, true));
         assert_eq!(goes_by(&first.clone()), (true, true, true));
         drop(first);
-        let mut retry = lender.begin(&second, NO_DEADLINE).unwrap();
+        let mut retry = Begun::EMPTY;
+        lender.begin(&second, NO_DEADLINE, &mut retry).unwrap();
         lender.end(&mut retry);
         assert!(lender.over.is_by(&second));
         assert_eq!(lender.into_pass().close(), Ok(0));

@@ -11,7 +11,6 @@ use crate::limits::part::{Part, Root};
 use crate::limits::per_key::Counted;
 use crate::limits::ticket::{NoTicket, Ticket};
 use crate::limits::uses::{options_of_uses, Uses};
-use crate::policy::Policy;
 use crate::system::PerProcess;
 use std::fmt;
 use std::sync::atomic::{AtomicU64, Ordering};
@@ -355,7 +354,7 @@ impl Quota {
     /// dropped, less those that came back.
     #[must_use]
     pub fn granted(&self) -> u64 {
-        self.lock().pass.count()
+        self.lock().granted()
     }
 
     /// The quota's moment at `now`: the time since it was made.
@@ -389,7 +388,7 @@ impl Quota {
     }
 
     /// Takes the pass of a retry back, which is over or dropped, and its latest ticket where that comes back.
-    pub(crate) fn end(&self, retry: &mut Begun, returns_ticket: bool) {
+    pub(crate) fn ends(&self, retry: &mut Begun, returns_ticket: bool) {
         let root = &mut *self.lock();
         match if returns_ticket { root.pass.split().ok() } else { None } {
             // (the latest ticket of a pass of its own is the retry's)
@@ -402,12 +401,7 @@ impl Quota {
         }
     }
 
-    /// Begins a retry.
-    pub(crate) fn begin(&self, policy: &Policy, deadline: u64) -> Result<Begun, Status> {
-        self.lock().begin(policy, deadline)
-    }
-
-    fn lock(&self) -> MutexGuard<'_, Lender> {
+    pub(super) fn lock(&self) -> MutexGuard<'_, Lender> {
         self.passes().root.lock().unwrap_or_else(PoisonError::into_inner)
     }
 

@@ -9,6 +9,7 @@ use crate::retry::host::{Host, Random};
 use crate::retry::machine::Ending;
 use crate::retry::progress::{Lost, Progress};
 use crate::retry::retrying::Retrying;
+use crate::retry::rules::CowLimit;
 use std::mem;
 use std::time::Duration;
 
@@ -42,33 +43,38 @@ impl<E, H: Hooked<E>, K: Clock, S, R: Random, T, L: MayRefuse> Retrying<'_, E, (
 
     /// A request, and its retry, whose first run begins.
     #[inline]
-    pub(crate) fn begin(&self, course: &mut Course) -> Result<Progress, RetryError<E, L>> {
+    pub(crate) fn begin(&self, course: &mut Course) -> Result<Progress<'_>, RetryError<E, L>> {
         let mut held = L::Held::default();
-        let now = self.begins(&mut held, course)?;
-        Ok(Progress::new(now, held))
+        let began = self.begins(&mut held, course)?;
+        Ok(self.progress(began, held))
     }
 
-    /// The moment at which a request begins, which is counted; what it holds of a limit that is asked is put here.
+    /// The retry whose first run began then, holding this.
     #[inline]
-    pub(crate) fn begins(&self, held: &mut L::Held, course: &mut Course) -> Result<Moment, RetryError<E, L>> {
+    pub(crate) fn progress(&self, began: Option<Moment>, held: L::Held) -> Progress<'_> {
+        Progress::new(CowLimit::Borrowed(self.rules.limit()), began, held)
+    }
+
+    /// A request begins, which is counted; what it holds of a limit that is asked is put here. The moment at which, where
+    /// somebody wants to know that: to its policy moments count from the first failure.
+    #[inline]
+    pub(crate) fn begins(&self, held: &mut L::Held, course: &mut Course) -> Result<Option<Moment>, RetryError<E, L>> {
         if let Err(refused) = L::admit(self.rules.limit(), held) {
             course.not_admitted(refused.why(), self.rules.limit());
             return Err(RetryError::NotAdmitted(refused));
         }
-        let now = self.host.clock.moment();
-        self.rules.limit().count_request(now);
-        Ok(now)
+        Ok(self.rules.options.counted(self.rules.limit(), || self.host.clock.moment()))
     }
 
     /// A request whose first run succeeded.
     #[inline]
-    pub(crate) fn succeeds_at_once(&self, began: Moment, held: &mut L::Held, course: &mut Course) {
+    pub(crate) fn succeeds_at_once(&self, began: Option<Moment>, held: &mut L::Held, course: &mut Course) {
         match self.rules.options.slow {
             None => {
                 course.won();
                 held.succeeded_at_once(self.rules.limit(), &|| self.host.clock.moment());
             }
-            Some(_) => self.succeeds(&mut Progress::new(began, mem::take(held)), course),
+            Some(_) => self.succeeds(&mut self.progress(began, mem::take(held)), course),
         }
     }
 
@@ -80,30 +86,38 @@ impl<E, H: Hooked<E>, K: Clock, S, R: Random, T, L: MayRefuse> Retrying<'_, E, (
 
     /// A run succeeded, which ends the retry.
     #[inline]
-    pub(crate) fn succeeds(&self, progress: &mut Progress, course: &mut Course) {
+    pub(crate) fn succeeds(&self, progress: &mut Progress<'_>, course: &mut Course) {
         course.won();
-        if progress.has_request() || self.rules.limit().hears_of_successes() {
+        if (L::HOLDS && progress.has_request()) || self.rules.limit().hears_of_successes() {
             self.succeeded(progress);
         }
     }
 
     /// How long it is until the next run after one that failed with this error, or how the retry ended.
     #[inline]
-    pub(crate) fn fails(&self, progress: &mut Progress, course: &Course, error: &E) -> Result<Duration, Ending> {
+    pub(crate) fn fails(&self, progress: &mut Progress<'_>, course: &Course, error: &E) -> Result<Duration, Ending> {
         self.hears(progress, course, error, false)
     }
 
     /// The same of a run that is late, and goes on: this error says that it is. It is no error of the call, so nothing
     /// asks whether it is retried.
-    pub(crate) fn is_late(&self, progress: &mut Progress, course: &Course, error: &E) -> Result<Duration, Ending> {
+    pub(crate) fn is_late(&self, progress: &mut Progress<'_>, course: &Course, error: &E) -> Result<Duration, Ending> {
         self.hears(progress, course, error, true)
     }
 
     /// The same of a run that is late, or failed.
     #[inline(always)]
-    fn hears(&self, progress: &mut Progress, course: &Course, error: &E, is_late: bool) -> Result<Duration, Ending> {
+    fn hears(
+        &self,
+        progress: &mut Progress<'_>,
+        course: &Course,
+        error: &E,
+        is_late: bool,
+    ) -> Result<Duration, Ending> {
         let now = self.host.clock.moment();
-        progress.failed(self.rules.limit());
+        if L::HOLDS {
+            progress.failed();
+        }
         if !is_late && !self.hooks.when(error) {
             return Err(Ending::Cancelled);
         }
@@ -124,7 +138,7 @@ impl<E, H: Hooked<E>, K: Clock, S, R: Random, T, L: MayRefuse> Retrying<'_, E, (
     /// The error of a retry that ended so.
     pub(crate) fn gives_up(
         &self,
-        progress: &Progress,
+        progress: &Progress<'_>,
         course: &mut Course,
         ended: Ending,
         error: E,
@@ -135,12 +149,12 @@ impl<E, H: Hooked<E>, K: Clock, S, R: Random, T, L: MayRefuse> Retrying<'_, E, (
 
     #[cold]
     fn succeeded(&self, progress: &mut Progress) {
-        progress.succeeded(self.rules.limit(), &self.rules.options, &|| self.host.clock.moment());
+        progress.succeeded(&self.rules.options, &|| self.host.clock.moment());
     }
 
     /// The next run, which begins after the wait for it, or how the retry ended.
     #[inline]
-    pub(crate) fn next(&self, progress: &mut Progress, last: Attempt) -> Result<Attempt, Ending> {
+    pub(crate) fn next(&self, progress: &mut Progress<'_>, last: Attempt) -> Result<Attempt, Ending> {
         let began = progress.resume(&self.rules.options, || self.host.clock.moment())?;
         let left = |(deadline, now): (Duration, Moment)| deadline.saturating_sub(progress.passed(now));
         Ok(Attempt { number: last.number + 1, left: self.rules.options.deadline.zip(began).map(left) })

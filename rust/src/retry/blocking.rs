@@ -123,7 +123,7 @@ impl<E, H: Hooked<E>, K: Clock, S: Sleep, R: Random, L: MayRefuse> Retrying<'_, 
                 self.succeeds_at_once(began, &mut held, &mut course);
                 Ok(value)
             }
-            Err(error) => self.calls_again(Progress::new(began, held), course, error, call),
+            Err(error) => self.calls_again(self.progress(began, held), course, error, call),
         }
     }
 
@@ -131,7 +131,7 @@ impl<E, H: Hooked<E>, K: Clock, S: Sleep, R: Random, L: MayRefuse> Retrying<'_, 
     #[inline(never)]
     fn calls_again<T>(
         &self,
-        mut progress: Progress,
+        mut progress: Progress<'_>,
         mut course: Course,
         mut error: E,
         mut call: impl FnMut(Attempt) -> Result<T, E>,

@@ -86,7 +86,7 @@ impl Course {
     }
 
     /// It gave up, since its retry ended so.
-    pub(crate) fn gave_up(&mut self, ended: Ending, progress: &Progress, limit: &dyn Limit) {
+    pub(crate) fn gave_up(&mut self, ended: Ending, progress: &Progress<'_>, limit: &dyn Limit) {
         self.ended(ended.told(), limit, progress.refusal(ended));
     }
 

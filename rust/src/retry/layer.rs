@@ -1,7 +1,7 @@
 //! A `tower` layer that retries.
 
 use crate::clock::Moment;
-use crate::limits::grants::{Grants, MayRefuse, Source};
+use crate::limits::grants::{Grants, MayRefuse};
 use crate::limits::refused::Refused;
 use crate::policy::Policy;
 use crate::random;
@@ -115,7 +115,6 @@ type AsksOutcome<A, Response, E> = Option<Arc<dyn Fn(Result<&Response, &E>) -> A
 /// What all requests of a layer have in common.
 pub(super) struct Settings<Request, Response, E> {
     pub(super) rules: Rules<'static>,
-    pub(super) source: Source,
     pub(super) copy: Copying<Request>,
     when: Asks<E, bool>,
     failed: Asks<Response, bool>,
@@ -139,10 +138,8 @@ impl<Request, Response, E> RetryLayer<Request, Response, E> {
         limit: G,
         copy: impl Fn(&Request) -> Option<Request> + Send + Sync + 'static,
     ) -> RetryLayer<Request, Response, E, G::Refusal> {
-        let source = limit.source();
         let settings = Settings {
-            rules: Rules::new(&policy, &source).into_owned(),
-            source,
+            rules: Rules::new(&policy, &limit).into_owned(),
             copy: Arc::new(copy),
             when: None,
             failed: None,
@@ -230,7 +227,7 @@ impl<Request, Response, E> Settings<Request, Response, E> {
     #[inline]
     pub(super) fn wait(
         &self,
-        progress: &mut Progress,
+        progress: &mut Progress<'_>,
         code: u64,
         result: Result<&Response, &E>,
     ) -> Result<Duration, Ending> {
@@ -274,7 +271,6 @@ impl<Request, Response, E> Clone for Settings<Request, Response, E> {
     fn clone(&self) -> Self {
         Self {
             rules: self.rules.clone(),
-            source: self.source.clone(),
             copy: self.copy.clone(),
             when: self.when.clone(),
             failed: self.failed.clone(),
@@ -289,7 +285,7 @@ impl<Request, Response, E, L> fmt::Debug for RetryLayer<Request, Response, E, L>
     fn fmt(&self, f: &mut fmt::Formatter<'_>) -> fmt::Result {
         f.debug_struct("RetryLayer")
             .field("policy", &self.settings.rules.policy)
-            .field("limit", &self.settings.source)
+            .field("limit", &self.settings.rules.limit)
             .field("deadline", &self.settings.rules.options.deadline)
             .finish_non_exhaustive()
     }

@@ -22,6 +22,7 @@ mod rules;
 mod runs;
 #[cfg(feature = "tower")]
 mod service;
+mod stepped;
 mod timed;
 
 pub use crate::clock::{Clock, SystemClock};

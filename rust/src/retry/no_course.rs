@@ -42,7 +42,7 @@ impl Course {
     pub(crate) fn won(&mut self) {}
 
     #[inline(always)]
-    pub(crate) fn gave_up(&mut self, _: Ending, _: &Progress, _: &dyn Limit) {}
+    pub(crate) fn gave_up(&mut self, _: Ending, _: &Progress<'_>, _: &dyn Limit) {}
 
     #[inline(always)]
     pub(crate) fn not_admitted(&mut self, _: &'static str, _: &dyn Limit) {}

@@ -1,6 +1,7 @@
 //! The options that retries of all kinds have.
 
 use crate::clock::{whole_millis, Moment};
+use crate::limits::grants::Limit;
 use std::time::Duration;
 
 /// The options of a retry, with what they are unless a builder says otherwise.
@@ -26,10 +27,24 @@ impl Options {
         self.deadline.map(|deadline| Duration::from_millis(whole_millis(deadline)))
     }
 
+    /// A request is made, which this limit counts: the moment at which, where that or an option wants to know it.
+    #[inline(always)]
+    pub(crate) fn counted(&self, limit: &dyn Limit, clock: impl FnOnce() -> Moment) -> Option<Moment> {
+        let is_timed = limit.count_request();
+        if !is_timed && self.deadline.is_none() && self.slow.is_none() {
+            return None;
+        }
+        let now = clock();
+        if is_timed {
+            limit.count_request_at(now);
+        }
+        Some(now)
+    }
+
     /// Whether a run that began then and succeeded now was slow.
     #[inline]
-    pub(crate) fn was_slow(&self, began: Moment, clock: impl FnOnce() -> Moment) -> bool {
-        self.slow.map_or(false, |slow| clock().since(began) > slow)
+    pub(crate) fn was_slow(&self, began: Option<Moment>, clock: impl FnOnce() -> Moment) -> bool {
+        self.slow.zip(began).map_or(false, |(slow, began)| clock().since(began) > slow)
     }
 
     /// The wait that is granted to an error that asks for this one so long after the first run began; `None` where the

@@ -7,7 +7,7 @@ use crate::retry::asynchronous::AsyncSleep;
 use crate::retry::host::{Host, Random, Sleep, SystemHost};
 use crate::retry::machine::Ending;
 use crate::retry::progress::{Lost, Progress};
-use crate::retry::rules::Rules;
+use crate::retry::rules::{CowLimit, Rules};
 use std::error::Error;
 use std::fmt;
 use std::future::Future;
@@ -263,13 +263,15 @@ impl<T, C: Fn(&T) -> u64, K: Clock, S: AsyncSleep, R: Random> Repeating<'_, T, C
 }
 
 impl<T, C: Fn(&T) -> u64, K: Clock, S, R: Random> Repeating<'_, T, C, Host<K, S, R>> {
-    fn begin(&self) -> Progress {
-        Progress::new(self.host.clock.moment(), ())
+    fn begin(&self) -> Progress<'_> {
+        let limit = self.rules.limit();
+        let began = self.rules.options.counted(limit, || self.host.clock.moment());
+        Progress::new(CowLimit::Borrowed(limit), began, ())
     }
 
     /// How long it is waited after a run that gave this value now. To the engine each run whose value is not wanted is
     /// one that failed, on nothing that could refuse a retry.
-    fn after<E>(&self, progress: &mut Progress, value: T) -> Result<(Duration, T), RepeatError<T, E>> {
+    fn after<E>(&self, progress: &mut Progress<'_>, value: T) -> Result<(Duration, T), RepeatError<T, E>> {
         let (now, code) = (self.host.clock.moment(), (self.code)(&value));
         let words = self.rules.policy.words(|| self.host.random.draw());
         match progress.lost(&self.rules, now, &mut Lost::new(code, words, None)) {
@@ -279,7 +281,7 @@ impl<T, C: Fn(&T) -> u64, K: Clock, S, R: Random> Repeating<'_, T, C, Host<K, S,
     }
 
     /// Begins the next run, which was waited for after this value.
-    fn resume<E>(&self, progress: &mut Progress, value: T) -> Result<(), RepeatError<T, E>> {
+    fn resume<E>(&self, progress: &mut Progress<'_>, value: T) -> Result<(), RepeatError<T, E>> {
         let resumed = progress.resume(&self.rules.options, || self.host.clock.moment());
         resumed.map(|_| ()).map_err(|ended| RepeatError::of(ended, value))
     }

@@ -291,7 +291,7 @@ impl<E, F, H, M, L> fmt::Debug for Retrying<'_, E, F, H, M, L> {
     fn fmt(&self, f: &mut fmt::Formatter<'_>) -> fmt::Result {
         f.debug_struct("Retrying")
             .field("policy", &self.rules.policy)
-            .field("limit", &self.rules.limit().source())
+            .field("limit", &self.rules.limit)
             .field("max_retry_after", &self.rules.options.max_retry_after)
             .field("deadline", &self.rules.options.deadline)
             .finish_non_exhaustive()

@@ -1,9 +1,11 @@
 //! What a retry goes by, of whatever kind.
 
-use crate::limits::grants::{Limit, Source};
+use crate::limits::grants::Limit;
 use crate::policy::Policy;
 use crate::retry::options::Options;
 use std::borrow::Cow;
+use std::fmt;
+use std::sync::Arc;
 
 /// What a retry goes by.
 #[derive(Clone)]
@@ -17,7 +19,23 @@ pub(crate) struct Rules<'a> {
 #[derive(Clone)]
 pub(crate) enum CowLimit<'a> {
     Borrowed(&'a dyn Limit),
-    Owned(Source),
+    Owned(Arc<dyn Limit>),
+}
+
+impl CowLimit<'_> {
+    #[inline]
+    pub(crate) fn get(&self) -> &dyn Limit {
+        match self {
+            Self::Borrowed(limit) => *limit,
+            Self::Owned(limit) => &**limit,
+        }
+    }
+}
+
+impl fmt::Debug for CowLimit<'_> {
+    fn fmt(&self, f: &mut fmt::Formatter<'_>) -> fmt::Result {
+        self.get().source().fmt(f)
+    }
 }
 
 impl<'a> Rules<'a> {
@@ -31,8 +49,8 @@ impl<'a> Rules<'a> {
     /// The same, with a policy and a limit of their own.
     pub(crate) fn into_owned(self) -> Rules<'static> {
         let limit = match self.limit {
-            CowLimit::Borrowed(limit) => limit.source(),
-            CowLimit::Owned(source) => source,
+            CowLimit::Borrowed(limit) => limit.source().shared(),
+            CowLimit::Owned(limit) => limit,
         };
         Rules { policy: Cow::Owned(self.policy.into_owned()), limit: CowLimit::Owned(limit), options: self.options }
     }
@@ -40,9 +58,6 @@ impl<'a> Rules<'a> {
     /// What it draws on.
     #[inline]
     pub(crate) fn limit(&self) -> &dyn Limit {
-        match &self.limit {
-            CowLimit::Borrowed(limit) => *limit,
-            CowLimit::Owned(source) => source,
-        }
+        self.limit.get()
     }
 }

@@ -20,8 +20,8 @@ pub(super) struct Runs<'h, P, E, S: AsyncSleep> {
 
 /// What happened.
 pub(super) enum Event<T, E> {
-    /// A run succeeded, which began then.
-    Won(T, Moment),
+    /// A run succeeded, which began then, if somebody wants to know.
+    Won(T, Option<Moment>),
     /// A run failed, or took too long.
     Lost { error: E, was_late: bool },
     /// The latest run is late, and goes on.
@@ -32,7 +32,7 @@ pub(super) enum Event<T, E> {
 
 struct Run<P, E, Z> {
     call: Pin<Box<P>>,
-    began: Moment,
+    began: Option<Moment>,
     /// Until it takes too long.
     ends: Timer<Z>,
     is_late: bool,
@@ -57,7 +57,7 @@ impl<'h, P, E, S: AsyncSleep> Runs<'h, P, E, S> {
     }
 
     /// This one begins.
-    pub(super) fn begin(&mut self, call: P, began: Moment) {
+    pub(super) fn begin(&mut self, call: P, began: Option<Moment>) {
         let Self { sleep, timed, .. } = self;
         let ends = Timer::after(*sleep, timed.attempt_timeout);
         self.timer = Timer::after(*sleep, timed.hedge_after);

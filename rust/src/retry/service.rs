@@ -1,11 +1,12 @@
 //! A service with its retries, and a call of it.
 
 use crate::clock::Moment;
-use crate::limits::grants::{Held, Limit, MayRefuse};
+use crate::limits::grants::{Held, MayRefuse};
 use crate::retry::course::Course;
 use crate::retry::layer::{LayerError, RetryLayer, Settings};
 use crate::retry::machine::Ending;
 use crate::retry::progress::Progress;
+use crate::retry::rules::{CowLimit, Rules};
 use ::tokio::time::{sleep, Sleep};
 use pin_project_lite::pin_project;
 use std::fmt;
@@ -43,8 +44,9 @@ where
         self.inner.poll_ready(cx).map_err(L::of)
     }
 
+    #[inline]
     fn call(&mut self, request: Request) -> Self::Future {
-        RetryCall { at: At::begun(&mut self.inner, &self.retries.settings, request) }
+        RetryCall { stage: Stage::begun(&mut self.inner, &self.retries.settings, request) }
     }
 }
 
@@ -59,24 +61,32 @@ pin_project! {
         L: MayRefuse,
     {
         #[pin]
-        at: At<S, Request, L>,
+        stage: Stage<S, Request, L>,
     }
 }
 
 pin_project! {
-    // Where a call is. Once it is over, the limit has back what it held, and a permit of the service is free.
-    #[project = Where]
-    #[project_replace = Left]
-    enum At<S, Request, L>
+    // What a call has. Once it is over, the limit has back what it held, and a permit of the service is free.
+    #[project = Has]
+    #[project_replace = Had]
+    enum Stage<S, Request, L>
     where
         S: Service<Request>,
         L: MayRefuse,
     {
         NotAdmitted { refused: L },
-        Run { #[pin] run: S::Future, retries: Retries<S, Request, L> },
-        // Before the next run, after one that ended so; how it ended is kept if the deadline may come.
-        Waits { sleep: Option<Pin<Box<Sleep>>>, kept: Option<Answer<S, Request>>, retries: Retries<S, Request, L> },
+        Admitted { #[pin] at: At<S::Future, Answer<S, Request>>, retries: Retries<S, Request, L> },
         Over,
+    }
+}
+
+pin_project! {
+    // Where a call is.
+    #[project = Where]
+    enum At<Run, Answer> {
+        Run { #[pin] run: Run },
+        // Before the next run, after one that ended so; how it ended is kept if the deadline may come.
+        Waits { sleep: Option<Pin<Box<Sleep>>>, kept: Option<Answer> },
     }
 }
 
@@ -84,32 +94,33 @@ pin_project! {
 struct Retries<S: Service<Request>, Request, L: MayRefuse> {
     service: S,
     settings: Arc<Settings<Request, S::Response, S::Error>>,
-    began: Moment,
+    began: Option<Moment>,
     /// What it holds of its limit, until its first run fails.
     held: L::Held,
     /// From then on. Most calls succeed at once, and need no more than the above.
-    progress: Option<Box<Progress>>,
+    progress: Option<Box<Progress<'static>>>,
     /// The request of the next run, if it could be copied.
     next: Option<Request>,
     course: Course,
 }
 
-impl<S: Service<Request> + Clone, Request, L: LayerError<S::Error>> At<S, Request, L> {
+impl<S: Service<Request> + Clone, Request, L: MayRefuse> Stage<S, Request, L> {
     /// The service, which is ready, makes the first run, and a clone of it the others.
     #[inline]
     fn begun(service: &mut S, settings: &Arc<Settings<Request, S::Response, S::Error>>, request: Request) -> Self {
         let mut course = Course::begun(&settings.rules.options);
         let mut held = L::Held::default();
-        if let Err(refused) = L::admit(&settings.source, &mut held) {
-            course.not_admitted(refused.why(), &settings.source);
+        let limit = settings.rules.limit();
+        if let Err(refused) = L::admit(limit, &mut held) {
+            course.not_admitted(refused.why(), limit);
             return Self::NotAdmitted { refused };
         }
-        let began = Moment::now();
-        settings.source.count_request(began);
+        let began = settings.rules.options.counted(limit, Moment::now);
         let next = (settings.copy)(&request);
         let run = course.run(|| service.call(request));
         let (service, settings) = (service.clone(), settings.clone());
-        Self::Run { run, retries: Retries { service, settings, began, held, progress: None, next, course } }
+        let retries = Retries { service, settings, began, held, progress: None, next, course };
+        Self::Admitted { at: At::Run { run }, retries }
     }
 }
 
@@ -138,30 +149,84 @@ impl<S: Service<Request>, Request, L: MayRefuse> Retries<S, Request, L> {
     #[cold]
     fn gave_up(&mut self, ended: Ending) {
         if let Some(progress) = &self.progress {
-            self.course.gave_up(ended, progress, &self.settings.source);
+            self.course.gave_up(ended, progress, self.settings.rules.limit());
         }
     }
 
     #[inline]
     fn succeeded(&mut self) {
         self.course.won();
-        let (source, options) = (&self.settings.source, &self.settings.rules.options);
-        match &mut self.progress {
-            Some(progress) => progress.succeeded(source, options, &Moment::now),
-            None if options.slow.is_none() => self.held.succeeded_at_once(source, &Moment::now),
-            None => Progress::new(self.began, mem::take(&mut self.held)).succeeded(source, options, &Moment::now),
+        let Rules { limit, options, .. } = &self.settings.rules;
+        if self.progress.is_none() && options.slow.is_none() {
+            return self.held.succeeded_at_once(limit.get(), &Moment::now);
         }
+        begun(&mut self.progress, limit, self.began, &mut self.held).succeeded(options, &Moment::now);
     }
 
     #[inline(never)]
     fn failed(&mut self, code: Option<u64>, result: Result<&S::Response, &S::Error>) -> Result<Duration, Ending> {
         let Self { settings, began, held, progress, next, .. } = self;
-        let progress = progress.get_or_insert_with(|| Box::new(Progress::new(*began, mem::take(held))));
-        progress.failed(&settings.source);
+        let progress = begun(progress, &settings.rules.limit, *began, held);
+        progress.failed();
         match (next, code) {
             (Some(_), Some(code)) => settings.wait(progress, code, result),
             _ => Err(Ending::Cancelled),
         }
+    }
+
+    /// How the call ends.
+    #[inline]
+    fn poll(
+        &mut self,
+        mut at: Pin<&mut At<S::Future, Answer<S, Request>>>,
+        cx: &mut Context<'_>,
+    ) -> Poll<Answer<S, Request>> {
+        loop {
+            match at.as_mut().project() {
+                Where::Run { run } => {
+                    let result = match self.course.within(|| run.poll(cx)) {
+                        Poll::Ready(result) => result,
+                        Poll::Pending => return Poll::Pending,
+                    };
+                    match self.after(result.as_ref()) {
+                        Some(wait) => {
+                            let kept = self.settings.rules.options.deadline.map(|_| result);
+                            at.set(At::Waits { sleep: sleeping(wait), kept });
+                        }
+                        None => return Poll::Ready(result),
+                    }
+                }
+                Where::Waits { sleep, kept } => {
+                    if sleep.as_mut().map_or(false, |sleep| sleep.as_mut().poll(cx).is_pending()) {
+                        return Poll::Pending;
+                    }
+                    *sleep = None;
+                    match self.next_run(kept, cx) {
+                        Poll::Ready(Ok(run)) => at.set(At::Run { run }),
+                        Poll::Ready(Err(ended)) => return Poll::Ready(ended),
+                        Poll::Pending => return Poll::Pending,
+                    }
+                }
+            }
+        }
+    }
+
+    /// The next run, once the service is ready; or how the call ends, where the deadline has come, or the service failed.
+    fn next_run(
+        &mut self,
+        kept: &mut Option<Answer<S, Request>>,
+        cx: &mut Context<'_>,
+    ) -> Poll<Result<S::Future, Answer<S, Request>>> {
+        match self.service.poll_ready(cx) {
+            Poll::Ready(Ok(())) => {}
+            Poll::Ready(Err(error)) => {
+                self.gave_up(Ending::Cancelled);
+                return Poll::Ready(Err(Err(error)));
+            }
+            Poll::Pending => return Poll::Pending,
+        }
+        let begun = self.begin();
+        Poll::Ready(begun.ok_or_else(|| kept.take().expect("a call with a deadline keeps how its run ended")))
     }
 
     /// Begins the next run, unless the deadline has come.
@@ -182,68 +247,32 @@ impl<S: Service<Request>, Request, L: LayerError<S::Error>> Future for RetryCall
 
     #[inline]
     fn poll(self: Pin<&mut Self>, cx: &mut Context<'_>) -> Poll<Self::Output> {
-        let mut at = self.project().at;
-        loop {
-            match at.as_mut().project() {
-                Where::Run { run, retries } => {
-                    let result = match retries.course.within(|| run.poll(cx)) {
-                        Poll::Ready(result) => result,
-                        Poll::Pending => return Poll::Pending,
-                    };
-                    match retries.after(result.as_ref()) {
-                        Some(wait) => at.as_mut().wait(wait, result),
-                        None => {
-                            at.set(At::Over);
-                            return Poll::Ready(result.map_err(L::of));
-                        }
-                    }
-                }
-                Where::Waits { sleep, retries, .. } => {
-                    if sleep.as_mut().map_or(false, |sleep| sleep.as_mut().poll(cx).is_pending()) {
-                        return Poll::Pending;
-                    }
-                    *sleep = None;
-                    let ended = match retries.service.poll_ready(cx) {
-                        Poll::Ready(Ok(())) => at.as_mut().begin(),
-                        Poll::Ready(Err(error)) => {
-                            retries.gave_up(Ending::Cancelled);
-                            Some(Err(error))
-                        }
-                        Poll::Pending => return Poll::Pending,
-                    };
-                    if let Some(result) = ended {
-                        at.set(At::Over);
-                        return Poll::Ready(result.map_err(L::of));
-                    }
-                }
-                Where::NotAdmitted { .. } | Where::Over => match at.project_replace(At::Over) {
-                    Left::NotAdmitted { refused } => return Poll::Ready(Err(refused.refused())),
-                    _ => panic!("it is not polled after its end"),
-                },
+        let mut stage = self.project().stage;
+        match stage.as_mut().project() {
+            Has::Admitted { at, retries } => {
+                let ended = match retries.poll(at, cx) {
+                    Poll::Ready(ended) => ended,
+                    Poll::Pending => return Poll::Pending,
+                };
+                stage.set(Stage::Over);
+                Poll::Ready(ended.map_err(L::of))
             }
+            Has::NotAdmitted { .. } | Has::Over => match stage.project_replace(Stage::Over) {
+                Had::NotAdmitted { refused } => Poll::Ready(Err(refused.refused())),
+                _ => panic!("it is not polled after its end"),
+            },
         }
     }
 }
 
-impl<S: Service<Request>, Request, L: MayRefuse> At<S, Request, L> {
-    /// The run that is over is waited for the next one.
-    fn wait(mut self: Pin<&mut Self>, wait: Duration, result: Answer<S, Request>) {
-        if let Left::Run { retries, .. } = self.as_mut().project_replace(Self::Over) {
-            let kept = retries.settings.rules.options.deadline.map(|_| result);
-            self.set(Self::Waits { sleep: sleeping(wait), kept, retries });
-        }
-    }
-
-    /// Begins the next run; or answers how the last one ended, where the deadline has come.
-    fn begin(mut self: Pin<&mut Self>) -> Option<Answer<S, Request>> {
-        if let Left::Waits { mut retries, kept, .. } = self.as_mut().project_replace(Self::Over) {
-            match retries.begin() {
-                Some(run) => self.set(Self::Run { run, retries }),
-                None => return kept,
-            }
-        }
-        None
-    }
+/// The progress of a call on this limit whose first run began then, holding this.
+fn begun<'p>(
+    progress: &'p mut Option<Box<Progress<'static>>>,
+    limit: &CowLimit<'static>,
+    began: Option<Moment>,
+    held: &mut impl Held,
+) -> &'p mut Progress<'static> {
+    progress.get_or_insert_with(|| Box::new(Progress::new(limit.clone(), began, mem::take(held))))
 }
 
 /// A timer, where there is something to wait for: a timer's tick is a millisecond.
@@ -253,9 +282,9 @@ fn sleeping(wait: Duration) -> Option<Pin<Box<Sleep>>> {
 
 impl<S: Service<Request>, Request, L: MayRefuse> fmt::Debug for RetryCall<S, Request, L> {
     fn fmt(&self, f: &mut fmt::Formatter<'_>) -> fmt::Result {
-        let progress = match &self.at {
-            At::Run { retries, .. } | At::Waits { retries, .. } => retries.progress.as_ref(),
-            At::NotAdmitted { .. } | At::Over => None,
+        let progress = match &self.stage {
+            Stage::Admitted { retries, .. } => retries.progress.as_ref(),
+            Stage::NotAdmitted { .. } | Stage::Over => None,
         };
         f.debug_struct("RetryCall").field("progress", &progress).finish_non_exhaustive()
     }
