@@ -5,7 +5,8 @@ ghost use Rattle.sched_plan.specs.Schedule.{leaf_in_range};
 ghost use Rattle.sched_step.specs.StateOf.{leaf_state};
 ghost use Rattle.sched_step_flat.specs.Words.{leaf_width, leaf_words};
 ghost use Rattle.sched_step_flat.specs.Parts.{wanted};
-ghost use Rattle.sched_step_flat.specs.FlatStep.{cued, divides, LeafSteps};
+ghost use Rattle.sched_step_flat.specs.FlatStep.{cued, divides, unread, LeafSteps};
+ghost use Rattle.sched_step_flat.specs.declared.parts.Part.TheVariants.{Unread};
 
 use crate::cues::{Cue, Reply};
 use crate::moments::{first_word_or, moment_or, next_boundary, next_fixed, time_between, word_or};
@@ -80,20 +81,24 @@ pub(crate) fn step_leaf(cue: &Cue, leaf: &Leaf, part: Part, words: &mut [u64]) -
                 reply(part, 0, Decision::Done)
             }
         }
-        Leaf::Fixed(_)
-        | Leaf::Windowed(_)
-        | Leaf::ExponentialMilli { .. }
-        | Leaf::Decorrelated { .. } => step_divided(cue, leaf, part, words),
+        Leaf::Fixed(_) | Leaf::Windowed(_) | Leaf::ExponentialMilli { .. } => {
+            let number = words[0];
+            reply(part, number, step_divided(cue, leaf, words))
+        }
+        Leaf::Decorrelated { .. } => {
+            let decision = step_divided(cue, leaf, words);
+            reply(part, words[0], decision)
+        }
     }
 }
 
 // The step of a leaf that divides. It is a call, so that what steps the others has no registers to save.
 #[inline(never)]
-fn step_divided(cue: &Cue, leaf: &Leaf, part: Part, words: &mut [u64]) -> Reply
+fn step_divided(cue: &Cue, leaf: &Leaf, words: &mut [u64]) -> Decision
     requires kind { IsTrue (divides leaf.now) }
     requires valid { IsTrue (leaf_in_range leaf.now) }
     requires fits { length words.old ≡ leaf_width leaf.now }
-    ensures { LeafSteps leaf.now part words.old (cued cue.now) words.new result }
+    ensures { LeafSteps leaf.now Unread words.old (cued cue.now) words.new (unread result) }
 {
     let now = cue.tick.now;
     match *leaf {
@@ -108,22 +113,18 @@ fn step_divided(cue: &Cue, leaf: &Leaf, part: Part, words: &mut [u64]) -> Reply
                 first_word_or(first, start, now),
                 next.get(),
             );
-            reply(part, count, go_at(next))
+            go_at(next)
         }
         Leaf::Windowed(length) => {
             let count = words[0];
             let first = words[1];
             put_two(words, sum(count, 1), word_or(first, now));
-            reply(
-                part,
-                count,
-                go_at(next_boundary(length, moment_or(first, now), now)),
-            )
+            go_at(next_boundary(length, moment_or(first, now), now))
         }
         Leaf::ExponentialMilli { thousandths, .. } => {
             let delay = words[0];
             put_one(words, scaled(delay, thousandths));
-            reply(part, delay, go_after(now, delay))
+            go_after(now, delay)
         }
         Leaf::Decorrelated {
             lane,
@@ -134,7 +135,7 @@ fn step_divided(cue: &Cue, leaf: &Leaf, part: Part, words: &mut [u64]) -> Reply
             let before = words[0];
             let delay = decorrelated(base, thousandths, most, before, cue.tick.words[lane]);
             put_one(words, delay);
-            reply(part, delay, go_after(now, delay))
+            go_after(now, delay)
         }
         _ => unreachable!(),
     }
