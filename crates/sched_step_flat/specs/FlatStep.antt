@@ -1,6 +1,6 @@
 -- One step as the code makes it, on words alone. That it meets the definition over whole histories is what
 -- `Record::advance` ensures.
-use Rattle.std.specs.Prelude.{◌≡◌, ℕ, Bool, if◌then◌else◌, nat_eq, List, ◌∷◌, ◌++◌, take, drop}
+use Rattle.std.specs.Prelude.{◌≡◌, ℕ, Bool, true, false, if◌then◌else◌, nat_eq, List, ◌∷◌, ◌++◌, take, drop}
 use Rattle.std.specs.Prelude.{slice_index, Option, Some, None}
 use Rattle.sched_time.specs.declared.starts.Decision.{Decision}
 use Rattle.sched_time.specs.declared.starts.Decision.TheVariants.{Done}
@@ -9,11 +9,12 @@ use Rattle.sched_plan.specs.Outputs.{with_input}
 use Rattle.sched_plan.specs.Gates.{is_wanted, passes}
 use Rattle.sched_plan.specs.Answer.{meet_decisions, join_decisions, is_done}
 use Rattle.sched_plan.specs.declared.leaves.Leaf.{Leaf}
+use Rattle.sched_plan.specs.declared.leaves.Leaf.TheVariants.{Fixed, Windowed, ExponentialMilli, Decorrelated}
 use Rattle.sched_plan.specs.declared.nodes.Side.TheVariants.{Output}
 use Rattle.sched_plan.specs.declared.nodes.Fold.TheVariants.{Sum, Count, Max, List as Listing}
 use Rattle.sched_plan.specs.declared.nodes.Test.{Test}
 use Rattle.sched_plan.specs.declared.nodes.One.{One}
-use Rattle.sched_plan.specs.declared.nodes.One.TheVariants.{Gate, Gather, AddOut, Nothing}
+use Rattle.sched_plan.specs.declared.nodes.One.TheVariants.{Gate, Gather, AddOut, Jitter, Nothing}
 use Rattle.sched_plan.specs.declared.nodes.Two.{Two}
 use Rattle.sched_plan.specs.declared.nodes.Two.TheVariants.{Meet, Join, Follow, Feed}
 use Rattle.sched_plan.specs.declared.history.Event.{Event}
@@ -47,6 +48,14 @@ flat_leaf l part ws e = (
   leaf_words (leaf_next l (leaf_from l ws) e),
   record { number = wanted part (leaf_gives l (leaf_from l ws) e); decision = leaf_decides l (leaf_from l ws) e },
 )
+
+-- whether a step of the leaf divides
+abbrev pub divides : Leaf → Bool
+divides (Fixed length) = true
+divides (Windowed length) = true
+divides (ExponentialMilli base thousandths) = true
+divides (Decorrelated lane base thousandths most) = true
+divides l = false
 
 -- a leaf's words and reply are these after one more event
 abbrev pub LeafSteps : Leaf → Part → List ℕ → Event → List ℕ → Reply → Type 0
@@ -131,6 +140,11 @@ FlatSteps s part ws e next reply = (next, reply) ≡ flat_step s part ws e
 -- where nothing is read of the output, they are these words and this decision
 abbrev pub Decides : Schedule → List ℕ → Event → List ℕ → Decision → Type 0
 Decides s ws e next decision = FlatSteps s Unread ws e next (unread decision)
+
+-- whether the node picks a ratio for each delay
+abbrev pub is_jitter : One → Bool
+is_jitter (Jitter lane least most) = true
+is_jitter k = false
 
 -- the same of two schedules under a node
 abbrev pub PairSteps : Two → Schedule × Schedule → Part → List ℕ → Event → List ℕ → Reply → Type 0

@@ -1,11 +1,10 @@
 ghost use Rattle.std.specs.Prelude.{◌≡◌, ◌+◌, if◌then◌else◌, None, length, IsTrue};
-ghost use Rattle.sched_plan.specs.Schedule.{is_valid, leaf_in_range, one as one_schedule};
+ghost use Rattle.sched_plan.specs.Schedule.{is_valid, one as one_schedule};
 ghost use Rattle.sched_step.specs.Progress.{is_beside};
 ghost use Rattle.sched_step.specs.Step.{begins};
-ghost use Rattle.sched_step_flat.specs.Words.{blank, kept_from, leaf_width, width_of, one_width};
-ghost use Rattle.sched_step_flat.specs.FlatStep.{cued, pair_number, unread, Decides, FlatSteps, LeafSteps};
+ghost use Rattle.sched_step_flat.specs.Words.{blank, kept_from, width_of, one_width};
+ghost use Rattle.sched_step_flat.specs.FlatStep.{cued, is_jitter, pair_number, unread, Decides, FlatSteps};
 ghost use Rattle.sched_step_flat.specs.FlatStep.{PairDecides, PairSteps};
-ghost use Rattle.sched_step_flat.specs.declared.parts.Part.TheVariants.{Unread};
 
 use crate::cues::{Cue, Reply};
 use crate::leaves::step_leaf;
@@ -15,14 +14,14 @@ use crate::parts::{Part, of_first, of_second, reads_output, under};
 use crate::puts::{first_word, put_one};
 use crate::resets::reset;
 use crate::widths::{one_width, width};
-use sched_plan::{Leaf, One, Plan, PlanShape, Two};
+use sched_plan::{One, Plan, PlanShape, Two};
 use sched_step::changes::{add, cap, set};
 use sched_step::decisions::{join, meet};
-use sched_time::{Decision, Moment};
+use sched_time::{Decision, Millis, Moment};
 
 /// Makes the words those after one more event, and gives what the plan decides, where nothing is read of its output.
 ///
-/// A plan of which nothing is read is stepped as `advance` steps it, with less to hand over at each node.
+/// It hands on what it is given and has nothing left to do: so it saves no register, and each node is a jump.
 #[cycle(decide)]
 #[inline(always)]
 pub(crate) fn decide(cue: &Cue, plan: &Plan, words: &mut [u64]) -> Decision
@@ -30,16 +29,17 @@ pub(crate) fn decide(cue: &Cue, plan: &Plan, words: &mut [u64]) -> Decision
     ensures { Decides plan.now words.old (cued cue.now) words.new result }
 {
     match plan.shape() {
-        PlanShape::Leaf(leaf) => match *leaf {
-            Leaf::Fixed(_)
-            | Leaf::Windowed(_)
-            | Leaf::ExponentialMilli { .. }
-            | Leaf::Decorrelated { .. } => decide_leaf(cue, leaf, words),
-            _ => step_leaf(cue, leaf, Part::Unread, words).decision,
+        PlanShape::Leaf(leaf) => step_leaf(cue, leaf, Part::Unread, words).decision,
+        PlanShape::One(node, plan) => match *node {
+            One::Add(more) => decide_add(cue, more, words, plan),
+            One::Set(delay) => decide_set(cue, delay, words, plan),
+            One::Cap(most) => decide_cap(cue, most, words, plan),
+            One::Jitter { .. } => decide_jitter(cue, node, words, plan),
+            One::Within(time) => decide_within(cue, time, words, plan),
+            _ => decide_one(cue, node, words, plan),
         },
-        PlanShape::One(node, plan) => decide_one(cue, node, plan, words),
         PlanShape::Two(node, plans) => match *node {
-            Two::Meet | Two::Join => decide_beside(cue, *node, plans, words),
+            Two::Meet | Two::Join => decide_beside(cue, plans, words, *node),
             Two::Follow => decide_follow(cue, plans, words),
             Two::Feed => decide_feed(cue, plans, words),
         },
@@ -56,49 +56,73 @@ fn decide_below(cue: &Cue, plan: &Plan, words: &mut [u64]) -> Decision
     decide(cue, plan, words)
 }
 
-// A leaf, by a call: where one that divides is not inlined, what steps the others has no registers to save.
-#[inline(never)]
-fn decide_leaf(cue: &Cue, leaf: &Leaf, words: &mut [u64]) -> Decision
-    requires valid { IsTrue (leaf_in_range leaf.now) }
-    requires fits { length words.old ≡ leaf_width leaf.now }
-    ensures { LeafSteps leaf.now Unread words.old (cued cue.now) words.new (unread result) }
-{
-    step_leaf(cue, leaf, Part::Unread, words).decision
-}
-
-// A node over one plan. The usual ones choose once what they do, before the plan is stepped.
+// Each delay made longer by so much.
 #[cycle(decide)]
 #[inline(never)]
-fn decide_one(cue: &Cue, node: &One, plan: &Plan, words: &mut [u64]) -> Decision
+fn decide_add(cue: &Cue, more: Millis, words: &mut [u64], plan: &Plan) -> Decision
+    requires { length words.old ≡ width_of plan.now }
+    ensures { Decides (one_schedule (One.Add more) plan.now) words.old (cued cue.now) words.new result }
+{
+    add(more, cue.tick.now, decide_below(cue, plan, words))
+}
+
+// This delay instead of each.
+#[cycle(decide)]
+#[inline(never)]
+fn decide_set(cue: &Cue, delay: Millis, words: &mut [u64], plan: &Plan) -> Decision
+    requires { length words.old ≡ width_of plan.now }
+    ensures { Decides (one_schedule (One.Set delay) plan.now) words.old (cued cue.now) words.new result }
+{
+    set(delay, cue.tick.now, decide_below(cue, plan, words))
+}
+
+// Each delay, but at most this one.
+#[cycle(decide)]
+#[inline(never)]
+fn decide_cap(cue: &Cue, most: Millis, words: &mut [u64], plan: &Plan) -> Decision
+    requires { length words.old ≡ width_of plan.now }
+    ensures { Decides (one_schedule (One.Cap most) plan.now) words.old (cued cue.now) words.new result }
+{
+    cap(most, cue.tick.now, decide_below(cue, plan, words))
+}
+
+// Each delay times a ratio that a random word picks.
+#[cycle(decide)]
+#[inline(never)]
+fn decide_jitter(cue: &Cue, node: &One, words: &mut [u64], plan: &Plan) -> Decision
+    requires kind { IsTrue (is_jitter node.now) }
     requires valid { IsTrue (is_valid (one_schedule node.now plan.now)) }
-    requires fits { length words.old ≡ one_width node.now + width_of plan.now }
+    requires fits { length words.old ≡ width_of plan.now }
     ensures { Decides (one_schedule node.now plan.now) words.old (cued cue.now) words.new result }
 {
-    let now = cue.tick.now;
+    let decision = decide_below(cue, plan, words);
     match *node {
-        One::Add(more) => add(more, now, decide_below(cue, plan, words)),
-        One::Set(delay) => set(delay, now, decide_below(cue, plan, words)),
-        One::Cap(most) => cap(most, now, decide_below(cue, plan, words)),
         One::Jitter { lane, least, most } => {
-            let decision = decide_below(cue, plan, words);
-            jitter(least, most, cue.tick.words[lane], now, decision)
+            jitter(least, most, cue.tick.words[lane], cue.tick.now, decision)
         }
-        One::Within(length) => {
-            let (own, below) = words.split_at_mut(1);
-            let word = own[0];
-            put_one(own, word_or(word, now));
-            within(length, word, now, decide_below(cue, plan, below))
-        }
-        One::First | One::Second | One::Nothing => decide_below(cue, plan, words),
-        _ => decide_other(cue, node, plan, words),
+        _ => unreachable!(),
     }
+}
+
+// The plan, but done once this much time has passed since the first event.
+#[cycle(decide)]
+#[inline(never)]
+fn decide_within(cue: &Cue, time: Millis, words: &mut [u64], plan: &Plan) -> Decision
+    requires { length words.old ≡ 1 + width_of plan.now }
+    ensures { Decides (one_schedule (One.Within time) plan.now) words.old (cued cue.now) words.new result }
+{
+    let now = cue.tick.now;
+    let (own, below) = words.split_at_mut(1);
+    let word = own[0];
+    put_one(own, word_or(word, now));
+    within(time, word, now, decide_below(cue, plan, below))
 }
 
 // Any node over one plan, of which it reads nothing, or else what `advance_one` does.
 #[cycle(decide)]
 #[inline(never)]
 #[tactic(auto, using(crate::proofs::Unread::unread_one, crate::proofs::Unread::unread_reader, crate::proofs::Unread::under_unread))]
-fn decide_other(cue: &Cue, node: &One, plan: &Plan, words: &mut [u64]) -> Decision
+fn decide_one(cue: &Cue, node: &One, words: &mut [u64], plan: &Plan) -> Decision
     requires valid { IsTrue (is_valid (one_schedule node.now plan.now)) }
     requires fits { length words.old ≡ one_width node.now + width_of plan.now }
     ensures { Decides (one_schedule node.now plan.now) words.old (cued cue.now) words.new result }
@@ -109,7 +133,7 @@ fn decide_other(cue: &Cue, node: &One, plan: &Plan, words: &mut [u64]) -> Decisi
     let (own, below) = words.split_at_mut(one_width(*node));
     let word = first_word(own);
     begin(node, word, cue.tick.now, plan, below);
-    let read = unread(decide(cue, plan, below));
+    let read = unread(decide_below(cue, plan, below));
     keep(node, cue, &read, own);
     reply(node, Part::Unread, word, cue, &read).decision
 }
@@ -128,14 +152,14 @@ fn unread(decision: Decision) -> Reply
 // Two plans side by side.
 #[cycle(decide)]
 #[inline(never)]
-fn decide_beside(cue: &Cue, node: Two, plans: &(Plan, Plan), words: &mut [u64]) -> Decision
+fn decide_beside(cue: &Cue, plans: &(Plan, Plan), words: &mut [u64], node: Two) -> Decision
     requires beside { IsTrue (is_beside node) }
     requires fits { length words.old ≡ width_of plans.now.0 + width_of plans.now.1 }
     ensures { PairDecides node plans.now words.old (cued cue.now) words.new result }
 {
     let (front, rest) = words.split_at_mut(width(&plans.0));
     let first = decide(cue, &plans.0, front);
-    let second = decide(cue, &plans.1, rest);
+    let second = decide_below(cue, &plans.1, rest);
     match node {
         Two::Meet => meet(first, second),
         Two::Join => join(first, second),
@@ -156,7 +180,7 @@ fn decide_feed(cue: &Cue, plans: &(Plan, Plan), words: &mut [u64]) -> Decision
         tick: cue.tick,
         input: first.number,
     };
-    let second = decide(&through, &plans.1, rest);
+    let second = decide_below(&through, &plans.1, rest);
     meet(first.decision, second)
 }
 
@@ -170,16 +194,16 @@ fn decide_follow(cue: &Cue, plans: &(Plan, Plan), words: &mut [u64]) -> Decision
     let (own, both) = words.split_at_mut(1);
     if own[0] != 0 {
         let (_, rest) = both.split_at_mut(both.len() - width(&plans.1));
-        return decide(cue, &plans.1, rest);
+        return decide_below(cue, &plans.1, rest);
     }
     let (front, rest) = both.split_at_mut(width(&plans.0));
-    let first = decide(cue, &plans.0, front);
+    let first = decide_below(cue, &plans.0, front);
     if let Decision::Go(_) = first {
         put_one(own, 0);
         return first;
     }
     put_one(own, 1);
-    decide(cue, &plans.1, rest)
+    decide_below(cue, &plans.1, rest)
 }
 
 // Makes the words those after one more event, and gives what is read of the plan's answer to it.

@@ -5,7 +5,8 @@ ghost use Rattle.sched_plan.specs.Schedule.{leaf_in_range};
 ghost use Rattle.sched_step.specs.StateOf.{leaf_state};
 ghost use Rattle.sched_step_flat.specs.Words.{leaf_width, leaf_words};
 ghost use Rattle.sched_step_flat.specs.Parts.{wanted};
-ghost use Rattle.sched_step_flat.specs.FlatStep.{cued, LeafSteps};
+ghost use Rattle.sched_step_flat.specs.FlatStep.{cued, divides, unread, LeafSteps};
+ghost use Rattle.sched_step_flat.specs.declared.parts.Part.TheVariants.{Unread};
 
 use crate::cues::{Cue, Reply};
 use crate::moments::{first_word_or, moment_or, next_boundary, next_fixed, time_between, word_or};
@@ -40,29 +41,6 @@ pub(crate) fn step_leaf(cue: &Cue, leaf: &Leaf, part: Part, words: &mut [u64]) -
             put_one(words, sum(count, 1));
             reply(part, count, go_after(now, delay.get()))
         }
-        Leaf::Fixed(length) => {
-            let count = words[0];
-            let first = words[1];
-            let start = words[2];
-            let next = next_fixed(length, first, start, now);
-            put_three(
-                words,
-                sum(count, 1),
-                first_word_or(first, start, now),
-                next.get(),
-            );
-            reply(part, count, go_at(next))
-        }
-        Leaf::Windowed(length) => {
-            let count = words[0];
-            let first = words[1];
-            put_two(words, sum(count, 1), word_or(first, now));
-            reply(
-                part,
-                count,
-                go_at(next_boundary(length, moment_or(first, now), now)),
-            )
-        }
         Leaf::Linear(delay) => {
             let count = sum(words[0], 1);
             put_one(words, count);
@@ -74,26 +52,10 @@ pub(crate) fn step_leaf(cue: &Cue, leaf: &Leaf, part: Part, words: &mut [u64]) -
             put_one(words, product(delay, factor));
             reply(part, delay, go_after(now, delay))
         }
-        Leaf::ExponentialMilli { thousandths, .. } => {
-            let delay = words[0];
-            put_one(words, scaled(delay, thousandths));
-            reply(part, delay, go_after(now, delay))
-        }
         Leaf::Fibonacci(_) => {
             let delay = words[0];
             let after = words[1];
             put_two(words, after, sum(delay, after));
-            reply(part, delay, go_after(now, delay))
-        }
-        Leaf::Decorrelated {
-            lane,
-            base,
-            thousandths,
-            most,
-        } => {
-            let before = words[0];
-            let delay = decorrelated(base, thousandths, most, before, cue.tick.words[lane]);
-            put_one(words, delay);
             reply(part, delay, go_after(now, delay))
         }
         Leaf::Elapsed => {
@@ -119,6 +81,63 @@ pub(crate) fn step_leaf(cue: &Cue, leaf: &Leaf, part: Part, words: &mut [u64]) -
                 reply(part, 0, Decision::Done)
             }
         }
+        Leaf::Fixed(_) | Leaf::Windowed(_) | Leaf::ExponentialMilli { .. } => {
+            let number = words[0];
+            reply(part, number, step_divided(cue, leaf, words))
+        }
+        Leaf::Decorrelated { .. } => {
+            let decision = step_divided(cue, leaf, words);
+            reply(part, words[0], decision)
+        }
+    }
+}
+
+// The step of a leaf that divides. It is a call, so that what steps the others has no registers to save.
+#[inline(never)]
+fn step_divided(cue: &Cue, leaf: &Leaf, words: &mut [u64]) -> Decision
+    requires kind { IsTrue (divides leaf.now) }
+    requires valid { IsTrue (leaf_in_range leaf.now) }
+    requires fits { length words.old ≡ leaf_width leaf.now }
+    ensures { LeafSteps leaf.now Unread words.old (cued cue.now) words.new (unread result) }
+{
+    let now = cue.tick.now;
+    match *leaf {
+        Leaf::Fixed(length) => {
+            let count = words[0];
+            let first = words[1];
+            let start = words[2];
+            let next = next_fixed(length, first, start, now);
+            put_three(
+                words,
+                sum(count, 1),
+                first_word_or(first, start, now),
+                next.get(),
+            );
+            go_at(next)
+        }
+        Leaf::Windowed(length) => {
+            let count = words[0];
+            let first = words[1];
+            put_two(words, sum(count, 1), word_or(first, now));
+            go_at(next_boundary(length, moment_or(first, now), now))
+        }
+        Leaf::ExponentialMilli { thousandths, .. } => {
+            let delay = words[0];
+            put_one(words, scaled(delay, thousandths));
+            go_after(now, delay)
+        }
+        Leaf::Decorrelated {
+            lane,
+            base,
+            thousandths,
+            most,
+        } => {
+            let before = words[0];
+            let delay = decorrelated(base, thousandths, most, before, cue.tick.words[lane]);
+            put_one(words, delay);
+            go_after(now, delay)
+        }
+        _ => unreachable!(),
     }
 }
 

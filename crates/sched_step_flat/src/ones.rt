@@ -1,11 +1,11 @@
-ghost use Rattle.std.specs.Prelude.{◌≡◌, ◌-◌, ◌≤◌, if◌then◌else◌, nat_le, length, slice_index, IsTrue};
+ghost use Rattle.std.specs.Prelude.{◌≡◌, ◌≤◌, if◌then◌else◌, length, slice_index, Some, IsTrue};
 ghost use Rattle.sched_time.specs.declared.starts.Decision.{Decision};
 ghost use Rattle.sched_plan.specs.Changes.{goes_past, moved_decision};
 ghost use Rattle.sched_plan.specs.Delays.{added_out, jittered};
 ghost use Rattle.sched_plan.specs.Outputs.{number_of};
 ghost use Rattle.sched_plan.specs.Schedule.{one_in_range};
 ghost use Rattle.sched_step.specs.StateOf.{first_kept};
-ghost use Rattle.sched_step.specs.Step.{begins, fold_total, kept_or_now, one_next};
+ghost use Rattle.sched_step.specs.Step.{begins, fold_total, is_over, kept_or_now, one_next};
 ghost use Rattle.sched_step_flat.specs.Words.{kept_from, kept_words, moment_from, one_width};
 ghost use Rattle.sched_step_flat.specs.Parts.{number_datum};
 ghost use Rattle.sched_step_flat.specs.FlatStep.{answer_of, cued, decision_gated, one_reply};
@@ -211,7 +211,8 @@ fn add_out(now: Moment, number: Option<u64>, decision: Decision) -> Decision
 /// The decision, but done once so much time has passed since the moment that the word stands for.
 #[inline(always)]
 pub(crate) fn within(length: Millis, word: u64, now: Moment, decision: Decision) -> Decision
-    ensures { result ≡ (if nat_le length (now - kept_or_now (moment_from word) now) then Decision.Done else decision) }
+    ensures { result ≡
+        (if is_over length (Some (kept_or_now (moment_from word) now)) now then Decision.Done else decision) }
 {
     if length.get() <= time_between(moment_or(word, now), now) {
         Decision::Done
