@@ -141,7 +141,7 @@ fn course_told(
     if !course.is_given(events) {
         return Err(Status::OutOfRange);
     }
-    let plan = policy.plan(alloc)?;
+    let plan = policy.plan()?;
     match told(alloc, plan.get(), course, events) {
         Ok(told) => Ok(told),
         Err(_) => Err(Status::NoMemory),

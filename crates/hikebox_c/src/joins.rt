@@ -18,21 +18,18 @@ pub(crate) fn join_into(alloc: Global, kind: Kind, from: &mut Handle, pass: &mut
         from.put(held);
         return Status::WrongKind.code();
     }
-    let Some(mut to) = pass.take(alloc) else {
+    let Some(to) = pass.as_mut() else {
         from.put(held);
         return Status::Empty.code();
     };
     if to.kind() != Kind::Pass {
         from.put(held);
-        pass.put(to);
         return Status::WrongKind.code();
     }
     if !to.draws_alike(&held) {
         from.put(held);
-        pass.put(to);
         return Status::DrawsElsewhere.code();
     }
     to.join(held);
-    pass.put(to);
     0
 }

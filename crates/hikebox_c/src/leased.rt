@@ -19,7 +19,7 @@ use std::alloc::Global;
 pub extern "C" fn hikebox_leased_new(alloc: Global, period: u64, leased: &mut Handle) -> u32
     ensures { Makes (MakesLeased period) leased.old.held result leased.new.held }
 {
-    if leased.is_full(alloc) {
+    if leased.is_full() {
         return Status::Full.code();
     }
     let made = Held::leased(alloc, period);
@@ -28,7 +28,6 @@ pub extern "C" fn hikebox_leased_new(alloc: Global, period: u64, leased: &mut Ha
 
 #[unsafe(no_mangle)]
 pub extern "C" fn hikebox_leased_draw(
-    alloc: Global,
     leased: &mut Handle,
     now: u64,
     ticket: &mut Ticket,
@@ -42,16 +41,15 @@ pub extern "C" fn hikebox_leased_draw(
     let Some(now) = Moment::new(now) else {
         return Status::TooLarge.code();
     };
-    let Some(mut held) = leased.take(alloc) else {
+    let Some(held) = leased.as_mut() else {
         return Status::Empty.code();
     };
     let answer = held.draw_leased(now);
-    leased.put(held);
     tell_draw(answer, ticket, again)
 }
 
 #[unsafe(no_mangle)]
-pub extern "C" fn hikebox_leased_granted(alloc: Global, leased: &mut Handle, grant: &Granted) -> u32
+pub extern "C" fn hikebox_leased_granted(leased: &mut Handle, grant: &Granted) -> u32
     ensures takes { grant.now.until ≤ FAR →
         OnHolder (TakesGrant (grant_of grant.now)) leased.old.held leased.new.held (λ r. result ≡ told r) }
     ensures too_large { FAR < grant.now.until →
@@ -66,7 +64,7 @@ pub extern "C" fn hikebox_leased_granted(alloc: Global, leased: &mut Handle, gra
     let Some(until) = Moment::new(until) else {
         return Status::TooLarge.code();
     };
-    let Some(mut held) = leased.take(alloc) else {
+    let Some(held) = leased.as_mut() else {
         return Status::Empty.code();
     };
     let answer = held.take_grant(Grant {
@@ -75,7 +73,6 @@ pub extern "C" fn hikebox_leased_granted(alloc: Global, leased: &mut Handle, gra
         tickets,
         until,
     });
-    leased.put(held);
     match answer {
         Ok(()) => 0,
         Err(status) => status.code(),
@@ -83,7 +80,7 @@ pub extern "C" fn hikebox_leased_granted(alloc: Global, leased: &mut Handle, gra
 }
 
 #[unsafe(no_mangle)]
-pub extern "C" fn hikebox_leased_leave_alone(alloc: Global, leased: &mut Handle, until: u64) -> u32
+pub extern "C" fn hikebox_leased_leave_alone(leased: &mut Handle, until: u64) -> u32
     ensures leaves { until ≤ FAR →
         OnHolder (LeavesAlone until) leased.old.held leased.new.held (λ r. result ≡ told r) }
     ensures too_large { FAR < until → (leased.new.held ≡ leased.old.held) × (result ≡ code_of status.TooLarge) }
@@ -91,11 +88,10 @@ pub extern "C" fn hikebox_leased_leave_alone(alloc: Global, leased: &mut Handle,
     let Some(until) = Moment::new(until) else {
         return Status::TooLarge.code();
     };
-    let Some(mut held) = leased.take(alloc) else {
+    let Some(held) = leased.as_mut() else {
         return Status::Empty.code();
     };
     let answer = held.leave_alone(until);
-    leased.put(held);
     match answer {
         Ok(()) => 0,
         Err(status) => status.code(),
@@ -103,19 +99,14 @@ pub extern "C" fn hikebox_leased_leave_alone(alloc: Global, leased: &mut Handle,
 }
 
 #[unsafe(no_mangle)]
-pub extern "C" fn hikebox_leased_hand_back(
-    alloc: Global,
-    leased: &mut Handle,
-    ticket: &Ticket,
-) -> u32
+pub extern "C" fn hikebox_leased_hand_back(leased: &mut Handle, ticket: &Ticket) -> u32
     ensures { OnHolder (TakesBack ticket.now) leased.old.held leased.new.held (λ r. result ≡ told r) }
 {
     let ticket = *ticket;
-    let Some(mut held) = leased.take(alloc) else {
+    let Some(held) = leased.as_mut() else {
         return Status::Empty.code();
     };
     let answer = held.take_back(ticket);
-    leased.put(held);
     match answer {
         Ok(()) => 0,
         Err(status) => status.code(),
@@ -123,12 +114,7 @@ pub extern "C" fn hikebox_leased_hand_back(
 }
 
 #[unsafe(no_mangle)]
-pub extern "C" fn hikebox_leased_deposit(
-    alloc: Global,
-    leased: &mut Handle,
-    now: u64,
-    requests: u64,
-) -> u32
+pub extern "C" fn hikebox_leased_deposit(leased: &mut Handle, now: u64, requests: u64) -> u32
     ensures counts { now ≤ FAR →
         OnHolder (CountsFor now requests) leased.old.held leased.new.held (λ r. result ≡ told r) }
     ensures too_large { FAR < now → (leased.new.held ≡ leased.old.held) × (result ≡ code_of status.TooLarge) }
@@ -136,11 +122,10 @@ pub extern "C" fn hikebox_leased_deposit(
     let Some(now) = Moment::new(now) else {
         return Status::TooLarge.code();
     };
-    let Some(mut held) = leased.take(alloc) else {
+    let Some(held) = leased.as_mut() else {
         return Status::Empty.code();
     };
     let answer = held.count_requests(now, requests);
-    leased.put(held);
     match answer {
         Ok(()) => 0,
         Err(status) => status.code(),
@@ -148,12 +133,7 @@ pub extern "C" fn hikebox_leased_deposit(
 }
 
 #[unsafe(no_mangle)]
-pub extern "C" fn hikebox_leased_tell(
-    alloc: Global,
-    leased: &mut Handle,
-    since: u64,
-    requests: &mut u64,
-) -> u32
+pub extern "C" fn hikebox_leased_tell(leased: &mut Handle, since: u64, requests: &mut u64) -> u32
     ensures tells { since ≤ FAR → OnHolder (TellsOf since) leased.old.held leased.new.held
         (Tells result requests.old requests.new) }
     ensures too_large { FAR < since → (leased.new.held ≡ leased.old.held)
@@ -162,17 +142,15 @@ pub extern "C" fn hikebox_leased_tell(
     let Some(since) = Moment::new(since) else {
         return Status::TooLarge.code();
     };
-    let Some(mut held) = leased.take(alloc) else {
+    let Some(held) = leased.as_mut() else {
         return Status::Empty.code();
     };
     let answer = held.tell_requests(since);
-    leased.put(held);
     tell(answer, requests)
 }
 
 #[unsafe(no_mangle)]
 pub extern "C" fn hikebox_leased_seen(
-    alloc: Global,
     leased: &mut Handle,
     drawn: &mut u64,
     at_hand: &mut u64,
@@ -181,11 +159,10 @@ pub extern "C" fn hikebox_leased_seen(
     ensures { OnHolder SeesLeased leased.old.held leased.new.held
         (TellsStanding result drawn.old drawn.new at_hand.old at_hand.new untold.old untold.new) }
 {
-    let Some(mut held) = leased.take(alloc) else {
+    let Some(held) = leased.as_mut() else {
         return Status::Empty.code();
     };
     let answer = held.standing();
-    leased.put(held);
     match answer {
         Ok(standing) => {
             *drawn = standing.drawn;
@@ -198,19 +175,13 @@ pub extern "C" fn hikebox_leased_seen(
 }
 
 #[unsafe(no_mangle)]
-pub extern "C" fn hikebox_leased_lend(
-    alloc: Global,
-    leased: &mut Handle,
-    tickets: u64,
-    grant: &mut Granted,
-) -> u32
+pub extern "C" fn hikebox_leased_lend(leased: &mut Handle, tickets: u64, grant: &mut Granted) -> u32
     ensures { OnHolder (LendsTo tickets) leased.old.held leased.new.held (Tells result grant.old grant.new) }
 {
-    let Some(mut held) = leased.take(alloc) else {
+    let Some(held) = leased.as_mut() else {
         return Status::Empty.code();
     };
     let answer = held.lend(tickets);
-    leased.put(held);
     tell(answer, grant)
 }
 

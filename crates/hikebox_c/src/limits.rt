@@ -77,7 +77,7 @@ pub extern "C" fn hikebox_bucket_new(alloc: Global, terms: &BucketGiven, limit: 
     if terms.size != BUCKET_SIZE {
         return Status::WrongSize.code();
     }
-    if limit.is_full(alloc) {
+    if limit.is_full() {
         return Status::Full.code();
     }
     let made = Limits::bucket(alloc, bucket_of(terms));
@@ -107,7 +107,7 @@ pub extern "C" fn hikebox_in_flight_new(
 ) -> u32
     ensures { MakesLimit (MakesFlight (flight_of least share most)) limit.old.held result limit.new.held }
 {
-    if limit.is_full(alloc) {
+    if limit.is_full() {
         return Status::Full.code();
     }
     let made = Limits::in_flight(alloc, InFlight { least, share, most });
@@ -128,7 +128,7 @@ pub extern "C" fn hikebox_adaptive_new(
     if terms.size != ADAPTIVE_SIZE {
         return Status::WrongSize.code();
     }
-    if limit.is_full(alloc) {
+    if limit.is_full() {
         return Status::Full.code();
     }
     let made = adaptive(alloc, terms);
@@ -186,7 +186,7 @@ pub extern "C" fn hikebox_breaker_new(
     let Some(now) = Moment::new(now) else {
         return Status::TooLarge.code();
     };
-    if limit.is_full(alloc) {
+    if limit.is_full() {
         return Status::Full.code();
     }
     let made = breaker(alloc, now, terms, times);
@@ -274,7 +274,7 @@ pub extern "C" fn hikebox_throttle_new(
     let Some(now) = Moment::new(now) else {
         return Status::TooLarge.code();
     };
-    if limit.is_full(alloc) {
+    if limit.is_full() {
         return Status::Full.code();
     }
     let made = throttle(alloc, now, ratio, period);
@@ -298,30 +298,26 @@ fn throttle(alloc: Global, now: Moment, ratio: u32, period: u64) -> Result<Box<L
 pub extern "C" fn hikebox_limit_both(alloc: Global, limit: &mut Handle, second: &mut Handle) -> u32
     ensures { JoinsHeld limit.old.held second.old.held result limit.new.held second.new.held }
 {
-    let Some(mut first) = limit.take(alloc) else {
+    let Some(other) = second.take(alloc) else {
         return Status::Empty.code();
     };
-    let Some(other) = second.take(alloc) else {
-        limit.put(first);
+    let Some(first) = limit.as_mut() else {
+        second.put(other);
         return Status::Empty.code();
     };
     let Ok(these) = first.limits_count() else {
-        limit.put(first);
         second.put(other);
         return Status::WrongKind.code();
     };
     let Ok(others) = other.limits_count() else {
-        limit.put(first);
         second.put(other);
         return Status::WrongKind.code();
     };
     if these + others > MOST {
-        limit.put(first);
         second.put(other);
         return Status::OutOfRange.code();
     }
     first.limits_join(other);
-    limit.put(first);
     0
 }
 
@@ -329,14 +325,13 @@ pub extern "C" fn hikebox_limit_both(alloc: Global, limit: &mut Handle, second: 
 pub extern "C" fn hikebox_limit_split(alloc: Global, limit: &mut Handle, part: &mut Handle) -> u32
     ensures { PartsHeld limit.old.held limit.new.held part.old.held result part.new.held }
 {
-    if part.is_full(alloc) {
+    if part.is_full() {
         return Status::Full.code();
     }
-    let Some(mut held) = limit.take(alloc) else {
+    let Some(held) = limit.as_mut() else {
         return Status::Empty.code();
     };
     let made = held.limits_split(alloc);
-    limit.put(held);
     match made {
         Ok(made) => fill(alloc, part, made),
         Err(status) => status.code(),
@@ -345,7 +340,6 @@ pub extern "C" fn hikebox_limit_split(alloc: Global, limit: &mut Handle, part: &
 
 #[unsafe(no_mangle)]
 pub extern "C" fn hikebox_limit_admit(
-    alloc: Global,
     limit: &mut Handle,
     now: u64,
     random: u32,
@@ -360,17 +354,15 @@ pub extern "C" fn hikebox_limit_admit(
     let Some(now) = Moment::new(now) else {
         return Status::TooLarge.code();
     };
-    let Some(mut held) = limit.take(alloc) else {
+    let Some(held) = limit.as_mut() else {
         return Status::Empty.code();
     };
     let answer = held.limits_admit(now, random);
-    limit.put(held);
     tell_asked(answer, number)
 }
 
 #[unsafe(no_mangle)]
 pub extern "C" fn hikebox_limit_draw(
-    alloc: Global,
     limit: &mut Handle,
     now: u64,
     cost: u64,
@@ -386,16 +378,15 @@ pub extern "C" fn hikebox_limit_draw(
     let Some(now) = Moment::new(now) else {
         return Status::TooLarge.code();
     };
-    let Some(mut held) = limit.take(alloc) else {
+    let Some(held) = limit.as_mut() else {
         return Status::Empty.code();
     };
     let answer = held.limits_draw(now, cost, random);
-    limit.put(held);
     tell_asked(answer, number)
 }
 
 #[unsafe(no_mangle)]
-pub extern "C" fn hikebox_limit_failed(alloc: Global, limit: &mut Handle, now: u64) -> u32
+pub extern "C" fn hikebox_limit_failed(limit: &mut Handle, now: u64) -> u32
     ensures failed { now ≤ FAR →
         TellsHeld (told_as.Failed now) limit.old.held limit.new.held result }
     ensures too_large { FAR < now → (limit.new.held ≡ limit.old.held) × (result ≡ code_of status.TooLarge) }
@@ -403,11 +394,10 @@ pub extern "C" fn hikebox_limit_failed(alloc: Global, limit: &mut Handle, now: u
     let Some(now) = Moment::new(now) else {
         return Status::TooLarge.code();
     };
-    let Some(mut held) = limit.take(alloc) else {
+    let Some(held) = limit.as_mut() else {
         return Status::Empty.code();
     };
     let answer = held.limits_failed(now);
-    limit.put(held);
     match answer {
         Ok(()) => 0,
         Err(status) => status.code(),
@@ -415,7 +405,7 @@ pub extern "C" fn hikebox_limit_failed(alloc: Global, limit: &mut Handle, now: u
 }
 
 #[unsafe(no_mangle)]
-pub extern "C" fn hikebox_limit_succeeded(alloc: Global, limit: &mut Handle, now: u64) -> u32
+pub extern "C" fn hikebox_limit_succeeded(limit: &mut Handle, now: u64) -> u32
     ensures succeeded { now ≤ FAR →
         TellsHeld (told_as.Succeeded now) limit.old.held limit.new.held result }
     ensures too_large { FAR < now → (limit.new.held ≡ limit.old.held) × (result ≡ code_of status.TooLarge) }
@@ -423,11 +413,10 @@ pub extern "C" fn hikebox_limit_succeeded(alloc: Global, limit: &mut Handle, now
     let Some(now) = Moment::new(now) else {
         return Status::TooLarge.code();
     };
-    let Some(mut held) = limit.take(alloc) else {
+    let Some(held) = limit.as_mut() else {
         return Status::Empty.code();
     };
     let answer = held.limits_succeeded(now);
-    limit.put(held);
     match answer {
         Ok(()) => 0,
         Err(status) => status.code(),
@@ -435,14 +424,13 @@ pub extern "C" fn hikebox_limit_succeeded(alloc: Global, limit: &mut Handle, now
 }
 
 #[unsafe(no_mangle)]
-pub extern "C" fn hikebox_limit_cancelled(alloc: Global, limit: &mut Handle) -> u32
+pub extern "C" fn hikebox_limit_cancelled(limit: &mut Handle) -> u32
     ensures { TellsHeld told_as.Cancelled limit.old.held limit.new.held result }
 {
-    let Some(mut held) = limit.take(alloc) else {
+    let Some(held) = limit.as_mut() else {
         return Status::Empty.code();
     };
     let answer = held.limits_cancelled();
-    limit.put(held);
     match answer {
         Ok(()) => 0,
         Err(status) => status.code(),
@@ -450,14 +438,13 @@ pub extern "C" fn hikebox_limit_cancelled(alloc: Global, limit: &mut Handle) -> 
 }
 
 #[unsafe(no_mangle)]
-pub extern "C" fn hikebox_limit_ended(alloc: Global, limit: &mut Handle) -> u32
+pub extern "C" fn hikebox_limit_ended(limit: &mut Handle) -> u32
     ensures { TellsHeld told_as.Ended limit.old.held limit.new.held result }
 {
-    let Some(mut held) = limit.take(alloc) else {
+    let Some(held) = limit.as_mut() else {
         return Status::Empty.code();
     };
     let answer = held.limits_ended();
-    limit.put(held);
     match answer {
         Ok(()) => 0,
         Err(status) => status.code(),

@@ -5,40 +5,27 @@ ghost use Rattle.hikebox_c.specs.Calls.{Tells, OnHeld};
 
 use sched_handle::{Handle, Status, tell};
 use sched_limit_handle::Words;
-use std::alloc::Global;
 
 #[unsafe(no_mangle)]
-pub extern "C" fn hikebox_limit_look(
-    alloc: Global,
-    limit: &mut Handle,
-    words: &mut Words,
-    quiet: &mut bool,
-) -> u32
+pub extern "C" fn hikebox_limit_look(limit: &mut Handle, words: &mut Words, quiet: &mut bool) -> u32
     ensures { OnHeld (OnLimits (Looks words.new)) limit.old.held limit.new.held
         (Tells result quiet.old quiet.new) }
 {
-    let Some(mut held) = limit.take(alloc) else {
+    let Some(held) = limit.as_mut() else {
         return Status::Empty.code();
     };
     let answer = held.limits_look(words);
-    limit.put(held);
     tell(answer, quiet)
 }
 
 #[unsafe(no_mangle)]
-pub extern "C" fn hikebox_limit_begin(
-    alloc: Global,
-    limit: &mut Handle,
-    words: &Words,
-    begun: &mut bool,
-) -> u32
+pub extern "C" fn hikebox_limit_begin(limit: &mut Handle, words: &Words, begun: &mut bool) -> u32
     ensures { OnHeld (OnLimits (Begins words.now)) limit.old.held limit.new.held
         (Tells result begun.old begun.new) }
 {
-    let Some(mut held) = limit.take(alloc) else {
+    let Some(held) = limit.as_mut() else {
         return Status::Empty.code();
     };
     let answer = held.limits_begin(words);
-    limit.put(held);
     tell(answer, begun)
 }

@@ -24,7 +24,7 @@ pub extern "C" fn hikebox_pace_new(
 ) -> u32
     ensures { Makes (PaceMade each burst longest) pace.old.held result pace.new.held }
 {
-    if pace.is_full(alloc) {
+    if pace.is_full() {
         return Status::Full.code();
     }
     let made = made(alloc, each, burst, longest);
@@ -57,25 +57,18 @@ pub(crate) fn pace_of(each: u64, burst: u64, longest: u64) -> Option<Pace>
 pub extern "C" fn hikebox_pace_split(alloc: Global, pace: &mut Handle, part: &mut Handle) -> u32
     ensures { MakesWith (OnPaces SplitsPace) pace.old.held pace.new.held part.old.held result part.new.held }
 {
-    if part.is_full(alloc) {
+    if part.is_full() {
         return Status::Full.code();
     }
-    let Some(mut held) = pace.take(alloc) else {
+    let Some(held) = pace.as_mut() else {
         return Status::Empty.code();
     };
     let made = held.pace_split(alloc);
-    pace.put(held);
     part.fill(made)
 }
 
 #[unsafe(no_mangle)]
-pub extern "C" fn hikebox_pace_take(
-    alloc: Global,
-    pace: &mut Handle,
-    now: u64,
-    cost: u64,
-    at: &mut u64,
-) -> u32
+pub extern "C" fn hikebox_pace_take(pace: &mut Handle, now: u64, cost: u64, at: &mut u64) -> u32
     ensures take { now ≤ FAR → OnHeld (OnPaces (TakesPace now cost)) pace.old.held pace.new.held
         (TellsTaken result at.old at.new) }
     ensures too_large { FAR < now → (pace.new.held ≡ pace.old.held) × (at.new ≡ at.old)
@@ -84,28 +77,26 @@ pub extern "C" fn hikebox_pace_take(
     let Some(now) = Moment::new(now) else {
         return Status::TooLarge.code();
     };
-    let Some(mut held) = pace.take(alloc) else {
+    let Some(held) = pace.as_mut() else {
         return Status::Empty.code();
     };
     let answer = held.pace_take(now, cost);
-    pace.put(held);
     tell_taken(answer, at)
 }
 
 #[unsafe(no_mangle)]
-pub extern "C" fn hikebox_pace_give_back(alloc: Global, pace: &mut Handle, given: &mut bool) -> u32
+pub extern "C" fn hikebox_pace_give_back(pace: &mut Handle, given: &mut bool) -> u32
     ensures { OnHeld (OnPaces GivesPace) pace.old.held pace.new.held (Tells result given.old given.new) }
 {
-    let Some(mut held) = pace.take(alloc) else {
+    let Some(held) = pace.as_mut() else {
         return Status::Empty.code();
     };
     let answer = held.pace_give_back();
-    pace.put(held);
     tell(answer, given)
 }
 
 #[unsafe(no_mangle)]
-pub extern "C" fn hikebox_pace_seen(alloc: Global, pace: &mut Handle, now: u64, at: &mut u64) -> u32
+pub extern "C" fn hikebox_pace_seen(pace: &mut Handle, now: u64, at: &mut u64) -> u32
     ensures seen { now ≤ FAR → OnHeld (OnPaces (SeesPace now)) pace.old.held pace.new.held
         (Tells result at.old at.new) }
     ensures too_large { FAR < now → (pace.new.held ≡ pace.old.held) × (at.new ≡ at.old)
@@ -114,11 +105,10 @@ pub extern "C" fn hikebox_pace_seen(alloc: Global, pace: &mut Handle, now: u64, 
     let Some(now) = Moment::new(now) else {
         return Status::TooLarge.code();
     };
-    let Some(mut held) = pace.take(alloc) else {
+    let Some(held) = pace.as_mut() else {
         return Status::Empty.code();
     };
     let answer = held.pace_seen(now);
-    pace.put(held);
     tell(answer, at)
 }
 

@@ -20,7 +20,7 @@ use std::alloc::Global;
 pub extern "C" fn hikebox_budget_fixed(alloc: Global, limit: u64, pass: &mut Handle) -> u32
     ensures { Makes (MakesBudget limit false) pass.old.held result pass.new.held }
 {
-    if pass.is_full(alloc) {
+    if pass.is_full() {
         return Status::Full.code();
     }
     let made = Held::fixed(alloc, limit);
@@ -31,7 +31,7 @@ pub extern "C" fn hikebox_budget_fixed(alloc: Global, limit: u64, pass: &mut Han
 pub extern "C" fn hikebox_budget_rising(alloc: Global, limit: u64, pass: &mut Handle) -> u32
     ensures { Makes (MakesBudget limit true) pass.old.held result pass.new.held }
 {
-    if pass.is_full(alloc) {
+    if pass.is_full() {
         return Status::Full.code();
     }
     let made = Held::rising(alloc, limit);
@@ -55,7 +55,7 @@ pub extern "C" fn hikebox_quota_new(
     let Some(now) = Moment::new(now) else {
         return Status::TooLarge.code();
     };
-    if pass.is_full(alloc) {
+    if pass.is_full() {
         return Status::Full.code();
     }
     let made = Held::quota(alloc, now, reserve, share, period, carries);
@@ -66,7 +66,7 @@ pub extern "C" fn hikebox_quota_new(
 pub extern "C" fn hikebox_pass_unlimited(alloc: Global, pass: &mut Handle) -> u32
     ensures { Makes MakesUnlimited pass.old.held result pass.new.held }
 {
-    if pass.is_full(alloc) {
+    if pass.is_full() {
         return Status::Full.code();
     }
     let made = Held::unlimited(alloc);
@@ -74,12 +74,7 @@ pub extern "C" fn hikebox_pass_unlimited(alloc: Global, pass: &mut Handle) -> u3
 }
 
 #[unsafe(no_mangle)]
-pub extern "C" fn hikebox_pass_draw(
-    alloc: Global,
-    pass: &mut Handle,
-    now: u64,
-    ticket: &mut u64,
-) -> u32
+pub extern "C" fn hikebox_pass_draw(pass: &mut Handle, now: u64, ticket: &mut u64) -> u32
     ensures draw { now ≤ FAR → OnHeld (OnPass (Draws now)) pass.old.held pass.new.held
         (Tells result ticket.old ticket.new) }
     ensures too_large { FAR < now → (pass.new.held ≡ pass.old.held)
@@ -88,21 +83,15 @@ pub extern "C" fn hikebox_pass_draw(
     let Some(now) = Moment::new(now) else {
         return Status::TooLarge.code();
     };
-    let Some(mut held) = pass.take(alloc) else {
+    let Some(held) = pass.as_mut() else {
         return Status::Empty.code();
     };
     let answer = held.draw(now);
-    pass.put(held);
     tell(answer, ticket)
 }
 
 #[unsafe(no_mangle)]
-pub extern "C" fn hikebox_pass_deposit(
-    alloc: Global,
-    pass: &mut Handle,
-    now: u64,
-    requests: u64,
-) -> u32
+pub extern "C" fn hikebox_pass_deposit(pass: &mut Handle, now: u64, requests: u64) -> u32
     ensures deposit { now ≤ FAR →
         OnHeld (OnPass (Deposits now requests)) pass.old.held pass.new.held (λ r. result ≡ told r) }
     ensures too_large { FAR < now → (pass.new.held ≡ pass.old.held) × (result ≡ code_of status.TooLarge) }
@@ -110,11 +99,10 @@ pub extern "C" fn hikebox_pass_deposit(
     let Some(now) = Moment::new(now) else {
         return Status::TooLarge.code();
     };
-    let Some(mut held) = pass.take(alloc) else {
+    let Some(held) = pass.as_mut() else {
         return Status::Empty.code();
     };
     let answer = held.deposit(now, requests);
-    pass.put(held);
     match answer {
         Ok(()) => 0,
         Err(status) => status.code(),
@@ -122,14 +110,13 @@ pub extern "C" fn hikebox_pass_deposit(
 }
 
 #[unsafe(no_mangle)]
-pub extern "C" fn hikebox_pass_hand_back(alloc: Global, pass: &mut Handle) -> u32
+pub extern "C" fn hikebox_pass_hand_back(pass: &mut Handle) -> u32
     ensures { OnHeld (OnPass HandsBack) pass.old.held pass.new.held (λ r. result ≡ told r) }
 {
-    let Some(mut held) = pass.take(alloc) else {
+    let Some(held) = pass.as_mut() else {
         return Status::Empty.code();
     };
     let answer = held.hand_back();
-    pass.put(held);
     match answer {
         Ok(()) => 0,
         Err(status) => status.code(),
@@ -137,19 +124,13 @@ pub extern "C" fn hikebox_pass_hand_back(alloc: Global, pass: &mut Handle) -> u3
 }
 
 #[unsafe(no_mangle)]
-pub extern "C" fn hikebox_pass_set_terms(
-    alloc: Global,
-    pass: &mut Handle,
-    reserve: u64,
-    share: u64,
-) -> u32
+pub extern "C" fn hikebox_pass_set_terms(pass: &mut Handle, reserve: u64, share: u64) -> u32
     ensures { OnHeld (OnPass (SetsTerms reserve share)) pass.old.held pass.new.held (λ r. result ≡ told r) }
 {
-    let Some(mut held) = pass.take(alloc) else {
+    let Some(held) = pass.as_mut() else {
         return Status::Empty.code();
     };
     let answer = held.set_terms(reserve, share);
-    pass.put(held);
     match answer {
         Ok(()) => 0,
         Err(status) => status.code(),
@@ -160,14 +141,13 @@ pub extern "C" fn hikebox_pass_set_terms(
 pub extern "C" fn hikebox_pass_split(alloc: Global, pass: &mut Handle, part: &mut Handle) -> u32
     ensures { MakesWith (OnPass Splits) pass.old.held pass.new.held part.old.held result part.new.held }
 {
-    if part.is_full(alloc) {
+    if part.is_full() {
         return Status::Full.code();
     }
-    let Some(mut held) = pass.take(alloc) else {
+    let Some(held) = pass.as_mut() else {
         return Status::Empty.code();
     };
     let made = held.split(alloc);
-    pass.put(held);
     part.fill(made)
 }
 
@@ -180,31 +160,24 @@ pub extern "C" fn hikebox_pass_join(alloc: Global, pass: &mut Handle, other: &mu
 }
 
 #[unsafe(no_mangle)]
-pub extern "C" fn hikebox_pass_raise(
-    alloc: Global,
-    pass: &mut Handle,
-    to: u64,
-    limit: &mut u64,
-) -> u32
+pub extern "C" fn hikebox_pass_raise(pass: &mut Handle, to: u64, limit: &mut u64) -> u32
     ensures { OnHeld (OnPass (Raises to)) pass.old.held pass.new.held (Tells result limit.old limit.new) }
 {
-    let Some(mut held) = pass.take(alloc) else {
+    let Some(held) = pass.as_mut() else {
         return Status::Empty.code();
     };
     let answer = held.raise(to);
-    pass.put(held);
     tell(answer, limit)
 }
 
 #[unsafe(no_mangle)]
-pub extern "C" fn hikebox_pass_count(alloc: Global, pass: &mut Handle, tickets: &mut u64) -> u32
+pub extern "C" fn hikebox_pass_count(pass: &mut Handle, tickets: &mut u64) -> u32
     ensures { OnHeld (Kept CountsTickets) pass.old.held pass.new.held (Tells result tickets.old tickets.new) }
 {
-    let Some(held) = pass.take(alloc) else {
+    let Some(held) = pass.as_mut() else {
         return Status::Empty.code();
     };
     let answer = held.count();
-    pass.put(held);
     tell(answer, tickets)
 }
 
@@ -220,12 +193,7 @@ pub struct SizedUsage {
 const USAGE_SIZE: usize = 48;
 
 #[unsafe(no_mangle)]
-pub extern "C" fn hikebox_pass_seen(
-    alloc: Global,
-    pass: &mut Handle,
-    now: u64,
-    usage: &mut SizedUsage,
-) -> u32
+pub extern "C" fn hikebox_pass_seen(pass: &mut Handle, now: u64, usage: &mut SizedUsage) -> u32
     ensures seen { usage.old.size ≡ 48 → now ≤ FAR → OnHeld (OnPass (Sees now)) pass.old.held pass.new.held
         (Tells result usage.old.usage usage.new.usage) }
     ensures too_large { usage.old.size ≡ 48 → FAR < now → (pass.new.held ≡ pass.old.held)
@@ -237,11 +205,11 @@ pub extern "C" fn hikebox_pass_seen(
     if usage.size != USAGE_SIZE {
         return Status::WrongSize.code();
     }
-    see(alloc, pass, now, &mut usage.usage)
+    see(pass, now, &mut usage.usage)
 }
 
 // Tells what is known of the window of this moment.
-fn see(alloc: Global, pass: &mut Handle, now: u64, usage: &mut Usage) -> u32
+fn see(pass: &mut Handle, now: u64, usage: &mut Usage) -> u32
     ensures seen { now ≤ FAR → OnHeld (OnPass (Sees now)) pass.old.held pass.new.held
         (Tells result usage.old usage.new) }
     ensures too_large { FAR < now → (pass.new.held ≡ pass.old.held)
@@ -250,11 +218,10 @@ fn see(alloc: Global, pass: &mut Handle, now: u64, usage: &mut Usage) -> u32
     let Some(now) = Moment::new(now) else {
         return Status::TooLarge.code();
     };
-    let Some(mut held) = pass.take(alloc) else {
+    let Some(held) = pass.as_mut() else {
         return Status::Empty.code();
     };
     let answer = held.usage(now);
-    pass.put(held);
     tell(answer, usage)
 }
 
@@ -262,12 +229,12 @@ fn see(alloc: Global, pass: &mut Handle, now: u64, usage: &mut Usage) -> u32
 pub extern "C" fn hikebox_pass_close(alloc: Global, pass: &mut Handle, tickets: &mut u64) -> u32
     ensures { ClosesHeld pass.old.held pass.new.held (Tells result tickets.old tickets.new) }
 {
-    let Some(mut held) = pass.take(alloc) else {
+    let Some(held) = pass.as_mut() else {
         return Status::Empty.code();
     };
     let answer = held.close();
-    if held.kind() != Kind::Room {
-        pass.put(held);
+    if held.kind() == Kind::Room {
+        drop(pass.take(alloc));
     }
     tell(answer, tickets)
 }

@@ -29,7 +29,7 @@ pub extern "C" fn hikebox_policy_read(
     ensures place { result ≢ code_of status.NotJson → place.new ≡ nowhere }
 {
     *place = Place::nowhere();
-    if policy.is_full(alloc) {
+    if policy.is_full() {
         return Status::Full.code();
     }
     let made = Held::read(alloc, json, place);
@@ -50,7 +50,7 @@ pub extern "C" fn hikebox_policy_node(
     ensures made { Makes (MakesNode name.now numbers.now first.old.held second.old.held)
         made.old.held result made.new.held }
 {
-    if made.is_full(alloc) {
+    if made.is_full() {
         return Status::Full.code();
     }
     let policy = node_over(alloc, name, numbers, first, second);
@@ -69,21 +69,21 @@ fn node_over(
     ensures second { second.new.held ≡ second.old.held }
     ensures made { MakesNode name.now numbers.now first.old.held second.old.held result }
 {
-    let one = given(alloc, first)?;
-    let other = given(alloc, second)?;
+    let one = given(first)?;
+    let other = given(second)?;
     made(alloc, name, numbers, plan_in(&one), plan_in(&other))
 }
 
 // The policy that a handle holds, and none where it holds nothing.
-fn given(alloc: Global, handle: &mut Handle) -> Result<Option<SharedPlan>, Status>
+fn given(handle: &mut Handle) -> Result<Option<SharedPlan>, Status>
     ensures kept { handle.new.held ≡ handle.old.held }
     ensures ok { IfOk result (IsGiven handle.old.held) }
     ensures err { IfErr result (IsNotGiven handle.old.held) }
 {
-    if !handle.is_full(alloc) {
+    if !handle.is_full() {
         return Ok(None);
     }
-    match handle.plan(alloc) {
+    match handle.plan() {
         Ok(plan) => Ok(Some(plan)),
         Err(status) => Err(status),
     }
@@ -130,20 +130,18 @@ pub extern "C" fn hikebox_policy_share(
 ) -> u32
     ensures { MakesWith (Kept Shares) policy.old.held policy.new.held other.old.held result other.new.held }
 {
-    if other.is_full(alloc) {
+    if other.is_full() {
         return Status::Full.code();
     }
-    let Some(held) = policy.take(alloc) else {
+    let Some(held) = policy.as_mut() else {
         return Status::Empty.code();
     };
     let made = held.shared(alloc);
-    policy.put(held);
     other.fill(made)
 }
 
 #[unsafe(no_mangle)]
 pub extern "C" fn hikebox_policy_size(
-    alloc: Global,
     policy: &mut Handle,
     nodes: &mut u64,
     depth: &mut u64,
@@ -152,11 +150,10 @@ pub extern "C" fn hikebox_policy_size(
     ensures { OnHeld (Kept Sizes) policy.old.held policy.new.held
         (Tells result (size_of nodes.old depth.old most.old) (size_of nodes.new depth.new most.new)) }
 {
-    let Some(held) = policy.take(alloc) else {
+    let Some(held) = policy.as_mut() else {
         return Status::Empty.code();
     };
     let size = held.size();
-    policy.put(held);
     match size {
         Ok(size) => {
             *nodes = size.nodes;
@@ -169,14 +166,13 @@ pub extern "C" fn hikebox_policy_size(
 }
 
 #[unsafe(no_mangle)]
-pub extern "C" fn hikebox_policy_reads(alloc: Global, policy: &mut Handle, reads: &mut u64) -> u32
+pub extern "C" fn hikebox_policy_reads(policy: &mut Handle, reads: &mut u64) -> u32
     ensures { OnHeld (Kept Reads) policy.old.held policy.new.held (Tells result reads.old reads.new) }
 {
-    let Some(held) = policy.take(alloc) else {
+    let Some(held) = policy.as_mut() else {
         return Status::Empty.code();
     };
     let answer = held.reads();
-    policy.put(held);
     tell(answer, reads)
 }
 
@@ -199,7 +195,7 @@ fn json_of(alloc: Global, policy: &mut Handle) -> Result<String, Status>
     ensures kept { policy.new.held ≡ policy.old.held }
     ensures json { WritesJson policy.old.held result }
 {
-    let plan = policy.plan(alloc)?;
+    let plan = policy.plan()?;
     match to_json(alloc, plan.get()) {
         Ok(text) => Ok(text),
         Err(_) => Err(Status::NoMemory),

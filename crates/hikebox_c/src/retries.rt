@@ -46,19 +46,16 @@ fn new_retry(
         retry.old.held result retry.new.held }
     ensures policy { policy.new.held ≡ policy.old.held }
 {
-    if retry.is_full(alloc) {
+    if retry.is_full() {
         return Status::Full.code();
     }
-    let Some(plan) = policy.take(alloc) else {
+    let Some(plan) = policy.as_mut() else {
         return Status::Empty.code();
     };
-    let Some(mut held) = pass.take(alloc) else {
-        policy.put(plan);
+    let Some(held) = pass.as_mut() else {
         return Status::Empty.code();
     };
-    let made = Held::retry(alloc, &plan, &mut held, deadline);
-    policy.put(plan);
-    pass.put(held);
+    let made = Held::retry(alloc, plan, held, deadline);
     retry.fill(made)
 }
 
@@ -132,11 +129,10 @@ fn poll(
         Ok(report) => report,
         Err(status) => return status.code(),
     };
-    let Some(mut held) = retry.take(alloc) else {
+    let Some(held) = retry.as_mut() else {
         return Status::Empty.code();
     };
     let answer = held.poll(alloc, &tick, report, next);
-    retry.put(held);
     tell_status(answer)
 }
 
@@ -161,14 +157,13 @@ pub(crate) fn reported(report: u32, code: u64) -> Result<Option<Ran>, Status>
 }
 
 #[unsafe(no_mangle)]
-pub extern "C" fn hikebox_retry_cancel(alloc: Global, retry: &mut Handle) -> u32
+pub extern "C" fn hikebox_retry_cancel(retry: &mut Handle) -> u32
     ensures { OnHeld Cancels retry.old.held retry.new.held (λ r. result ≡ told r) }
 {
-    let Some(mut held) = retry.take(alloc) else {
+    let Some(held) = retry.as_mut() else {
         return Status::Empty.code();
     };
     let answer = held.cancel();
-    retry.put(held);
     match answer {
         Ok(()) => 0,
         Err(status) => status.code(),
@@ -184,40 +179,27 @@ pub extern "C" fn hikebox_retry_end(alloc: Global, retry: &mut Handle, pass: &mu
 }
 
 #[unsafe(no_mangle)]
-pub extern "C" fn hikebox_retry_again(
-    alloc: Global,
-    retry: &mut Handle,
-    pass: &mut Handle,
-    deadline: u64,
-) -> u32
+pub extern "C" fn hikebox_retry_again(retry: &mut Handle, pass: &mut Handle, deadline: u64) -> u32
     requires { AreOfOne pass.old.held retry.old.held }
     ensures { AgainBy (deadline_of deadline) retry.old.held pass.old.held result retry.new.held pass.new.held }
 {
     match deadline_at(deadline) {
-        Ok(deadline) => begin_again(alloc, retry, pass, deadline),
+        Ok(deadline) => begin_again(retry, pass, deadline),
         Err(status) => status.code(),
     }
 }
 
-fn begin_again(
-    alloc: Global,
-    retry: &mut Handle,
-    pass: &mut Handle,
-    deadline: Option<Moment>,
-) -> u32
+fn begin_again(retry: &mut Handle, pass: &mut Handle, deadline: Option<Moment>) -> u32
     requires { AreOfOne pass.old.held retry.old.held }
     ensures { AgainHeld deadline retry.old.held pass.old.held result retry.new.held pass.new.held }
 {
-    let Some(mut held) = retry.take(alloc) else {
+    let Some(held) = retry.as_mut() else {
         return Status::Empty.code();
     };
-    let Some(mut into) = pass.take(alloc) else {
-        retry.put(held);
+    let Some(into) = pass.as_mut() else {
         return Status::Empty.code();
     };
-    let begun = held.again(&mut into, deadline);
-    retry.put(held);
-    pass.put(into);
+    let begun = held.again(into, deadline);
     tell_status(begun)
 }
 

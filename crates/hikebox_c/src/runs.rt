@@ -63,10 +63,9 @@ fn ran(alloc: Global, retry: &mut Handle, run: &Run, next: &mut Reply) -> u32
         Ok(report) => report,
         Err(status) => return status.code(),
     };
-    let Some(mut held) = retry.take(alloc) else {
+    let Some(held) = retry.as_mut() else {
         return Status::Empty.code();
     };
     let answer = held.ran(alloc, &began, &ended, report, next);
-    retry.put(held);
     tell_status(answer)
 }

@@ -13,7 +13,6 @@ use sched_handle::{Handle, Status};
 use sched_limit::Seen;
 use sched_limit_request::Hand;
 use sched_time::Moment;
-use std::alloc::Global;
 
 /// A limit's state, as C has it.
 #[repr(C)]
@@ -32,7 +31,6 @@ const STATE_SIZE: usize = 48;
 
 #[unsafe(no_mangle)]
 pub extern "C" fn hikebox_limit_state(
-    alloc: Global,
     limit: &mut Handle,
     which: u32,
     now: u64,
@@ -52,21 +50,15 @@ pub extern "C" fn hikebox_limit_state(
     let Some(now) = Moment::new(now) else {
         return Status::TooLarge.code();
     };
-    let Some(mut held) = limit.take(alloc) else {
+    let Some(held) = limit.as_mut() else {
         return Status::Empty.code();
     };
     let seen = held.limits_seen(which as u64, now);
-    limit.put(held);
     tell_state(seen, state)
 }
 
 #[unsafe(no_mangle)]
-pub extern "C" fn hikebox_breaker_open(
-    alloc: Global,
-    limit: &mut Handle,
-    now: u64,
-    until: u64,
-) -> u32
+pub extern "C" fn hikebox_breaker_open(limit: &mut Handle, now: u64, until: u64) -> u32
     ensures opens { now ≤ FAR → until ≤ FAR →
         OnHeld (OnLimits (DoesByHand (hand_as.Open now until))) limit.old.held limit.new.held
         (λ r. result ≡ hand_code r) }
@@ -79,16 +71,15 @@ pub extern "C" fn hikebox_breaker_open(
     let Some(until) = Moment::new(until) else {
         return Status::TooLarge.code();
     };
-    let Some(mut held) = limit.take(alloc) else {
+    let Some(held) = limit.as_mut() else {
         return Status::Empty.code();
     };
     let done = held.limits_by_hand(&Hand::Open(now, until));
-    limit.put(held);
     by_hand_code(done)
 }
 
 #[unsafe(no_mangle)]
-pub extern "C" fn hikebox_breaker_close(alloc: Global, limit: &mut Handle, now: u64) -> u32
+pub extern "C" fn hikebox_breaker_close(limit: &mut Handle, now: u64) -> u32
     ensures closes { now ≤ FAR →
         OnHeld (OnLimits (DoesByHand (hand_as.Close now))) limit.old.held limit.new.held
         (λ r. result ≡ hand_code r) }
@@ -97,11 +88,10 @@ pub extern "C" fn hikebox_breaker_close(alloc: Global, limit: &mut Handle, now: 
     let Some(now) = Moment::new(now) else {
         return Status::TooLarge.code();
     };
-    let Some(mut held) = limit.take(alloc) else {
+    let Some(held) = limit.as_mut() else {
         return Status::Empty.code();
     };
     let done = held.limits_by_hand(&Hand::Close(now));
-    limit.put(held);
     by_hand_code(done)
 }
 

@@ -8,7 +8,6 @@ use Rattle.sched_handle.specs.Held.{OtherKind}
 use Rattle.sched_handle.specs.declared.held.Held.{Held}
 use Rattle.sched_handle.specs.declared.held.Held.TheVariants.{Limits}
 use Rattle.sched_handle.specs.declared.status.Status.{Status}
-use Rattle.sched_handle.specs.declared.status.Status.TheVariants.{WrongKind}
 
 -- a call on what a handle holds does this to its limits; of what is of another kind nothing changes
 abbrev pub OnLimits : {A : Type 0} → (AtOnce → A → AtOnce → Type 0) → Held → Result A Status → Held → Type 0

@@ -50,17 +50,31 @@ impl Handle {
         }
     }
 
+    ghost use Rattle.std.specs.Borrow.{LendsIf, sem};
+    ghost use Rattle.sched_handle.specs.contracts.handle.Handle.{the_row as handle_row};
+    ghost use Rattle.sched_handle.specs.contracts.held.Held.{the_row as held_row};
+
+    /// What the handle holds, to be changed where it is.
+    pub fn as_mut(&mut self) -> Option<&mut Held>
+        ensures* lends { sem 𝓛 (LendsIf handle_row held_row self.entry result
+            (λ held. record self.old { held = Some held }) self.old) }
+        ensures held { option_map (λ held. held.now) result ≡ self.old.held }
+    {
+        let ptr = self.ptr as *mut Held;
+        if ptr.is_null() {
+            return None;
+        }
+        Some(unsafe { &mut *ptr })
+    }
+
     /// Whether the handle holds something.
-    pub fn is_full(&mut self, alloc: Global) -> bool
+    pub fn is_full(&mut self) -> bool
         ensures full { result ≡ is_some self.old.held }
         ensures kept { self.new.held ≡ self.old.held }
         ensures empty { result ≡ false → self.new.held ≡ None }
     {
-        match self.take(alloc) {
-            Some(held) => {
-                self.put(held);
-                true
-            }
+        match self.as_mut() {
+            Some(_) => true,
             None => false,
         }
     }
@@ -80,31 +94,28 @@ impl Handle {
     }
 
     /// The plan of the policy that the handle holds, with one more owner.
-    pub fn plan(&mut self, alloc: Global) -> Result<SharedPlan, Status>
+    pub fn plan(&mut self) -> Result<SharedPlan, Status>
         ensures kept { self.new.held ≡ self.old.held }
         ensures ok { IfOk result (λ plan. self.old.held ≡ Some (what.Policy plan)) }
         ensures err { IfErr result (HasNoPolicy self.old.held) }
     {
-        let Some(held) = self.take(alloc) else {
+        let Some(held) = self.as_mut() else {
             return Err(Status::Empty);
         };
-        let plan = held.plan();
-        self.put(held);
-        plan
+        held.plan()
     }
 
     /// Frees what the handle holds, where it is of this kind, and answers the number of the status.
     pub fn free(&mut self, alloc: Global, kind: Kind) -> u32
         ensures { Frees kind self.old.held result self.new.held }
     {
-        let Some(held) = self.take(alloc) else {
+        let Some(held) = self.as_mut() else {
             return Status::Empty.code();
         };
         if held.kind() != kind {
-            self.put(held);
             return Status::WrongKind.code();
         }
-        drop(held);
+        drop(self.take(alloc));
         0
     }
 

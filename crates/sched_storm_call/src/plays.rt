@@ -44,7 +44,7 @@ pub fn storm_play(
     if storm.size != STORM_SIZE || totals.size != TOTALS_SIZE {
         return Status::WrongSize.code();
     }
-    let plans = its_plans(alloc, policy);
+    let plans = its_plans(policy);
     tell_storm(
         alloc,
         plans,
@@ -93,7 +93,7 @@ pub fn storm_play_populations(
     if storm.size != STORM_SIZE || totals.size != TOTALS_SIZE {
         return Status::WrongSize.code();
     }
-    let plans = their_plans(alloc, policy, second, third, fourth);
+    let plans = their_plans(policy, second, third, fourth);
     tell_storm(
         alloc,
         plans,
@@ -142,7 +142,7 @@ pub fn storm_play_arrivals(
     if storm.size != STORM_SIZE || totals.size != TOTALS_SIZE {
         return Status::WrongSize.code();
     }
-    let plans = their_plans(alloc, policy, second, third, fourth);
+    let plans = their_plans(policy, second, third, fourth);
     tell_storm(
         alloc,
         plans,
@@ -155,12 +155,12 @@ pub fn storm_play_arrivals(
 }
 
 // The plans, where all populations have the policy that the handle holds.
-fn its_plans(alloc: Global, policy: &mut Handle) -> Result<Plans, Status>
+fn its_plans(policy: &mut Handle) -> Result<Plans, Status>
     ensures kept { policy.new.held ≡ policy.old.held }
     ensures plans { HaveIts policy.old.held (plans_of result) }
     ensures reason { IfErr result IsReason }
 {
-    let plan = policy.plan(alloc)?;
+    let plan = policy.plan()?;
     match Plans::all(plan) {
         Ok(plans) => Ok(plans),
         Err(_) => Err(Status::NoMemory),
@@ -169,7 +169,6 @@ fn its_plans(alloc: Global, policy: &mut Handle) -> Result<Plans, Status>
 
 // The plans of the policies that the handles hold.
 fn their_plans(
-    alloc: Global,
     first: &mut Handle,
     second: &mut Handle,
     third: &mut Handle,
@@ -188,10 +187,10 @@ fn their_plans(
         (plans_of result) }
     ensures reason { IfErr result IsReason }
 {
-    let plan = first.plan(alloc)?;
-    let second = plan_or(alloc, second, &plan)?;
-    let third = plan_or(alloc, third, &plan)?;
-    let fourth = plan_or(alloc, fourth, &plan)?;
+    let plan = first.plan()?;
+    let second = plan_or(second, &plan)?;
+    let third = plan_or(third, &plan)?;
+    let fourth = plan_or(fourth, &plan)?;
     Ok(Plans {
         first: plan,
         second,
@@ -201,14 +200,14 @@ fn their_plans(
 }
 
 // The plan of the policy that the handle holds, or the first one where it holds nothing.
-fn plan_or(alloc: Global, handle: &mut Handle, first: &SharedPlan) -> Result<SharedPlan, Status>
+fn plan_or(handle: &mut Handle, first: &SharedPlan) -> Result<SharedPlan, Status>
     ensures kept { handle.new.held ≡ handle.old.held }
     ensures ok { IfOk result (IsPlanOf handle.old.held first.now) }
     ensures err { IfErr result (HasNoPlan handle.old.held) }
     ensures reason { IfErr result IsReason }
 {
-    if handle.is_full(alloc) {
-        return handle.plan(alloc);
+    if handle.is_full() {
+        return handle.plan();
     }
     match first.share() {
         Ok(plan) => Ok(plan),

@@ -1,5 +1,5 @@
 -- An adaptive limit that is made has the terms that were given.
-use Rattle.std.proofs.Common.{inl, inr, refl}
+use Rattle.std.proofs.Common.{inl}
 use Rattle.hikebox_c.proofs.limits.adaptive.Goals as goal
 
 pub returns-in-Some : goal.returns-in-Some

@@ -24,12 +24,11 @@ returns-clause-poll c = λ _.
     let report = c.in-Ok-reported.report in
     let answer = answer_in c.poll-answer.result c.poll-answer.new.next in
     let left = c.poll-answer.new.self in
-    let at_tick : Polls c.in-Ok.tick report c.in-Some.held.value answer left =
-    rw (← c.deref_mut.ensures.value) c.poll-answer.ensures.polls in
     let polls =
-    subst (λ (t : Tick). Polls t report c.in-Some.held.value answer left)
-    (tick_is c.in-Ok.tick c.args.now c.args.words.now c.in-Ok.ensures.now c.in-Ok.ensures.words) at_tick in
+    subst (λ (t : Tick). Polls t report c.in-Some.held.now answer left)
+    (tick_is c.in-Ok.tick c.args.now c.args.words.now c.in-Ok.ensures.now c.in-Ok.ensures.words)
+    c.poll-answer.ensures.polls in
     let said = tells c.poll-answer.result c.tell_status.result c.args.next.now c.poll-answer.new.next
     c.tell_status.ensures c.poll-answer.ensures.refused in
     rw (← c.in-Some.ensures.held)
-    (Ok report, c.in-Ok-reported.ensures, (answer, left, c.put.ensures, polls, said))
+    (Ok report, c.in-Ok-reported.ensures, (answer, left, refl, polls, said))

@@ -25,15 +25,14 @@ returns-clause-ran c = λ _ _.
     let answer = answer_in c.ran-answer.result c.ran-answer.new.next in
     let left = c.ran-answer.new.self in
     let run = c.args.run.now in
-    let at_ticks : Rans c.in-Ok.began c.in-Ok-tick_at.ended report c.in-Some.held.value answer left =
-    rw (← c.deref_mut.ensures.value) c.ran-answer.ensures.rans in
-    let begun = subst (λ (t : Tick). Rans t c.in-Ok-tick_at.ended report c.in-Some.held.value answer left)
-    (tick_is c.in-Ok.began run.began run.words c.in-Ok.ensures.now c.in-Ok.ensures.words) at_ticks in
+    let begun = subst (λ (t : Tick). Rans t c.in-Ok-tick_at.ended report c.in-Some.held.now answer left)
+    (tick_is c.in-Ok.began run.began run.words c.in-Ok.ensures.now c.in-Ok.ensures.words)
+    c.ran-answer.ensures.rans in
     let rans =
-    subst (λ (t : Tick). Rans (ticked run.began run.words) t report c.in-Some.held.value answer left)
+    subst (λ (t : Tick). Rans (ticked run.began run.words) t report c.in-Some.held.now answer left)
     (tick_is c.in-Ok-tick_at.ended run.ended run.words c.in-Ok-tick_at.ensures.now c.in-Ok-tick_at.ensures.words)
     begun in
     let said = tells c.ran-answer.result c.tell_status.result c.args.next.now c.ran-answer.new.next
     c.tell_status.ensures c.ran-answer.ensures.refused in
     rw (← c.in-Some.ensures.held)
-    (Ok report, c.in-Ok-reported.ensures, (answer, left, c.put.ensures, rans, said))
+    (Ok report, c.in-Ok-reported.ensures, (answer, left, refl, rans, said))

@@ -1,20 +1,19 @@
 -- `into_parts` tests the pointer: that of a block is not null, and where the handle holds nothing it is.
-use Rattle.sched_parts.proofs.Walks.{◌≡◌, refl, sym, subst, List, [], ◌∷◌, ◌++◌, lit<, Ura, bare, Val, vstruct, of_list}
-use Rattle.sched_parts.proofs.Walks.{has_ty, SProp, ent, emp, id⊢, guard, guard_i, ftrue, fsep, Memory, Routine, WpFn}
-use Rattle.sched_parts.proofs.Walks.{Tables, Logic, sem, Fun, fact_use, tables, tables_of, WpFn-mono, Item, at_ret, ‵}
-use Rattle.sched_parts.proofs.Walks.{raw, given, ◌⊛◌, ◌$◌, ◌∵◌, !, qed, by, learn, move, keep, drop, use0, use1, join}
-use Rattle.sched_parts.proofs.Walks.{split, fsplit, fjoin, fpick, feq_l, suffices, done, live, whole, sub, agg, bin}
-use Rattle.sched_parts.proofs.Walks.{lit, stop, fld, no_more, and_then, of_opd, first, branches, skips, exec, returns}
+use Rattle.sched_parts.proofs.Walks.{◌≡◌, refl, sym, subst, List, [], ◌∷◌, ◌++◌, lit<, Ura, bare, Val, vstruct}
+use Rattle.sched_parts.proofs.Walks.{of_list, has_ty, SProp, ent, emp, id⊢, ftrue, fsep, Memory, Routine, WpFn}
+use Rattle.sched_parts.proofs.Walks.{Tables, Logic, Fun, tables, tables_of, WpFn-mono, Item, at_ret, ‵, raw, given}
+use Rattle.sched_parts.proofs.Walks.{◌⊛◌, ◌$◌, ◌∵◌, !, qed, by, learn, move, keep, drop, use0, use1, join, split}
+use Rattle.sched_parts.proofs.Walks.{fsplit, fjoin, fpick, feq_l, suffices, done, live, whole, sub, agg, bin, lit}
+use Rattle.sched_parts.proofs.Walks.{stop, fld, no_more, and_then, of_opd, first, branches, skips, exec, returns}
 use Rattle.sched_parts.proofs.Walks.{returns_within, enter, alloc_all, pass_all, free_all, look_at, get, get_in, sets}
 use Rattle.sched_parts.proofs.Walks.{env, yes, Ptr, block_ptr, null_ptr, ptr_val, Testable, tests_null, nothing}
 use Rattle.sched_parts.proofs.Walks.{triple_of, entered, says, Stays, stay_dropped, walk_of, ends_at, Goes-dropped}
-use Rattle.sched_parts.proofs.Walks.{walk_Meets, token, handle_tells, Some-of, none_of, Option, None, Some, Global}
-use Rattle.sched_parts.proofs.Walks.{dealloc_token-Testable, D, B, X, τ, box_ty, word, box_typed, box_out, box_in}
-use Rattle.sched_parts.proofs.Walks.{and_tt}
+use Rattle.sched_parts.proofs.Walks.{walk_Meets, token, handle_tells, Some-of, none_of, Option, None, Some, Global, D}
+use Rattle.sched_parts.proofs.Walks.{B, X, τ, box_ty, word, box_typed, box_out, box_in, and_tt}
 use Rattle.core.specs.contracts.option.Option as OP
 use Rattle.std_heap.specs.contracts.Global as Heap
 use Rattle.std_heap.specs.contracts.GlobalAllocator.TheImpl.{ghosts}
-use Rattle.sched_handle.proofs.AsBox.{E, FromHandle as From, null_word, null_typed}
+use Rattle.sched_handle.proofs.AsBox.{E, FromHandle as From, null_word, null_typed, tested}
 use Rattle.sched_handle.specs.contracts.held.Held as Held
 use Rattle.sched_handle.specs.contracts.handle.Handle as Handle
 use Rattle.sched_parts.specs.contracts.parts.Parts as Parts
@@ -29,11 +28,6 @@ stayed = (stay_dropped From yes, tt)
 module _ {M : Type 1} {𝓤 : Ura M} (𝓛 : Logic 𝓤) (at_mem : Memory → SProp 𝓤) (run : Routine → Fun 𝓤)
     (𝓣 : Tables 𝓤 𝓛.H) where
   open 𝓛 use {H}
-
-  tested : (a : Global) (p : Ptr)
-      → ent 𝓤 (sem 𝓛 (token E.al a (bare (τ E)) p)) (guard 𝓤 (Testable p) (sem 𝓛 (token E.al a (bare (τ E)) p)))
-  tested a p = fact_use 𝓤 (Testable p) (dealloc_token-Testable 𝓛 a (bare (τ E)) p)
-      (guard_i 𝓤 (Testable p) (sem 𝓛 (token E.al a (bare (τ E)) p)))
 
   abbrev Goes : (walk_of 𝓛 F.ended stayed (F.clauses 𝓛 at_mem run)).Ghost → Type 1
   Goes z = ent 𝓤 ((walk_of 𝓛 F.ended stayed (F.clauses 𝓛 at_mem run)).pre z)
@@ -54,7 +48,7 @@ module _ {M : Type 1} {𝓤 : Ura M} (𝓛 : Logic 𝓤) (at_mem : Memory → SP
       qed 𝓛 ((‵ ftrue ⊛ ‵ (fsep ((B E).own_val v z.0.4.0) ftrue)) ∷ raw (emp 𝓤) ∷ []) ∵ split ! $ drop ! $ fsplit ! $
       box_out E ! v z.0.4.0 (λ b o hv e ws fa.
       move ! (1 ∷ []) $ use1 𝓛 (given (Testable (block_ptr b o)) (‵ (token E.al a (bare (τ E)) (block_ptr b o))))
-      (tested a (block_ptr b o)) $ learn ! (λ may.
+      (tested 𝓛 a (block_ptr b o)) $ learn ! (λ may.
       move ! (1 ∷ []) $ box_in E ! v b o v.value e refl $ use1 𝓛 (‵ (To.own_val made (word E hv b o ∷ []))) (id⊢ 𝓤 _) $
       move ! (1 ∷ 2 ∷ []) $ drop ! $ drop ! $
       let w = word E hv b o in
