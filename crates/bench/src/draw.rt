@@ -35,7 +35,7 @@ struct Kind {
 }
 
 /// The kind that the words past the numbers say.
-fn kind_of<R: Runtime>(rt: &R) -> io::Result<Kind> {
+fn kind_of<R: Runtime + AllocGlobal>(rt: &R) -> io::Result<Kind> {
     let mut kind = Kind {
         rises: false,
         by_parts: false,

@@ -5,7 +5,7 @@ ghost use Rattle.sched_pool.specs.Portion.{IsShareOf};
 
 use super::watchers::one_share;
 use super::*;
-use sched_pool::{Finish, How, OpenGate, Seen, Share};
+use sched_pool::{Finish, How, OpenGate, RetryEnd, Seen, Share};
 use std::alloc::AllocGlobal;
 use std::marker::Brand;
 use std::random::RandomSource;
@@ -39,6 +39,14 @@ fn shows<N: Naming>(
     assert_eq!(rt; board.watch(rt, job), Some(want));
 }
 
+// The jobs ended so.
+fn are_ended(rt: &impl Abort, jobs: &[RetryEnd<Scripted>], want: &[How]) {
+    assert_eq!(rt; jobs.len(), want.len());
+    for (job, how) in jobs.iter().zip(want) {
+        assert_eq!(rt; job.how(), Some(*how));
+    }
+}
+
 // Takes a board back whose jobs ended so.
 fn taken_back<N: Naming>(
     rt: &impl Abort,
@@ -51,10 +59,7 @@ fn taken_back<N: Naming>(
     ensures { IsOf N.budget result }
 {
     let end = board.finish(alloc, pass).ok().expect(rt, "there is memory");
-    assert_eq!(rt; end.jobs.len(), want.len());
-    for (job, how) in end.jobs.iter().zip(want) {
-        assert_eq!(rt; job.how(), Some(*how));
-    }
+    are_ended(rt, &end.jobs, want);
     end.pass
 }
 
