@@ -103,6 +103,42 @@ static void at_once(void) {
     wants(hikebox_limit_free(&third), HIKEBOX_OK);
 }
 
+// A call of one of four requests at a moment, and what comes of it: it begins anew and asks to be admitted, draws, fails,
+// succeeds or ends.
+struct act {
+    int who;
+    uint64_t at;
+    enum {
+        ADMIT,
+        DRAW,
+        FAIL,
+        SUCCEED,
+        END
+    } call;
+    hikebox_status wanted;
+    uint64_t says;
+};
+
+// The requests of this limit do what the list says, and it is freed.
+static void plays(hikebox_limit *limit, const struct act *acts, size_t count) {
+    hikebox_limit others[3] = {HIKEBOX_INIT, HIKEBOX_INIT, HIKEBOX_INIT};
+    for (int at = 0; at < 3; at++)
+        wants(hikebox_limit_split(limit, &others[at]), HIKEBOX_OK);
+    for (const struct act *act = acts; act < acts + count; act++) {
+        hikebox_limit *one = act->who ? &others[act->who - 1] : limit;
+        if (act->call == ADMIT || act->call == END) wants(hikebox_limit_ended(one), HIKEBOX_OK);
+        if (act->call == ADMIT) admits(one, act->at, act->wanted, act->says);
+        if (act->call == DRAW) draws(one, act->at, 0, act->wanted, act->says);
+        if (act->call == FAIL) wants(hikebox_limit_failed(one, act->at), HIKEBOX_OK);
+        if (act->call == SUCCEED) wants(hikebox_limit_succeeded(one, act->at), HIKEBOX_OK);
+    }
+    for (int at = 0; at < 3; at++)
+        wants(hikebox_limit_free(&others[at]), HIKEBOX_OK);
+    wants(hikebox_limit_free(limit), HIKEBOX_OK);
+}
+
+#define PLAYS(limit, acts) plays(limit, acts, sizeof acts / sizeof *acts)
+
 // From 1 to 10 requests at once, at first 2: the levels are 2,500, 2,250, 2,694 and 3,065.
 static void adaptives(void) {
     hikebox_adaptive terms = HIKEBOX_ADAPTIVE;
@@ -137,6 +173,30 @@ static void adaptives(void) {
     wants(hikebox_limit_free(&second), HIKEBOX_OK);
     wants(hikebox_limit_free(&third), HIKEBOX_OK);
     wants(hikebox_limit_free(&fourth), HIKEBOX_OK);
+}
+
+// At first 3: one request alone is less than half of these, and its successes teach nothing. From 2 to 3: it falls to the
+// least at once, and rises to the most and no further.
+static void adaptive_ends(void) {
+    static const struct act idle[] = {
+        {0, 0, ADMIT, HIKEBOX_OK, 0}, {0, 0, SUCCEED, 0, 0},        {0, 0, SUCCEED, 0, 0},
+        {0, 0, SUCCEED, 0, 0},        {0, 0, SUCCEED, 0, 0},        {0, 0, SUCCEED, 0, 0},
+        {1, 0, ADMIT, HIKEBOX_OK, 0}, {2, 0, ADMIT, HIKEBOX_OK, 0}, {3, 0, ADMIT, HIKEBOX_REQUESTS_FULL, 0},
+    };
+    static const struct act ends[] = {
+        {0, 0, ADMIT, HIKEBOX_OK, 0}, {0, 0, FAIL, 0, 0},
+        {1, 0, ADMIT, HIKEBOX_OK, 0}, {2, 0, ADMIT, HIKEBOX_REQUESTS_FULL, 0},
+        {0, 0, SUCCEED, 0, 0},        {0, 0, SUCCEED, 0, 0},
+        {0, 0, SUCCEED, 0, 0},        {0, 0, SUCCEED, 0, 0},
+        {0, 0, SUCCEED, 0, 0},        {0, 0, SUCCEED, 0, 0},
+        {2, 0, ADMIT, HIKEBOX_OK, 0}, {3, 0, ADMIT, HIKEBOX_REQUESTS_FULL, 0},
+    };
+    hikebox_adaptive at_first = {sizeof at_first, 1, 10, 3, 900}, narrow = {sizeof narrow, 2, 3, 3, 1};
+    hikebox_limit limit = HIKEBOX_INIT;
+    wants(hikebox_adaptive_new(&at_first, &limit), HIKEBOX_OK);
+    PLAYS(&limit, idle);
+    wants(hikebox_adaptive_new(&narrow, &limit), HIKEBOX_OK);
+    PLAYS(&limit, ends);
 }
 
 // Each number of an adaptive limit at its border.
@@ -200,6 +260,52 @@ static void breakers(void) {
     wants(hikebox_limit_free(&limit), HIKEBOX_OK);
 }
 
+// The last open time holds, also where each probe fails. Of two probes both are to succeed, and one that is silent for the
+// deadline gives its place to another. A clock behind the start stands at it, and one that is far ahead at the end.
+static void breaker_probes(void) {
+    static const struct act last[] = {
+        {0, 1000, ADMIT, HIKEBOX_OK, 0}, {0, 1000, FAIL, 0, 0}, {0, 1099, ADMIT, HIKEBOX_BREAKER_OPEN, 1100},
+        {0, 1100, ADMIT, HIKEBOX_OK, 0}, {0, 1100, FAIL, 0, 0}, {0, 1299, ADMIT, HIKEBOX_BREAKER_OPEN, 1300},
+        {0, 1300, ADMIT, HIKEBOX_OK, 0}, {0, 1300, FAIL, 0, 0}, {0, 1699, ADMIT, HIKEBOX_BREAKER_OPEN, 1700},
+        {0, 1700, ADMIT, HIKEBOX_OK, 0}, {0, 1700, FAIL, 0, 0}, {0, 2099, ADMIT, HIKEBOX_BREAKER_OPEN, 2100},
+    };
+    static const struct act probes[] = {
+        {0, 0, ADMIT, HIKEBOX_OK, 0},
+        {0, 0, FAIL, 0, 0},
+        {0, 100, ADMIT, HIKEBOX_OK, 0},
+        {1, 150, ADMIT, HIKEBOX_OK, 0},
+        {2, 150, ADMIT, HIKEBOX_PROBING, 0},
+        {0, 160, SUCCEED, 0, 0},
+        {2, 1149, ADMIT, HIKEBOX_PROBING, 0},
+        {2, 1150, ADMIT, HIKEBOX_OK, 0},
+        {1, 1151, FAIL, 0, 0},
+        {2, 1152, SUCCEED, 0, 0},
+        {3, 1153, ADMIT, HIKEBOX_OK, 0},
+        {0, 1154, ADMIT, HIKEBOX_PROBING, 0},
+        {3, 1155, SUCCEED, 0, 0},
+        {0, 1156, ADMIT, HIKEBOX_OK, 0},
+        {0, 1157, FAIL, 0, 0},
+        {0, 1158, ADMIT, HIKEBOX_BREAKER_OPEN, 1257},
+    };
+    static const struct act clocks[] = {
+        {0, 0, ADMIT, HIKEBOX_OK, 0},
+        {0, 0, FAIL, 0, 0},
+        {0, 0, ADMIT, HIKEBOX_BREAKER_OPEN, 1100},
+        {0, HIKEBOX_MAX_NUMBER, ADMIT, HIKEBOX_OK, 0},
+        {0, HIKEBOX_MAX_NUMBER, FAIL, 0, 0},
+        {0, 137438954470, ADMIT, HIKEBOX_BREAKER_OPEN, 137438954471},
+        {0, 137438954471, ADMIT, HIKEBOX_OK, 0},
+    };
+    hikebox_breaker one = {sizeof one, 1, 1, 1000, 0}, two = {sizeof two, 1, 2, 1000, 0};
+    hikebox_limit limit = HIKEBOX_INIT;
+    wants(hikebox_breaker_new(1000, &one, open_times, 3, &limit), HIKEBOX_OK);
+    PLAYS(&limit, last);
+    wants(hikebox_breaker_new(0, &two, open_times, 3, &limit), HIKEBOX_OK);
+    PLAYS(&limit, probes);
+    wants(hikebox_breaker_new(1000, &one, open_times, 3, &limit), HIKEBOX_OK);
+    PLAYS(&limit, clocks);
+}
+
 // By a random number of a half: of 0 requests, and 1 of 2, one more is admitted, and 2 of 3 is more than a half. The next
 // window has what the one before counted, and the one after that has not.
 static void throttles(void) {
@@ -214,6 +320,21 @@ static void throttles(void) {
     wants(hikebox_limit_succeeded(&limit, 1200), HIKEBOX_OK);
     draws(&limit, 1201, 0, HIKEBOX_OK, 0);
     wants(hikebox_limit_free(&limit), HIKEBOX_OK);
+}
+
+// A success counts in its own window: with one accept of the second window, five requests of both windows allow 3,000 of
+// 6,000 thousandths, which is no more than a half. Where the clock of one that asks is behind, the later window has begun,
+// and it is counted there.
+static void accepts(void) {
+    static const struct act acts[] = {
+        {0, 0, ADMIT, HIKEBOX_OK, 0},  {1, 0, ADMIT, HIKEBOX_OK, 0},         {2, 0, ADMIT, HIKEBOX_THROTTLED, 0},
+        {0, 100, SUCCEED, 0, 0},       {2, 0, ADMIT, HIKEBOX_OK, 0},         {3, 100, ADMIT, HIKEBOX_OK, 0},
+        {0, 100, DRAW, HIKEBOX_OK, 0}, {0, 100, DRAW, HIKEBOX_THROTTLED, 0}, {1, 200, DRAW, HIKEBOX_OK, 0},
+        {1, 300, DRAW, HIKEBOX_OK, 0},
+    };
+    hikebox_limit limit = HIKEBOX_INIT;
+    wants(hikebox_throttle_new(0, 2000, 100, &limit), HIKEBOX_OK);
+    PLAYS(&limit, acts);
 }
 
 // Both admit, or neither is charged: the request that the breaker refuses is not in flight.
@@ -542,9 +663,12 @@ int limits(void) {
     flights();
     at_once();
     adaptives();
+    adaptive_ends();
     adaptive_borders();
     breakers();
+    breaker_probes();
     throttles();
+    accepts();
     pairs();
     four();
     kept();
