@@ -18,18 +18,21 @@ pub(crate) fn join_into(alloc: Global, kind: Kind, from: &mut Handle, pass: &mut
         from.put(held);
         return Status::WrongKind.code();
     }
-    let Some(to) = pass.as_mut() else {
+    let Some(mut to) = pass.take(alloc) else {
         from.put(held);
         return Status::Empty.code();
     };
     if to.kind() != Kind::Pass {
         from.put(held);
+        pass.put(to);
         return Status::WrongKind.code();
     }
     if !to.draws_alike(&held) {
         from.put(held);
+        pass.put(to);
         return Status::DrawsElsewhere.code();
     }
     to.join(held);
+    pass.put(to);
     0
 }

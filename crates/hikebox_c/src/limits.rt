@@ -298,26 +298,30 @@ fn throttle(alloc: Global, now: Moment, ratio: u32, period: u64) -> Result<Box<L
 pub extern "C" fn hikebox_limit_both(alloc: Global, limit: &mut Handle, second: &mut Handle) -> u32
     ensures { JoinsHeld limit.old.held second.old.held result limit.new.held second.new.held }
 {
-    let Some(other) = second.take(alloc) else {
+    let Some(mut first) = limit.take(alloc) else {
         return Status::Empty.code();
     };
-    let Some(first) = limit.as_mut() else {
-        second.put(other);
+    let Some(other) = second.take(alloc) else {
+        limit.put(first);
         return Status::Empty.code();
     };
     let Ok(these) = first.limits_count() else {
+        limit.put(first);
         second.put(other);
         return Status::WrongKind.code();
     };
     let Ok(others) = other.limits_count() else {
+        limit.put(first);
         second.put(other);
         return Status::WrongKind.code();
     };
     if these + others > MOST {
+        limit.put(first);
         second.put(other);
         return Status::OutOfRange.code();
     }
     first.limits_join(other);
+    limit.put(first);
     0
 }
 
