@@ -4,7 +4,6 @@ ghost use Rattle.std.specs.Prelude.{◌≡◌, [], IfSome};
 ghost use Rattle.sched_ticket.specs.Held.{IsOf};
 ghost use Rattle.sched_task_law.specs.Past.{nothing_yet};
 
-use crate::words::number;
 use futures::task::{Context, Poll};
 use sched_driver::Driver;
 use sched_effect::{Code, Effect, Ran};
@@ -17,12 +16,12 @@ use sched_ticket::{Budget, Naming, Pass};
 use sched_ticket_draws::OnBudget;
 use sched_time::{Millis, Moment, NoMemory};
 use std::alloc::{AllocGlobal, Global};
-use std::io;
 use std::marker::Brand;
 use std::random::RandomSource;
 use std::rt::Runtime;
 use std::sync::Wait;
 use std::thread::Threads;
+use std::{env, io};
 
 const JOBS: u64 = 64;
 
@@ -71,8 +70,15 @@ pub fn bench<R>(rt: &R) -> io::Result<()>
 where
     R: Runtime + Threads + Wait + RandomSource + AllocGlobal + Sync,
 {
-    let workers = number(rt, 2, 1)?;
-    let runs = number(rt, 3, 10)?;
+    let mut numbers = env::args(rt)?.skip(2);
+    let workers = numbers
+        .next()
+        .and_then(|word| word.as_str().parse().ok())
+        .unwrap_or(1);
+    let runs = numbers
+        .next()
+        .and_then(|word| word.as_str().parse().ok())
+        .unwrap_or(10);
     match granted(rt, workers, runs) {
         Some(granted) => println!(rt; "{granted} retries"),
         None => println!(rt; "not run"),
@@ -80,7 +86,7 @@ where
 }
 
 // How many retries were granted, where each job has so many runs.
-fn granted<R>(rt: &R, workers: u64, runs: u64) -> Option<u64>
+fn granted<R>(rt: &R, workers: usize, runs: u32) -> Option<u64>
 where
     R: Threads + Wait + RandomSource + AllocGlobal + Sync,
 {
@@ -92,8 +98,8 @@ fn run_on<N: Naming + Send + Sync, R>(
     rt: &R,
     budget: Budget,
     mut pass: Pass,
-    workers: u64,
-    runs: u64,
+    workers: usize,
+    runs: u32,
 ) -> Option<u64>
 where
     R: Threads + Wait + RandomSource + AllocGlobal + Sync,
@@ -118,14 +124,14 @@ where
 fn retry<'a>(
     alloc: Global,
     drawing: OnBudget<&'a Budget>,
-    runs: u64,
+    runs: u32,
 ) -> Option<Retry<Toil, OnBudget<&'a Budget>>>
     requires none { drawing.pass.has.tickets ≡ [] }
     ensures past { IfSome result (λ retry. retry.past ≡ nothing_yet retry.past.driver None) }
     ensures drawing { IfSome result (λ retry. retry.drawing ≡ drawing.entry) }
     ensures had { IfSome result (λ retry. retry.had ≡ 0) }
 {
-    let plan = Plan::recurs(runs.saturating_sub(1)).ok()?;
+    let plan = Plan::recurs(u64::from(runs).saturating_sub(1)).ok()?;
     let driver = Driver::new(alloc, plan).ok()?;
     let effect = Toil {
         runs: Vec::new(alloc),
@@ -133,7 +139,7 @@ fn retry<'a>(
     Some(Retry::new(alloc, effect, driver, drawing))
 }
 
-fn stations(alloc: Global, workers: u64) -> Option<Vec<Station<VirtualClock, MidWords>>> {
+fn stations(alloc: Global, workers: usize) -> Option<Vec<Station<VirtualClock, MidWords>>> {
     let mut stations = Vec::new(alloc);
     for _ in 0..workers {
         let clock = VirtualClock::at(Moment::new(0)?);

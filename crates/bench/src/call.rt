@@ -6,15 +6,14 @@
 ghost use Rattle.std.specs.Prelude.{◌≡◌, [], IfOk};
 ghost use Rattle.sched_driver_stepper.specs.Standing.{standing_after};
 
-use crate::words::{number, word};
 use sched_run::{
     Budget, Draws, Machine, MidWords, Millis, Moment, NoMemory, OnBudget, OnQuota, Plan, Quiet,
     Quota, SharedPlan, Stepper, Terms, Unlimited, VirtualClock, retry_call,
 };
 use std::alloc::{AllocGlobal, Global};
-use std::io;
 use std::rt::Runtime;
 use std::sync::Wait;
+use std::{env, io};
 
 /// What is done again and again.
 #[derive(Clone, Copy, PartialEq, Eq, Drop)]
@@ -30,80 +29,54 @@ enum What {
 }
 
 pub fn bench<R: Runtime + Wait + AllocGlobal>(rt: &R) -> io::Result<()> {
-    let calls = number(rt, 4, 1000)?;
-    let what = what_of(word(rt, 2)?);
-    let on = word(rt, 3)?;
+    let mut words = env::args(rt)?.skip(2);
+    let what = match words.next() {
+        Some(word) if word.as_str() == "call" => What::Call,
+        Some(word) if word.as_str() == "success" => What::Success,
+        Some(word) if word.as_str() == "refused" => What::Refused,
+        _ => What::Granted,
+    };
+    let on = words.next();
     let on = match &on {
         Some(word) => word.as_str(),
         None => "budget",
     };
+    let calls = words
+        .next()
+        .and_then(|word| word.as_str().parse().ok())
+        .unwrap_or(1000);
     match counted(rt, what, on, calls) {
         Some(count) => println!(rt; "{count} of {calls} on {on}"),
         None => println!(rt; "no memory"),
     }
 }
 
-fn what_of(word: Option<String>) -> What {
-    match word {
-        Some(word) if word.as_str() == "call" => What::Call,
-        Some(word) if word.as_str() == "success" => What::Success,
-        Some(word) if word.as_str() == "refused" => What::Refused,
-        _ => What::Granted,
-    }
-}
-
 // So many of what is done; it answers what they gave.
 fn counted<R: Wait + AllocGlobal>(rt: &R, what: What, on: &str, calls: u64) -> Option<u64> {
+    let alloc = rt.alloc();
     if what == What::Call {
         return Some(call_alone(calls));
     }
-    let plan = SharedPlan::new(rt.alloc(), Plan::forever().ok()?).ok()?;
-    counted_on(rt, what, on, &plan, calls)
-}
-
-// So many calls with a retry of this plan.
-fn counted_on<R: Wait + AllocGlobal>(
-    rt: &R,
-    what: What,
-    on: &str,
-    plan: &SharedPlan,
-    calls: u64,
-) -> Option<u64> {
+    let plan = SharedPlan::new(alloc, Plan::forever().ok()?).ok()?;
     let limit = if what == What::Refused { 0 } else { 4294967296 };
     match on {
-        "budget" => on_budget(rt, what, plan, limit, calls),
-        "quota" => on_quota(rt, what, plan, limit, calls),
-        _ => Some(calls_by(rt, what, plan, Unlimited::new(), calls)),
+        "budget" => {
+            let (budget, pass) = Budget::by_parts(alloc, limit).ok()?;
+            let pass = OnBudget::new(pass, &budget);
+            Some(calls_by(rt, what, &plan, pass, calls))
+        }
+        "quota" => {
+            let terms = Terms {
+                reserve: limit,
+                share: 0,
+                period: Millis::from(1000),
+            };
+            let (quota, pass) = Quota::new(alloc, Moment::new(0)?, terms).ok()?;
+            let pass = OnQuota::new(pass, &quota);
+            Some(calls_by(rt, what, &plan, pass, calls))
+        }
+        _ => Some(calls_by(rt, what, &plan, Unlimited::new(), calls)),
     }
-}
-
-fn on_budget<R: Wait + AllocGlobal>(
-    rt: &R,
-    what: What,
-    plan: &SharedPlan,
-    limit: u64,
-    calls: u64,
-) -> Option<u64> {
-    let (budget, pass) = Budget::by_parts(rt.alloc(), limit).ok()?;
-    let pass = OnBudget::new(pass, &budget);
-    Some(calls_by(rt, what, plan, pass, calls))
-}
-
-fn on_quota<R: Wait + AllocGlobal>(
-    rt: &R,
-    what: What,
-    plan: &SharedPlan,
-    reserve: u64,
-    calls: u64,
-) -> Option<u64> {
-    let terms = Terms {
-        reserve,
-        share: 0,
-        period: Millis::from(1000),
-    };
-    let (quota, pass) = Quota::new(rt.alloc(), Moment::new(0)?, terms).ok()?;
-    let pass = OnQuota::new(pass, &quota);
-    Some(calls_by(rt, what, plan, pass, calls))
 }
 
 // The closure alone, so often; it answers the sum of what it gave.

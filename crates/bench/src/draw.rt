@@ -4,7 +4,6 @@
 ghost use Rattle.std.specs.Prelude.{◌≡◌, ◌*◌, ◌≤◌, false, All, IfOk, IfSome};
 ghost use Rattle.sched_ticket.specs.Held.{IsOf};
 
-use crate::words::number;
 use sched_ticket::{Budget, Pass, TicketFault};
 use std::alloc::{AllocError, AllocGlobal, Global};
 use std::rt::Runtime;
@@ -12,9 +11,23 @@ use std::thread::{Threads, map_vec};
 use std::{env, io};
 
 pub fn bench<R: Runtime + Threads + AllocGlobal + Sync>(rt: &R) -> io::Result<()> {
-    let threads = number(rt, 2, 2)?;
-    let draws = number(rt, 3, 1000)?;
-    let kind = kind_of(rt)?;
+    let mut words = env::args(rt)?.skip(2);
+    let threads = words
+        .next()
+        .and_then(|word| word.as_str().parse().ok())
+        .unwrap_or(2);
+    let draws = words
+        .next()
+        .and_then(|word| word.as_str().parse().ok())
+        .unwrap_or(1000);
+    let mut kind = Kind {
+        rises: false,
+        by_parts: false,
+    };
+    for word in words {
+        kind.rises |= word.as_str() == "rising";
+        kind.by_parts |= word.as_str() == "parts";
+    }
     let count = if threads == 1 {
         draw_alone(rt.alloc(), kind, draws)
     } else {
@@ -32,19 +45,6 @@ pub fn bench<R: Runtime + Threads + AllocGlobal + Sync>(rt: &R) -> io::Result<()
 struct Kind {
     rises: bool,
     by_parts: bool,
-}
-
-/// The kind that the words past the numbers say.
-fn kind_of<R: Runtime + AllocGlobal>(rt: &R) -> io::Result<Kind> {
-    let mut kind = Kind {
-        rises: false,
-        by_parts: false,
-    };
-    for word in env::args(rt)?.skip(4) {
-        kind.rises |= word.as_str() == "rising";
-        kind.by_parts |= word.as_str() == "parts";
-    }
-    Ok(kind)
 }
 
 /// A budget of so many tickets.

@@ -1,19 +1,22 @@
 //! Draws of one limit with one thread: `bench limit [KIND] [DRAWS]`, of a bucket and 1,000 draws where nothing is
 //! said. The other kinds are `flight`, whose request ends and comes again at each draw, `breaker`, which is asked and
 //! told of a success, `throttle` likewise, and `add`, a bare atomic add. It prints what was granted.
-use crate::words::{number, word};
 use sched_limit::{Breaker, Bucket, InFlight, Throttle};
 use sched_limit_request::{Asks, OnLimit, OnThrottle};
 use sched_time::{Millis, Moment, NoMemory};
 use std::alloc::{AllocGlobal, Global};
-use std::io;
 use std::rt::Runtime;
 use std::sync::atomic::{AtomicU64, Ordering};
+use std::{env, io};
 
 pub fn bench<R: Runtime + AllocGlobal>(rt: &R) -> io::Result<()> {
-    let draws = number(rt, 3, 1000)?;
-    let kind = word(rt, 2)?;
-    let granted = match &kind {
+    let mut words = env::args(rt)?.skip(2);
+    let kind = words.next();
+    let draws = words
+        .next()
+        .and_then(|word| word.as_str().parse().ok())
+        .unwrap_or(1000);
+    let granted = match kind {
         Some(kind) => granted(rt.alloc(), kind.as_str(), draws),
         None => buckets(rt.alloc(), start(), draws),
     };

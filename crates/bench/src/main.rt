@@ -17,7 +17,6 @@ mod quota;
 mod retry;
 mod steps;
 mod tasks;
-mod words;
 
 fn main(rt: HostRuntime) -> io::Result<()> {
     match env::args(&rt)?.nth(1) {

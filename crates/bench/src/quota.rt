@@ -3,13 +3,12 @@
 ghost use Rattle.std.specs.Prelude.{◌≡◌, ◌≤◌, All, IfOk};
 ghost use Rattle.sched_ticket_quota.specs.Held.{IsOf};
 
-use crate::words::{number, word};
 use sched_ticket_quota::{Pass, Quota, QuotaFault, Terms, Usage};
 use sched_time::{Millis, Moment};
 use std::alloc::{AllocError, AllocGlobal, Global};
-use std::io;
 use std::rt::Runtime;
 use std::thread::{Threads, map_vec};
+use std::{env, io};
 
 /// What each thread calls again and again.
 #[derive(Clone, Copy, PartialEq, Eq, Drop)]
@@ -23,23 +22,26 @@ enum Call {
 }
 
 pub fn bench<R: Runtime + Threads + AllocGlobal + Sync>(rt: &R) -> io::Result<()> {
-    let call = call_of(word(rt, 2)?);
-    let threads = number(rt, 3, 2)?;
-    let calls = number(rt, 4, 1000)?;
+    let mut words = env::args(rt)?.skip(2);
+    let call = match words.next() {
+        Some(word) if word.as_str() == "granted" => Call::Granted,
+        Some(word) if word.as_str() == "refused" => Call::Refused,
+        _ => Call::Deposit,
+    };
+    let threads = words
+        .next()
+        .and_then(|word| word.as_str().parse().ok())
+        .unwrap_or(2);
+    let calls = words
+        .next()
+        .and_then(|word| word.as_str().parse().ok())
+        .unwrap_or(1000);
     match called(rt, rt.alloc(), call, threads, calls) {
         Ok(usage) => println!(rt;
             "{threads} threads, {calls} calls each: {} tickets for {} requests",
             usage.given, usage.asked
         ),
         Err(fault) => println!(rt; "{fault}"),
-    }
-}
-
-fn call_of(word: Option<String>) -> Call {
-    match word {
-        Some(word) if word.as_str() == "granted" => Call::Granted,
-        Some(word) if word.as_str() == "refused" => Call::Refused,
-        _ => Call::Deposit,
     }
 }
 

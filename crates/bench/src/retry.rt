@@ -4,7 +4,6 @@
 //! or `wait`, a thousand polls of a retry that waits. PLAN is `pair` or `spaced`. It prints a count.
 ghost use Rattle.std.specs.Prelude.{◌≡◌, [], IfSome};
 
-use crate::words::{number, word};
 use futures::task::{Context, Doorbell, Poll, Queue};
 use sched_driver::Driver;
 use sched_plan::{Plan, PlanFault, Val};
@@ -12,18 +11,30 @@ use sched_run::{Draws, OnBudget, Ran, Retry, Scripted, Task};
 use sched_ticket::Budget;
 use sched_time::{FAR, Millis, Moment, Tick};
 use std::alloc::{AllocGlobal, Global};
-use std::io;
 use std::random::RandomSource;
 use std::rt::Runtime;
 use std::sync::Wait;
+use std::{env, io};
 
 // How many polls or steps a round has.
 const ROUND: u64 = 1000;
 
 pub fn bench<R: Runtime + RandomSource + Wait + AllocGlobal>(rt: &R) -> io::Result<()> {
-    let rounds = number(rt, 4, 1)?;
-    let what = what_of(word(rt, 2)?);
-    let plan = plan_of(word(rt, 3)?);
+    let mut words = env::args(rt)?.skip(2);
+    let what = words.next();
+    let what = match &what {
+        Some(word) => word.as_str(),
+        None => "retry",
+    };
+    let plan = words.next();
+    let plan = match &plan {
+        Some(word) => word.as_str(),
+        None => "pair",
+    };
+    let rounds = words
+        .next()
+        .and_then(|word| word.as_str().parse().ok())
+        .unwrap_or(1);
     let Some(queue) = queue_of_one(rt) else {
         return println!(rt; "no memory");
     };
@@ -35,21 +46,6 @@ pub fn bench<R: Runtime + RandomSource + Wait + AllocGlobal>(rt: &R) -> io::Resu
     match count {
         Some(count) => println!(rt; "{what} of {plan}: {count} in {rounds} rounds"),
         None => println!(rt; "no memory"),
-    }
-}
-
-fn what_of(word: Option<String>) -> &'static str {
-    match word {
-        Some(word) if word.as_str() == "step" => "step",
-        Some(word) if word.as_str() == "wait" => "wait",
-        _ => "retry",
-    }
-}
-
-fn plan_of(word: Option<String>) -> &'static str {
-    match word {
-        Some(word) if word.as_str() == "spaced" => "spaced",
-        _ => "pair",
     }
 }
 

@@ -3,58 +3,41 @@
 //! which keeps a journal, and with `stepper` one that keeps none. It prints where the run ended.
 ghost use Rattle.std.specs.Prelude.{ℕ, ◌≤◌, IfOk};
 
-use crate::words::{number, word};
 use sched_driver::Driver;
 use sched_driver_stepper::Stepper;
 use sched_plan::{Fold, Plan, PlanFault, Val};
 use sched_step::initial;
 use sched_time::{FAR, Moment, NoMemory, Tick};
 use std::alloc::{AllocGlobal, Global};
-use std::io;
 use std::rt::Runtime;
+use std::{env, io};
 
 // How many events a journal holds.
 const JOURNAL: u64 = 65536;
 
-/// What steps the plan.
-#[derive(Clone, Copy)]
-enum By {
-    State,
-    Driver,
-    Stepper,
-}
-
 pub fn bench<R: Runtime + AllocGlobal>(rt: &R) -> io::Result<()> {
-    let events = number(rt, 3, 1000)?;
-    let by = by_of(word(rt, 4)?);
-    let name = word(rt, 2)?;
+    let mut words = env::args(rt)?.skip(2);
+    let name = words.next();
     let name = match &name {
         Some(name) => name.as_str(),
         None => "pair",
     };
-    match ended(rt.alloc(), name, by, events) {
-        Some(Ok(now)) => println!(rt; "{name}: {events} events, at {now}", now = now.get()),
-        Some(Err(_)) => println!(rt; "no memory"),
-        None => println!(rt; "no plan"),
+    let events = words
+        .next()
+        .and_then(|word| word.as_str().parse().ok())
+        .unwrap_or(1000);
+    let Ok(plan) = plan_named(rt.alloc(), name) else {
+        return println!(rt; "no plan");
+    };
+    let ended = match &words.next() {
+        Some(by) if by.as_str() == "stepper" => stepped_of(rt.alloc(), &plan, events),
+        Some(_) => driven_of(rt.alloc(), &plan, events),
+        None => run_of(rt.alloc(), &plan, events),
+    };
+    match ended {
+        Ok(now) => println!(rt; "{name}: {events} events, at {now}", now = now.get()),
+        Err(_) => println!(rt; "no memory"),
     }
-}
-
-fn by_of(word: Option<String>) -> By {
-    match word {
-        Some(word) if word.as_str() == "stepper" => By::Stepper,
-        Some(_) => By::Driver,
-        None => By::State,
-    }
-}
-
-/// Where the events of the plan of this name end. It is None where there is no memory for the plan.
-fn ended(alloc: Global, name: &str, by: By, events: u64) -> Option<Result<Moment, NoMemory>> {
-    let plan = plan_named(alloc, name).ok()?;
-    Some(match by {
-        By::State => run_of(alloc, &plan, events),
-        By::Driver => driven_of(alloc, &plan, events),
-        By::Stepper => stepped_of(alloc, &plan, events),
-    })
 }
 
 /// The plan of this name; where there is none, a full tree of 128 leaves.

@@ -2,16 +2,15 @@
 //!
 //! Each task waits for as many milliseconds as there are tasks, and each for moments of its own, so one poll and one
 //! wait take turns, whatever the number of tasks. It prints where the clock stood in the end.
-use crate::words::number;
 use futures::task::{Context, Poll};
 use sched_task::{Clock, How, MidWords, Task, VirtualClock};
 use sched_time::{Millis, Moment, Tick};
 use sched_wheel::WheelLoop;
 use std::alloc::{AllocGlobal, Global};
-use std::io;
 use std::random::RandomSource;
 use std::rt::Runtime;
 use std::sync::Wait;
+use std::{env, io};
 
 // Waits as long after each poll, and is never over unless it is cancelled.
 #[derive(Drop)]
@@ -62,8 +61,15 @@ impl Task for Ticker {
 }
 
 pub fn bench<R: Runtime + RandomSource + Wait + AllocGlobal>(rt: &R) -> io::Result<()> {
-    let count = number(rt, 2, 10)?;
-    let turns = number(rt, 3, 1000)?;
+    let mut numbers = env::args(rt)?.skip(2);
+    let count = numbers
+        .next()
+        .and_then(|word| word.as_str().parse().ok())
+        .unwrap_or(10);
+    let turns = numbers
+        .next()
+        .and_then(|word| word.as_str().parse().ok())
+        .unwrap_or(1000);
     let Some(mut tasks) = tickers(rt.alloc(), count) else {
         return println!(rt; "no tasks");
     };
@@ -76,11 +82,11 @@ pub fn bench<R: Runtime + RandomSource + Wait + AllocGlobal>(rt: &R) -> io::Resu
 }
 
 // So many tasks, due at the first milliseconds one after the other.
-fn tickers(alloc: Global, count: u64) -> Option<Vec<Ticker>> {
-    let pause = Millis::new(count)?;
+fn tickers(alloc: Global, count: u32) -> Option<Vec<Ticker>> {
+    let pause = Millis::from(count);
     let mut tasks = Vec::new(alloc);
     for number in 0..count {
-        let due = Moment::new(number)?;
+        let due = Moment::new(number.into())?;
         let over = None;
         tasks.push(Ticker { pause, due, over }).ok()?;
     }
