@@ -46,6 +46,8 @@ OUTSIDE = [
 #: What names some leaves and nodes over one plan, to step these sooner: one that it does not name is stepped by what
 #: stands there for all others, so you need not write it there.
 SOONER = "crates/sched_step_flat/src/advance.rt"
+#: What names the leaves whose steps divide, which are stepped by a call: one that it does not name is stepped in place.
+DIVIDES = "crates/sched_step_flat/specs/FlatStep.antt"
 #: What a node's expressions give in Rust's tests is made by another program.
 SPELLINGS = "rust/tests/spellings.rs"
 #: What names the builders that are functions: those of leaves.
@@ -84,6 +86,8 @@ def files_of(node, engine, made):
     found = [name for name, code in engine.items() if names.search(code)]
     if kind_of(node) != "two":
         found = [name for name in found if name != SOONER]
+    if kind_of(node) == "leaf":
+        found = [name for name in found if name != DIVIDES]
     written = [BUILDERS[kind_of(node)], *OUTSIDE, *(name for name in found if name not in made)]
     outside = [name for name in made if "crates/" not in name and (name != EXPORTS or kind_of(node) == "leaf")]
     return sorted(written), sorted([SPELLINGS, *outside, *(name for name in made if name in found)])
