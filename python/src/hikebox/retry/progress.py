@@ -6,11 +6,12 @@ from math import floor
 from typing import TYPE_CHECKING, Any, Callable, Mapping, Optional, Tuple
 
 from .._engine.calls import NO_DEADLINE, NO_REPORT, OVER, WAIT
-from .._engine.machine import MAX_IDLE, Machine, idle, is_crowded, new_machine, park, resumed, take_machine_back
+from .._engine.machine import MAX_IDLE, Machine, idle, new_machine, park, resumed, take_machine_back
 from .._time import FLOAT_ERROR, GRAIN, MAX_NUMBER, moment
 from ..budgets.passes import Ends
 from ..budgets.tickets import Refusal
 from ..errors import HikeboxError
+from ..limits.limit import Asked
 from ..policy.preview import word_of
 from .deadline import Deadline
 from .marks import DEBUG, late, log_wait
@@ -42,8 +43,7 @@ class Progress:
         kwargs: Mapping[str, Any] = {},
         start: Optional[float] = None,
         deadline: Optional[Deadline] = None,
-        drawing: Any = None,
-        refusal: Optional[Refusal] = None,
+        asked: Optional[Asked] = None,
     ) -> None:
         settings = self.settings = owner.settings
         state = self.state = RetryState(owner, fn, args, kwargs, settings.clock() if start is None else start)
@@ -55,9 +55,12 @@ class Progress:
         self.ends_now = False
         #: Whether the latest attempt gave a result that `on_result` does not refuse.
         self.is_accepted = False
-        #: What draws where the engine's retry does not, which may have refused the first attempt.
-        self.drawing = drawing
-        state.refusal = refusal
+        #: What draws where the engine's retry does not. It may have been asked before the first attempt.
+        self.drawing: Any = None
+        if asked is not None:
+            place, self.drawing, state.refusal, _ = asked
+            if place is not None:
+                self.drawing = settings.drawing(place)
         #: Whether it has a ticket for an attempt that has not begun.
         self.holds_ticket = False
         #: When the present attempt began, and how many milliseconds it took, where that is measured.
@@ -268,10 +271,12 @@ class Progress:
         self.state.ending = Ending.DEADLINE
         return True
 
-    def wins(self) -> None:
-        """An attempt gave a result, of which nothing is asked."""
-        settings = self.settings
-        self.state.ending = Ending.WON
+    def wins(self, result: Any = None) -> None:
+        """An attempt gave a result, of which nothing is asked, where it was not told already."""
+        settings, state = self.settings, self.state
+        if state.outcome is None:
+            state.outcome = Outcome(result, None, state.attempt_number)
+        state.ending = Ending.WON
         if settings.asks_limit:
             self.drawing.succeeded()
         elif settings.deposit_won is not None:
@@ -280,7 +285,7 @@ class Progress:
     def parks(self) -> None:
         """Lets its machine serve others while it waits, where many do, so that a retry that waits is small."""
         machine = self._machine
-        if is_crowded() and machine is not None and machine.loan is None:
+        if machine is not None and machine.loan is None:
             # (it is given up first: a signal handler may raise an exception at any step)
             self._machine = None
             self._parked = park(machine)
@@ -323,7 +328,7 @@ class Progress:
         settings = self.settings
         grants, most, start = settings.grants, settings.deadline_millis, self.state.start_time
         self._float_error = self._rounds = FLOAT_ERROR + abs(start) * GRAIN
-        self._origin = moment(start + seconds) if grants.reads_clock else self._whole(seconds)
+        self._origin = moment(start + seconds) if grants.reads_clock else 0
         deadline = NO_DEADLINE if most is None else self._last_start(most - seconds * 1000 + self._float_error)
         try:
             machine = idle.pop()
