@@ -118,11 +118,10 @@ class _BaseAttempts:
             answer_of(self.progress)
         raise ends
 
-    def look_at_block(self) -> None:
-        """Refuses a turn whose attempt was not used."""
-        if self.under_way:
-            self.progress.close()
-            raise RuntimeError("each attempt of the loop needs a `with attempt:` block")
+    def refuse(self) -> None:
+        """Refuses a turn after an attempt that was not used."""
+        self.progress.close()
+        raise RuntimeError("each attempt of the loop needs a `with attempt:` block")
 
     def ended(self, error: Optional[BaseException]) -> bool:
         """The attempt's block was left: whether its exception stops there."""
@@ -153,12 +152,12 @@ class _BaseAttempts:
         """Has the attempt judged: whether its exception stops in its block."""
         try:
             driven = self.steps or self.begun()
-            want, awaitable = driven.send(outcome), None
+            want: Any = driven.send(outcome)
             if type(want) is tuple:
                 want, awaitable = advance(driven, want)
-            if awaitable is not None:
-                self.pends(awaitable, outcome)
-                return True
+                if awaitable is not None:
+                    self.pends(awaitable, outcome)
+                    return True
         except BaseException:
             self.progress.close()
             raise
@@ -183,7 +182,7 @@ class Attempts(_BaseAttempts):
 
     def __next__(self) -> Attempt:
         if self.under_way:
-            self.look_at_block()
+            self.refuse()
         if self.is_open:
             self.judge(self.told())
         try:
@@ -230,9 +229,11 @@ class AsyncAttempts(_BaseAttempts):
             del outcome
 
     async def __anext__(self) -> Attempt:
-        self.look_at_block()
+        if self.under_way:
+            self.refuse()
         try:
-            await self._judge_pending()
+            if self.is_open or self.pending is not None:
+                await self._judge_pending()
             if isinstance(self.want, float):
                 awaitable = waits(self.progress, self.want)
                 if awaitable is not None:
@@ -241,7 +242,8 @@ class AsyncAttempts(_BaseAttempts):
                 self.want = RUN
             elif self.want is None or isinstance(self.want, float):
                 driven = self.steps or self.begun()
-                self.want = await settle_async(driven, driven.send(None))
+                want: Any = driven.send(None)
+                self.want = await settle_async(driven, want) if type(want) is tuple else want
         except BaseException:
             self.progress.close()
             raise

@@ -39,7 +39,7 @@ def advance(driven: Steps, want: Any) -> Tuple[Settled, Any]:
     while type(want) is tuple:
         function, argument = want
         answer = function(argument)
-        if hasattr(type(answer), "__await__"):
+        if answer is not None and hasattr(type(answer), "__await__"):
             return RUN, answer
         want = driven.send(answer)
     return want, None
@@ -85,15 +85,15 @@ def run(owner: BaseRetrying, fn: Callable[..., Any], args: Any, kwargs: Any) -> 
     deadline = _NONE if settings.deadline_millis is None else settings.deadline_from(start)
     token = None if deadline is None else enter(deadline)
     # until something is to be done for it, a retry is only its start, and what came of asking its limit
-    progress = asked = place = request = refusal = _NONE
+    progress = asked = place = refusal = _NONE
     tells_success = settings.deposit_won
     want: Any = RUN
     try:
         if settings.is_quiet:
             if settings.deposit is not None:
                 settings.deposit()
-            elif settings.asks_first is not None:
-                asked = place, request, refusal, tells_success = settings.asks_first()
+            elif (ask := settings.asks_first) is not None:
+                asked = place, request, refusal, tells_success = ask()
         if refusal is not None or not settings.is_quiet:
             progress = Progress(owner, fn, args, kwargs, start, deadline, asked)
             driven = steps(progress)
@@ -139,7 +139,7 @@ def run(owner: BaseRetrying, fn: Callable[..., Any], args: Any, kwargs: Any) -> 
             progress.close()
         elif place is not None:
             place.home.append(place)
-        elif request is not None:
+        elif asked is not None and request is not None:
             request.ended()
 
 
@@ -156,15 +156,15 @@ async def run_async(owner: BaseRetrying, fn: Callable[..., Any], args: Any, kwar
     start = settings.clock()
     deadline = _NONE if settings.deadline_millis is None else settings.deadline_from(start)
     token = None if deadline is None else enter(deadline)
-    progress = asked = place = request = refusal = awaitable = _NONE
+    progress = asked = place = refusal = awaitable = _NONE
     tells_success = settings.deposit_won
     want: Any = RUN
     try:
         if settings.is_quiet:
             if settings.deposit is not None:
                 settings.deposit()
-            elif settings.asks_first is not None:
-                asked = place, request, refusal, tells_success = settings.asks_first()
+            elif (ask := settings.asks_first) is not None:
+                asked = place, request, refusal, tells_success = ask()
         if refusal is not None or not settings.is_quiet:
             progress = Progress(owner, fn, args, kwargs, start, deadline, asked)
             driven = steps(progress)
@@ -222,7 +222,7 @@ async def run_async(owner: BaseRetrying, fn: Callable[..., Any], args: Any, kwar
             progress.close()
         elif place is not None:
             place.home.append(place)
-        elif request is not None:
+        elif asked is not None and request is not None:
             request.ended()
 
 

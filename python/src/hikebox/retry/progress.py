@@ -35,6 +35,17 @@ class Progress:
         *("_machine", "_parked", "_ends_at", "_logs", "_closed"),
     )
 
+    #: When the present attempt began, and how many milliseconds it took, where that is measured.
+    _began: float
+    _took: Optional[float]
+    #: When the first attempt failed, which is the moment that policies count from: by the engine, and in seconds since
+    #: the start. By how many milliseconds the clock may be off, and how many are added to a moment before its part of a
+    #: millisecond is cut off.
+    _origin: int
+    _first: float
+    _float_error: float
+    _rounds: float
+
     def __init__(
         self,
         owner: BaseRetrying,
@@ -63,18 +74,8 @@ class Progress:
                 self.drawing = settings.drawing(place)
         #: Whether it has a ticket for an attempt that has not begun.
         self.holds_ticket = False
-        #: When the present attempt began, and how many milliseconds it took, where that is measured.
-        self._began = state.start_time
-        self._took: Optional[float] = None
-        #: By how many milliseconds the clock may be off, and how many are added to a moment before its part of a
-        #: millisecond is cut off.
-        self._float_error = self._rounds = FLOAT_ERROR
         #: Seconds by which a sleep came back before the moment that it was to wait for.
         self.ahead = 0.0
-        #: When the first attempt failed, which is the moment that policies count from: by the engine, and in seconds
-        #: since the start.
-        self._origin = 0
-        self._first = 0.0
         #: The last moment that the engine was told, and the start that it planned: whole milliseconds since then.
         self._last = self._until = 0
         #: The seconds that `retry_after` and `wait` ask for, where they were asked already.
@@ -110,8 +111,8 @@ class Progress:
 
     def succeeds(self) -> None:
         """Tells the limit that an attempt succeeded, or failed where it took too long for a success."""
-        slow, took = self.settings.slow_millis, self._took
-        if slow is not None and took is not None and took > slow + FLOAT_ERROR + abs(self._began) * GRAIN:
+        slow = self.settings.slow_millis
+        if slow is not None and (self._took or 0.0) > slow + FLOAT_ERROR + abs(self._began) * GRAIN:
             self.drawing.failed()
         else:
             self.drawing.succeeded()
