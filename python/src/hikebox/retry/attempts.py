@@ -11,7 +11,7 @@ from .deadline import Deadline, enter, leave
 from .drivers import advance, answer_of, not_awaitable, settle, settle_async, slept, waits
 from .progress import HeldProgress
 from .state import Outcome, RetryState
-from .steps import OVER, RAISE, RUN, Settled, Steps, begins, steps
+from .steps import OVER, RAISE, RUN, Settled, begins, steps
 
 if TYPE_CHECKING:
     from ..retrying import BaseRetrying
@@ -90,7 +90,7 @@ class _BaseAttempts:
         per_key = owner.settings.per_key
         self.progress = HeldProgress(owner if per_key is None else per_key.retrying_of_block(owner))
         #: The steps of the retry, once something is to be done for it.
-        self.steps: Optional[Steps] = None
+        self.steps: Any = None
         #: What the retry wants, once it began.
         self.want: Optional[Settled] = None
         self.deadline: Optional[Deadline] = self.progress.state.deadline
@@ -99,13 +99,6 @@ class _BaseAttempts:
         #: Whether an attempt is under way, and whether one is over that is not judged yet.
         self.under_way = False
         self.is_open = False
-
-    def begun(self) -> Steps:
-        """The steps of the retry, which wait for the outcome of its first attempt where that has begun."""
-        driven = self.steps = steps(self.progress, self.want is RUN)
-        if self.want is RUN:
-            driven.send(None)
-        return driven
 
     def turn(self, ends: Type[Exception]) -> Attempt:
         """One more attempt, where the retry wants one; else it is over, and its last exception ends the loop, or this
@@ -151,10 +144,12 @@ class _BaseAttempts:
     def judge(self, outcome: Outcome) -> bool:
         """Has the attempt judged: whether its exception stops in its block."""
         try:
-            driven = self.steps or self.begun()
-            want: Any = driven.send(outcome)
+            if self.steps is None:
+                self.steps = steps(self.progress, is_counted=True)
+                self.steps.send(None)
+            want = self.steps.send(outcome)
             if type(want) is tuple:
-                want, awaitable = advance(driven, want)
+                want, awaitable = advance(self.steps, want)
                 if awaitable is not None:
                     self.pends(awaitable, outcome)
                     return True
@@ -189,10 +184,10 @@ class Attempts(_BaseAttempts):
             if self.want is None and self.progress.settings.is_quiet and begins(self.progress):
                 self.want = RUN
             elif self.want is None:
-                driven = self.begun()
-                self.want = settle(driven, driven.send(None))
+                self.steps = steps(self.progress)
+                self.want = settle(self.steps, self.steps.send(None))
             elif isinstance(self.want, float):
-                self.want = slept(self.progress, self.steps or self.begun(), self.want)
+                self.want = slept(self.progress, self.steps, self.want)
         except BaseException:
             self.progress.close()
             raise
@@ -222,8 +217,7 @@ class AsyncAttempts(_BaseAttempts):
             return
         (awaitable, outcome), self.pending = self.pending, None
         try:
-            driven = self.steps or self.begun()
-            if not self.judged(await settle_async(driven, driven.send(await awaitable))):
+            if not self.judged(await settle_async(self.steps, self.steps.send(await awaitable))):
                 outcome.result()
         finally:
             del outcome
@@ -241,9 +235,9 @@ class AsyncAttempts(_BaseAttempts):
             if self.want is None and self.progress.settings.is_quiet and begins(self.progress):
                 self.want = RUN
             elif self.want is None or isinstance(self.want, float):
-                driven = self.steps or self.begun()
-                want: Any = driven.send(None)
-                self.want = await settle_async(driven, want) if type(want) is tuple else want
+                self.steps = self.steps or steps(self.progress)
+                want = self.steps.send(None)
+                self.want = await settle_async(self.steps, want) if type(want) is tuple else want
         except BaseException:
             self.progress.close()
             raise
