@@ -2,7 +2,7 @@
 
 use crate::clock::{beginning, whole_millis, Moment};
 use crate::engine::{Handle, LimitKind, Seen, MAX_NUMBER};
-use crate::limits::asked::Quiet;
+use crate::limits::admission::Quiet;
 use crate::limits::changes::{self, BreakerState, Changes, OnChange};
 use crate::limits::error::LimitError;
 use crate::limits::grants::Tickets;

@@ -1,6 +1,6 @@
 //! Limits: what retries draw their tickets on.
 
-pub(crate) mod asked;
+pub(crate) mod admission;
 pub(crate) mod budget;
 pub(crate) mod call_limit;
 mod changes;

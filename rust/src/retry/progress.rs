@@ -2,7 +2,7 @@
 
 use crate::clock::{whole_millis, Moment};
 use crate::engine::{Run, Status, LOST, MAX_NUMBER, NO_DEADLINE};
-use crate::limits::asked::Quiet;
+use crate::limits::admission::Quiet;
 use crate::limits::call_limit::Admitted;
 use crate::limits::grants::{Held, Limit};
 #[cfg(any(feature = "prometheus", feature = "tracing"))]

@@ -31,10 +31,10 @@ __all__ = [
     "Signal",
     "Steps",
     "Want",
-    "asked",
     "begins",
     "ended",
     "judged",
+    "relay",
     "steps",
 ]
 
@@ -189,8 +189,8 @@ def ended(progress: Progress, is_at_hand: bool = False) -> Part:
     return OVER
 
 
-def asked(driven: Steps, want: Any) -> Generator[Ask, Any, Settled]:
-    """Hands on the calls that a retry wants, to who drives the steps that it is a part of, up to a wait or a signal."""
+def relay(driven: Steps, want: Any) -> Generator[Ask, Any, Settled]:
+    """Relays the calls that a retry wants to who drives the steps that it is a part of, up to a wait or a signal."""
     while type(want) is tuple:
         function, argument = want
         want = driven.send((yield function, argument))
