@@ -85,7 +85,7 @@ def run(owner: BaseRetrying, fn: Callable[..., Any], args: Any, kwargs: Any) -> 
     deadline = _NONE if settings.deadline_millis is None else settings.deadline_from(start)
     token = None if deadline is None else enter(deadline)
     # until something is to be done for it, a retry is only its start, and what came of asking its limit
-    progress = admission = place = refusal = _NONE
+    progress = holding = place = refusal = _NONE
     tells_success = settings.deposit_won
     want: Any = RUN
     try:
@@ -93,9 +93,9 @@ def run(owner: BaseRetrying, fn: Callable[..., Any], args: Any, kwargs: Any) -> 
             if settings.deposit is not None:
                 settings.deposit()
             elif (ask := settings.asks_first) is not None:
-                admission = place, request, refusal, tells_success = ask()
+                holding = place, request, refusal, tells_success = ask()
         if refusal is not None or not settings.is_quiet:
-            progress = Progress(owner, fn, args, kwargs, start, deadline, admission)
+            progress = Progress(owner, fn, args, kwargs, start, deadline, holding)
             driven = steps(progress)
             want = settle(driven, driven.send(None))
         while want is RUN:
@@ -104,7 +104,7 @@ def run(owner: BaseRetrying, fn: Callable[..., Any], args: Any, kwargs: Any) -> 
             except BaseException as error:
                 if progress is None:
                     place = None  # (which is the request's now)
-                    progress = Progress(owner, fn, args, kwargs, start, deadline, admission)
+                    progress = Progress(owner, fn, args, kwargs, start, deadline, holding)
                     driven = steps(progress, True)
                     driven.send(None)
                 want = driven.send(Outcome(None, error))
@@ -139,7 +139,7 @@ def run(owner: BaseRetrying, fn: Callable[..., Any], args: Any, kwargs: Any) -> 
             progress.close()
         elif place is not None:
             place.home.append(place)
-        elif admission is not None and request is not None:
+        elif holding is not None and request is not None:
             request.ended()
 
 
@@ -156,7 +156,7 @@ async def run_async(owner: BaseRetrying, fn: Callable[..., Any], args: Any, kwar
     start = settings.clock()
     deadline = _NONE if settings.deadline_millis is None else settings.deadline_from(start)
     token = None if deadline is None else enter(deadline)
-    progress = admission = place = refusal = awaitable = _NONE
+    progress = holding = place = refusal = awaitable = _NONE
     tells_success = settings.deposit_won
     want: Any = RUN
     try:
@@ -164,9 +164,9 @@ async def run_async(owner: BaseRetrying, fn: Callable[..., Any], args: Any, kwar
             if settings.deposit is not None:
                 settings.deposit()
             elif (ask := settings.asks_first) is not None:
-                admission = place, request, refusal, tells_success = ask()
+                holding = place, request, refusal, tells_success = ask()
         if refusal is not None or not settings.is_quiet:
-            progress = Progress(owner, fn, args, kwargs, start, deadline, admission)
+            progress = Progress(owner, fn, args, kwargs, start, deadline, holding)
             driven = steps(progress)
             want = await settle_async(driven, driven.send(None))
         while want is RUN:
@@ -178,7 +178,7 @@ async def run_async(owner: BaseRetrying, fn: Callable[..., Any], args: Any, kwar
             except BaseException as error:
                 if progress is None:
                     place = None  # (which is the request's now)
-                    progress = Progress(owner, fn, args, kwargs, start, deadline, admission)
+                    progress = Progress(owner, fn, args, kwargs, start, deadline, holding)
                     driven = steps(progress, True)
                     driven.send(None)
                 if awaitable is None:
@@ -222,7 +222,7 @@ async def run_async(owner: BaseRetrying, fn: Callable[..., Any], args: Any, kwar
             progress.close()
         elif place is not None:
             place.home.append(place)
-        elif admission is not None and request is not None:
+        elif holding is not None and request is not None:
             request.ended()
 
 

@@ -11,7 +11,7 @@ from .._time import FLOAT_ERROR, GRAIN, MAX_NUMBER, moment
 from ..budgets.passes import Ends
 from ..budgets.tickets import Refusal
 from ..errors import HikeboxError
-from ..limits.limit import Admission
+from ..limits.limit import Holding
 from ..policy.preview import word_of
 from .deadline import Deadline
 from .marks import DEBUG, late, log_wait
@@ -54,7 +54,7 @@ class Progress:
         kwargs: Mapping[str, Any] = {},
         start: Optional[float] = None,
         deadline: Optional[Deadline] = None,
-        admission: Optional[Admission] = None,
+        holding: Optional[Holding] = None,
     ) -> None:
         settings = self.settings = owner.settings
         state = self.state = RetryState(owner, fn, args, kwargs, settings.clock() if start is None else start)
@@ -68,8 +68,8 @@ class Progress:
         self.is_accepted = False
         #: What draws where the engine's retry does not. It may have been asked before the first attempt.
         self.drawing: Any = None
-        if admission is not None:
-            place, self.drawing, state.refusal, _ = admission
+        if holding is not None:
+            place, self.drawing, state.refusal, _ = holding
             if place is not None:
                 self.drawing = settings.drawing(place)
         #: Whether it has a ticket for an attempt that has not begun.
