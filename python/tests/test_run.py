@@ -23,6 +23,8 @@ from hikebox.cli.terminal import processes
 PROGRAM = [sys.executable, "-m", "hikebox"]
 #: No wait between attempts.
 AT_ONCE = ["--policy", "recurs(2)"]
+#: How many seconds a test waits for what has to come, on a machine that is busy with other things.
+PATIENCE = 150.0
 
 
 def is_alive(process: int) -> bool:
@@ -34,7 +36,7 @@ def is_alive(process: int) -> bool:
     return state not in "ZX"
 
 
-def wait_for(path: Path, seconds: float = 30.0) -> str:
+def wait_for(path: Path, seconds: float = PATIENCE) -> str:
     """What is in a file, once there is a line in it."""
     until = time.monotonic() + seconds
     while time.monotonic() < until:
@@ -289,7 +291,7 @@ class Shell:
     def types(self, text: str) -> None:
         os.write(self.file, text.encode())
 
-    def expects(self, pattern: str, seconds: float = 40.0) -> "re.Match[str]":
+    def expects(self, pattern: str, seconds: float = PATIENCE) -> "re.Match[str]":
         """Waits for what the pattern says, and takes all up to there."""
         until = time.monotonic() + seconds
         while True:
@@ -305,7 +307,7 @@ class Shell:
 
     def gives(self, process: int) -> None:
         """Waits until the group of a process has the terminal, and none of the group is stopped."""
-        group, until = os.getpgid(process), time.monotonic() + 40
+        group, until = os.getpgid(process), time.monotonic() + PATIENCE
         while os.tcgetpgrp(self.file) != group or any(
             each.state == "T" for each in processes().values() if each.group == group
         ):
@@ -392,7 +394,7 @@ def test_control_c_between_two_attempts_ends_the_run(shell: Shell) -> None:
 
 def stopped(shell: Shell) -> None:
     """Asks the shell for its jobs until one is stopped."""
-    until = time.monotonic() + 40
+    until = time.monotonic() + PATIENCE
     while True:
         shell.types("jobs; echo all''listed\n")
         if "Stopped" in shell.expects("(?s).*alllisted")[0]:
@@ -457,7 +459,7 @@ def test_control_z_while_the_rest_of_an_attempt_is_ended(shell: Shell) -> None:
     found = shell.expects(r"pids (\d+) (\d+)\.")
     group, left = os.getpgid(int(found[1])), int(found[2])
     # (the command is over once hikebox has the terminal again)
-    until = time.monotonic() + 40
+    until = time.monotonic() + PATIENCE
     while os.tcgetpgrp(shell.file) != group:
         assert time.monotonic() < until
         time.sleep(0.01)
@@ -520,7 +522,7 @@ def test_a_hikebox_that_is_killed_leaves_the_terminal(shell: Shell) -> None:
     assert len(started) == 2
     os.kill(hikebox_id, signal.SIGKILL)
     shell.expects("over 137\r")
-    until = time.monotonic() + 40
+    until = time.monotonic() + PATIENCE
     while any(is_alive(process) for process in started) and time.monotonic() < until:
         time.sleep(0.02)
     assert not any(is_alive(process) for process in started)
