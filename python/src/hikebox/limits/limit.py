@@ -194,11 +194,6 @@ class CallLimit(OfOneProcess, Limit):
         place.home.append(place)
         return self.ask()
 
-    def settle(self, place: Place) -> None:
-        """Tells of the success of a call that found it quiet, where it is quiet no more."""
-        with self.REQUEST(self, place) as request:
-            request.succeeded()
-
     def cost_of(self, error: Optional[BaseException]) -> int:
         """What a retry after this error costs, in thousandths."""
         return 0

@@ -236,7 +236,7 @@ class AsyncAttempts(_BaseAttempts):
                 self.want = RUN
             elif self.want is None or isinstance(self.want, float):
                 self.steps = self.steps or steps(self.progress)
-                want = self.steps.send(None)
+                want: Any = self.steps.send(None)
                 self.want = await settle_async(self.steps, want) if type(want) is tuple else want
         except BaseException:
             self.progress.close()

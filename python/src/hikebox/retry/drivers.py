@@ -123,7 +123,8 @@ def run(owner: BaseRetrying, fn: Callable[..., Any], args: Any, kwargs: Any) -> 
                         tells_success()
                         if place is not None and not place.told[0]:
                             found, place = place, None
-                            settings.limit.settle(found)
+                            with settings.drawing(found) as told:
+                                told.succeeded()
                     return result
                 if settings.is_quiet:
                     progress.wins(result)
@@ -199,7 +200,8 @@ async def run_async(owner: BaseRetrying, fn: Callable[..., Any], args: Any, kwar
                         tells_success()
                         if place is not None and not place.told[0]:
                             found, place = place, None
-                            settings.limit.settle(found)
+                            with settings.drawing(found) as told:
+                                told.succeeded()
                     return result
                 if settings.is_quiet:
                     progress.wins(result)
