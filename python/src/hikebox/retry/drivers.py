@@ -84,7 +84,7 @@ def run(owner: BaseRetrying, fn: Callable[..., Any], args: Any, kwargs: Any) -> 
     start = settings.clock()
     deadline = _NONE if settings.deadline_millis is None else settings.deadline_from(start)
     token = None if deadline is None else enter(deadline)
-    # until something is to be done for it, a retry is only its start, and what came of asking its limit
+    # until something is to be done for it, a retry is only its start, and what it holds of its limit
     progress = holding = place = refusal = _NONE
     tells_success = settings.deposit_won
     want: Any = RUN
