@@ -198,10 +198,8 @@ class AsyncAttempts(_BaseAttempts):
     """Those of an `async for` loop. Where something has to be awaited to judge an attempt, the next turn of the loop
     does that, and lets the last exception out."""
 
-    def __init__(self, owner: BaseRetrying) -> None:
-        super().__init__(owner)
-        #: What is to be awaited to judge an attempt, and that attempt.
-        self.pending: Optional[Tuple[Any, Outcome]] = None
+    #: What is to be awaited to judge an attempt, and that attempt.
+    pending: Optional[Tuple[Any, Outcome]] = None
 
     def __aiter__(self) -> AsyncAttempts:
         return self

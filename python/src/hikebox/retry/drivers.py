@@ -130,8 +130,12 @@ def run(owner: BaseRetrying, fn: Callable[..., Any], args: Any, kwargs: Any) -> 
                     progress.wins(result)
                     return result
                 want = settle(driven, driven.send(Outcome(result)))
-            if type(want) is float:
-                want = slept(progress, driven, want)
+            if type(want) is float:  # (as `slept` does, with one function less for each retry)
+                if want > 0.0 and (answer := settings.sleeps(want)) is not None:
+                    not_awaitable(answer)
+                want = driven.send(None)
+                if type(want) is tuple:
+                    want = settle(driven, want)
         return answer_of(progress)
     finally:
         if token is not None:
