@@ -1,4 +1,8 @@
-"""The two drivers of a retry's steps: one that blocks, and one for coroutines."""
+"""The two drivers of a retry's steps: one that blocks, and one for coroutines.
+
+What a call goes through that succeeds at once stands in both, since each function more would show there:
+`tests/test_costs.py` names those that it may enter.
+"""
 
 from __future__ import annotations
 
