@@ -2,10 +2,10 @@
 
 use crate::clock::{beginning, whole_millis, Moment};
 use crate::engine::{Handle, LimitKind, Seen, MAX_NUMBER};
-use crate::limits::asked::Quiet;
 use crate::limits::changes::{self, BreakerState, Changes, OnChange};
 use crate::limits::error::LimitError;
 use crate::limits::grants::Tickets;
+use crate::limits::holding::Quiet;
 use crate::limits::per_key::Counted;
 use crate::limits::refused::{RefusalReason, Refused};
 use crate::limits::seen::LimitState;

@@ -4,9 +4,9 @@ use crate::clock::Moment;
 use crate::engine::Status;
 #[cfg(feature = "leased")]
 use crate::leased::{Leased, LeasedQuota};
-use crate::limits::asked::{Asked, Quiet};
 use crate::limits::budget::Budget;
 use crate::limits::call_limit::{Admitted, CallLimit};
+use crate::limits::holding::{Holding, Quiet};
 use crate::limits::lender::{Begun, Lender};
 use crate::limits::quota::Quota;
 use crate::limits::refused::Refused;
@@ -184,7 +184,7 @@ pub trait Tickets: Send + Sync {
 }
 
 mod sealed {
-    use super::{Admitted, Arc, Asked, Begun, CallLimit, Infallible, Lender, Moment, Policy, Quiet, Refused};
+    use super::{Admitted, Arc, Begun, CallLimit, Holding, Infallible, Lender, Moment, Policy, Quiet, Refused};
     use super::{Source, Status, Ticket, Tickets};
     use std::error::Error;
 
@@ -296,12 +296,12 @@ mod sealed {
     }
 
     impl Admission for Refused {
-        type Held = Asked;
+        type Held = Holding;
 
         const HOLDS: bool = true;
 
         #[inline]
-        fn admit(limit: &dyn Limit, held: &mut Asked) -> Result<(), Self> {
+        fn admit(limit: &dyn Limit, held: &mut Holding) -> Result<(), Self> {
             match limit.call_limit() {
                 Some(limit) => held.ask(limit),
                 None => Ok(()),

@@ -1,12 +1,12 @@
 //! Limits: what retries draw their tickets on.
 
-pub(crate) mod asked;
 pub(crate) mod budget;
 pub(crate) mod call_limit;
 mod changes;
 mod counters;
 pub(crate) mod error;
 pub(crate) mod grants;
+pub(crate) mod holding;
 pub(crate) mod lender;
 pub(crate) mod part;
 pub(crate) mod per_key;

@@ -104,15 +104,15 @@ const MOST: usize = 10_000;
 struct Kept<K, L> {
     limits: HashMap<K, One<L>>,
     /// How often a limit was asked for.
-    asked: u64,
+    uses: u64,
     /// How many limits there are when some have to go.
     full: usize,
 }
 
 struct One<L> {
     limit: L,
-    /// When it was asked for.
-    asked: u64,
+    /// Which of the uses was its latest.
+    used: u64,
 }
 
 impl<K: Eq + Hash, L: Keyed> PerKey<K, L> {
@@ -185,8 +185,8 @@ impl<K: Eq + Hash, L: Keyed> Kept<K, L> {
         K: Borrow<Q>,
     {
         let one = self.limits.get_mut(key)?;
-        self.asked += 1;
-        one.asked = self.asked;
+        self.uses += 1;
+        one.used = self.uses;
         Some(one.limit.clone())
     }
 
@@ -198,19 +198,19 @@ impl<K: Eq + Hash, L: Keyed> Kept<K, L> {
         if self.limits.len() >= self.full.max(most) {
             self.make_room(most);
         }
-        self.asked += 1;
-        self.limits.insert(key, One { limit: limit.clone(), asked: self.asked });
+        self.uses += 1;
+        self.limits.insert(key, One { limit: limit.clone(), used: self.uses });
         limit
     }
 
     /// Lets those go that were asked for least recently, of those that are not in use: what is above the most, with one
     /// more, or an eighth of the most.
     fn make_room(&mut self, most: usize) {
-        let mut asked: Vec<u64> = self.limits.values().filter(|one| !one.is_in_use()).map(|one| one.asked).collect();
-        asked.sort_unstable();
+        let mut used: Vec<u64> = self.limits.values().filter(|one| !one.is_in_use()).map(|one| one.used).collect();
+        used.sort_unstable();
         let going = (self.limits.len() + 1 - most).max(most / 8);
-        if let Some(last) = asked.get(going - 1).or(asked.last()).copied() {
-            self.limits.retain(|_, one| one.asked > last || one.is_in_use());
+        if let Some(last) = used.get(going - 1).or(used.last()).copied() {
+            self.limits.retain(|_, one| one.used > last || one.is_in_use());
         }
         // (where most are in use it looks again when there are an eighth more)
         let left = self.limits.len();
@@ -227,7 +227,7 @@ impl<L: Keyed> One<L> {
 
 impl<K, L> Default for Kept<K, L> {
     fn default() -> Self {
-        Self { limits: HashMap::new(), asked: 0, full: 0 }
+        Self { limits: HashMap::new(), uses: 0, full: 0 }
     }
 }
 

@@ -376,28 +376,13 @@ class Options:
     )
     before: Hooks = option(
         None,
-        """A function of the `RetryState`, or a list of functions, called before each attempt.""",
+        "A function of the `RetryState`, or a list of functions, called before each attempt.",
         _hooks_follow,
         shapes=True,
     )
-    after: Hooks = option(
-        None,
-        """The same, called after each attempt that failed.""",
-        _hooks_follow,
-        shapes=True,
-    )
-    before_sleep: Hooks = option(
-        None,
-        """The same, called before each wait.""",
-        _hooks_follow,
-        shapes=True,
-    )
-    on_success: Hooks = option(
-        None,
-        """The same, called when a call has succeeded.""",
-        _hooks_follow,
-        shapes=True,
-    )
+    after: Hooks = option(None, "The same, called after each attempt that failed.", _hooks_follow, shapes=True)
+    before_sleep: Hooks = option(None, "The same, called before each wait.", _hooks_follow, shapes=True)
+    on_success: Hooks = option(None, "The same, called when a call has succeeded.", _hooks_follow, shapes=True)
     fallback: Optional[Hook] = option(
         None,
         """A function of the `RetryState` that returns the result when the retry gives up. None raises the last

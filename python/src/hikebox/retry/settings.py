@@ -8,7 +8,7 @@ from typing import TYPE_CHECKING, Any, Callable, Dict, Generic, Iterable, List, 
 from .._time import MAX_NUMBER
 from ..budgets.passes import Grants
 from ..limits import CallLimit
-from ..limits.limit import Asked
+from ..limits.limit import Holding
 from ..policy import Policy
 from ..policy.plan import Plan
 from .deadline import Deadline
@@ -81,7 +81,7 @@ class Settings(HasOptions):
     #: but to tell that.
     is_quiet: bool
     #: What asks such a limit before such an attempt.
-    asks_first: Optional[Callable[[], Asked]]
+    asks_first: Optional[Callable[[], Holding]]
     #: Whether `retry_after` or `wait` may ask for a longer wait.
     asks: bool
     #: Whether something may take time between a failure and its wait.
