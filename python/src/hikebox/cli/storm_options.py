@@ -76,7 +76,7 @@ def add_log(storm: argparse.ArgumentParser) -> None:
     """Adds the options of an access log."""
     log = (
         "take how requests come from an access log, or - for standard input: nginx's or Apache's, JSON lines or CSV, "
-        "also compressed by gzip; --seconds is then how long its busiest part is that is played (all)"
+        "also compressed by gzip; with --seconds N only its busiest stretch of N seconds is played (all)"
     )
     storm.add_argument("--log", metavar="FILE", action=Once, help=log)
     fields = "where JSON or CSV has the moment, how long a request took (in s, ms, us or ns) and the status"

@@ -42,8 +42,8 @@ class Breaker(CallLimit):
     `probe_deadline`
         How long after its last probe it admits others, if the probes have no result by then: seconds, or a `timedelta`.
     `on_change`
-        A function that gets what the breaker was and what it is, two `BreakerState`: once for each change that a call
-        of this process makes or finds, in their order, from one thread at a time. What it raises is logged.
+        A function of the states before and after a change, two `BreakerState`. It is called once for each change that a
+        call of this process makes or finds, in their order, from one thread at a time. What it raises is logged.
     `clock`
         What returns the time in seconds, to be replaced in tests.
 

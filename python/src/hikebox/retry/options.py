@@ -360,9 +360,9 @@ class Options:
         """Only for calls that may be made twice at once: after how long, by the clock of asyncio or trio, an attempt of
         a coroutine function is late, in seconds or as a `timedelta`. To the policy and the `limit` it has failed then,
         with an `AttemptTimeout`, but it goes on. They say whether and when the next attempt begins beside it. The first
-        success is the result; the other attempts are cancelled and awaited. Of a late attempt that fails nobody hears,
-        but if it is the last to fail, the call raises that. For a function, a loop or a repeat it is a `TypeError`. It
-        may not be longer than `attempt_timeout`.""",
+        success is the result; the other attempts are cancelled and awaited. No hook is called when a late attempt
+        fails; if all fail, the call raises the last exception. For a function, a loop or a repeat this option is a
+        `TypeError`. It may not be longer than `attempt_timeout`.""",
         _attempt_timeout_follows,
         _hedge_after_follows,
     )
