@@ -7,12 +7,12 @@ pub use schedule::{Fold, Schedule, Test};
 pub use waits::Waits;
 
 use crate::engine::{self, Event, Handle, Place, PolicyKind, Size, Status, MAX_STEPS};
-use crate::system::PerProcess;
+use crate::system::{lock, PerProcess};
 use std::error::Error;
 use std::fmt;
 use std::mem;
 use std::str::FromStr;
-use std::sync::{Arc, Mutex, PoisonError};
+use std::sync::{Arc, Mutex};
 
 /// A schedule that the engine has accepted: at most 256 nodes, and at most 32 deep. It is cheap to clone, threads can
 /// share it, and all retries by it share one plan.
@@ -222,8 +222,7 @@ impl Policy {
     #[inline]
     pub(crate) fn with<T>(&self, call: impl FnOnce(&mut Handle<PolicyKind>) -> T) -> T {
         let Shared { json, handle, .. } = &*self.shared;
-        let anew = || Mutex::new(Handle::read(json).expect("memory for a policy"));
-        call(&mut handle.get(anew).lock().unwrap_or_else(PoisonError::into_inner))
+        call(&mut lock(handle.get(|| Mutex::new(Handle::read(json).expect("memory for a policy")))))
     }
 }
 
@@ -340,14 +339,6 @@ impl FromStr for Policy {
 
     fn from_str(json: &str) -> Result<Self, PolicyError> {
         Self::from_json(json)
-    }
-}
-
-impl TryFrom<Schedule> for Policy {
-    type Error = PolicyError;
-
-    fn try_from(schedule: Schedule) -> Result<Self, PolicyError> {
-        Self::new(&schedule)
     }
 }
 

@@ -433,64 +433,39 @@ fn span(time: Duration) -> Option<&'static str> {
 
 /// The same with one that is not 0.
 fn interval_of(time: Duration) -> Option<&'static str> {
-    if time.is_zero() {
-        Some("expected an interval above 0")
-    } else {
-        span(time)
-    }
+    time.is_zero().then_some("expected an interval above 0").or(span(time))
 }
 
 fn number(number: u64) -> Option<&'static str> {
-    if number > MAX_NUMBER {
-        Some("expected a number of at most 2^62 - 1")
-    } else {
-        None
-    }
+    (number > MAX_NUMBER).then_some("expected a number of at most 2^62 - 1")
 }
 
 fn factor_of(factor: u64, range: RangeInclusive<u64>, why: &'static str) -> Option<&'static str> {
-    if range.contains(&factor) {
-        None
-    } else {
-        Some(why)
-    }
+    (!range.contains(&factor)).then_some(why)
 }
 
 fn delays_of(base: Duration, longest: Duration) -> Option<&'static str> {
-    span(base).or(span(longest)).or(if longest < base {
-        Some("expected a longest delay of at least the base")
-    } else {
-        None
-    })
+    let is_short = (longest < base).then_some("expected a longest delay of at least the base");
+    span(base).or(span(longest)).or(is_short)
 }
 
 fn lane_of(lane: u8) -> Option<&'static str> {
-    if lane > 3 {
-        Some("expected a lane from 0 to 3")
-    } else {
-        None
-    }
+    (lane > 3).then_some("expected a lane from 0 to 3")
 }
 
 fn jitter_of(least: u64, most: u64) -> Option<&'static str> {
-    match () {
-        () if most > 10_000 => Some("expected a ratio from 0 to 10,000 thousandths"),
-        () if least > most => Some("the range is empty"),
-        () => None,
-    }
+    let is_high = (most > 10_000).then_some("expected a ratio from 0 to 10,000 thousandths");
+    is_high.or((least > most).then_some("the range is empty"))
 }
 
 /// What is wrong with ratios, where something is.
 fn range_of(ratios: &Range<f64>) -> Option<&'static str> {
     let ends = [ratios.start, ratios.end];
-    match () {
-        () if !ends.iter().all(|ratio| (0.0..=10.0).contains(ratio)) => Some("expected a ratio from 0 to 10"),
-        () if ratios.start > ratios.end => Some("the range is empty"),
-        () if ends.iter().any(|end| *end > 0.0 && thousandths(*end) == 0) => {
-            Some("expected 0 or at least a thousandth")
-        }
-        () => None,
-    }
+    let is_beyond = !ends.iter().all(|ratio| (0.0..=10.0).contains(ratio));
+    let is_small = ends.iter().any(|ratio| *ratio > 0.0 && thousandths(*ratio) == 0);
+    let why = is_beyond.then_some("expected a ratio from 0 to 10");
+    let why = why.or((ratios.start > ratios.end).then_some("the range is empty"));
+    why.or(is_small.then_some("expected 0 or at least a thousandth"))
 }
 
 impl BitAnd for Schedule {
