@@ -101,7 +101,7 @@ impl Share {
         let known = &mut *lock(&leases.asking);
         let answer = ask(known, &|window| leases.tell(window))?;
         let held = &mut *lock(&leases.held);
-        held.pass.granted(&Grant::none_of(&answer.0));
+        held.pass.granted(&grant_of(Some(answer.0), 0, 0));
         held.may_ask();
         Ok(answer)
     }
@@ -155,9 +155,7 @@ impl Held {
 
     /// Takes a store's answer, and draws of it.
     fn granted(&mut self, answer: &Answer) -> Option<Result<Ticket, NoTicket>> {
-        let until = answer.window.map_or(MAX_NUMBER, |window| window.ends().min(MAX_NUMBER));
-        let window = answer.window.map_or(0, |window| window.number);
-        let grant = Grant { window, first: answer.first, tickets: answer.tickets, until };
+        let grant = grant_of(answer.window, answer.first, answer.tickets);
         if self.pass.granted(&grant) == Taken::HeldAlready {
             // (the store was taken away, and has begun anew: so does this process)
             *self = Self::new(self.period);
@@ -166,7 +164,7 @@ impl Held {
         self.failure = None;
         self.worth_asking = None;
         if answer.tickets == 0 {
-            self.pass.leave_alone(later(answer.again_after).min(until));
+            self.pass.leave_alone(later(answer.again_after).min(grant.until));
             self.worth_asking = answer.worth_asking;
         }
         self.draw()
@@ -225,11 +223,10 @@ impl Held {
     }
 }
 
-impl Grant {
-    /// No ticket of a window, which is told by it.
-    fn none_of(window: &Window) -> Self {
-        Self { window: window.number, first: 0, tickets: 0, until: window.ends().min(MAX_NUMBER) }
-    }
+/// So many tickets of a window, or of a store without any.
+fn grant_of(window: Option<Window>, first: u64, tickets: u64) -> Grant {
+    let (window, until) = window.map_or((0, MAX_NUMBER), |window| (window.number, window.ends().min(MAX_NUMBER)));
+    Grant { window, first, tickets, until }
 }
 
 /// The moment after so long.

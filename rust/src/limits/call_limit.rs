@@ -278,10 +278,6 @@ impl CallLimit {
         }
     }
 
-    fn is(&self, other: &Self) -> bool {
-        Arc::ptr_eq(&self.shared, &other.shared)
-    }
-
     /// The limits that it asks, each of terms of its own.
     fn parts(&self) -> Vec<CallLimit> {
         match &self.shared.made {
@@ -295,15 +291,6 @@ impl CallLimit {
     fn moment(&self) -> u64 {
         match self.shared.reads.clock {
             true => moment_of(self.shared.began),
-            false => 0,
-        }
-    }
-
-    /// The present moment, where it reads that of a success: a throttle alone does, as it alone reads random words.
-    #[inline]
-    fn moment_of_success(&self) -> u64 {
-        match self.shared.reads.words {
-            true => self.moment(),
             false => 0,
         }
     }
@@ -345,8 +332,8 @@ fn moment_of(began: Moment) -> u64 {
 /// bucket than of another, and [`LimitError::NoMemory`].
 pub fn both(first: &CallLimit, second: &CallLimit) -> Result<CallLimit, LimitError> {
     let limits = [first.parts(), second.parts()].concat();
-    let is_known = |(place, limit): (usize, &CallLimit)| limits[..place].iter().any(|other| other.is(limit));
-    if limits.iter().enumerate().any(is_known) {
+    let is_one = |one: &CallLimit, other: &CallLimit| Arc::ptr_eq(&one.shared, &other.shared);
+    if (1..limits.len()).any(|place| limits[..place].iter().any(|one| is_one(one, &limits[place]))) {
         return Err(LimitError::SameLimit);
     }
     let mut buckets = limits.iter().filter(|limit| matches!(limit.shared.made, Made::Of(Terms::Bucket(_))));
@@ -520,7 +507,8 @@ impl Request {
 
     /// Tells that a run succeeded.
     pub fn succeeded(&mut self) {
-        let now = self.limit.moment_of_success();
+        // (a throttle alone heeds the moment of a success, as it alone reads random words)
+        let now = if self.limit.shared.reads.words { self.limit.moment() } else { 0 };
         self.handle().succeeded(now);
         self.limit.tell_changes();
     }

@@ -109,7 +109,10 @@ impl Policy {
             Err(Status::NoMemory) => Err(PolicyError::no_memory()),
             // (of the text it is known where, but the engine reads none that is nested more than 127 deep)
             Err(status) => Self::from_json(schedule.as_json()).map_err(|error| match error.fault {
-                PolicyFault::NotJson { .. } => PolicyError::too_large(status),
+                PolicyFault::NotJson { .. } => {
+                    let hint = "expected a schedule of at most 256 nodes, at most 32 deep".to_owned();
+                    PolicyError { hint, ..PolicyError::of(status) }
+                }
                 _ => error,
             }),
         }
@@ -258,11 +261,6 @@ impl PolicyError {
     /// That memory is wanting.
     pub(crate) fn no_memory() -> Self {
         Self::of(Status::NoMemory)
-    }
-
-    /// The error of a schedule that has too many nodes, or is too deep.
-    fn too_large(status: Status) -> Self {
-        Self { hint: "expected a schedule of at most 256 nodes, at most 32 deep".to_owned(), ..Self::of(status) }
     }
 
     /// The error of a call on what is a policy.

@@ -130,19 +130,16 @@ impl Schedule {
 
     /// Delays that begin with `base`, each `factor` (1 to 1000) times the one before.
     pub fn exponential(base: Duration, factor: u64) -> Self {
-        Self::leaf("exponential", [millis(base), factor]).checked(
-            span(base).or(factor_of(factor, 1..=1000, FACTOR)),
-            format_args!("exponential({base:?}, {factor})"),
-        )
+        let why = span(base).or(factor_of(factor, 1..=1000, FACTOR));
+        Self::leaf("exponential", [millis(base), factor]).checked(why, format_args!("exponential({base:?}, {factor})"))
     }
 
     /// Delays that begin with `base`, each `thousandths` (1 to 1,000,000) thousandths of the one before: with 1500 each
     /// is half as long again.
     pub fn exponential_milli(base: Duration, thousandths: u64) -> Self {
-        Self::leaf("exponential_milli", [millis(base), thousandths]).checked(
-            span(base).or(factor_of(thousandths, 1..=1_000_000, THOUSANDTHS)),
-            format_args!("exponential_milli({base:?}, {thousandths})"),
-        )
+        let why = span(base).or(factor_of(thousandths, 1..=1_000_000, THOUSANDTHS));
+        Self::leaf("exponential_milli", [millis(base), thousandths])
+            .checked(why, format_args!("exponential_milli({base:?}, {thousandths})"))
     }
 
     /// Delays of `first` times 1, 1, 2, 3, 5 and so on.
@@ -153,23 +150,18 @@ impl Schedule {
     /// Random delays, each from `base` up to `factor` (1 to 1000) times the one before, and none longer than `longest`.
     /// `base` stands in for the delay before the first. AWS calls this decorrelated jitter and uses the factor 3.
     pub fn decorrelated(base: Duration, factor: u64, longest: Duration) -> Self {
-        Self::delays(0, base, factor.saturating_mul(1000), longest).checked(
-            delays_of(base, longest).or(factor_of(factor, 1..=1000, FACTOR)),
-            format_args!("decorrelated({base:?}, {factor}, {longest:?})"),
-        )
+        let why = delays_of(base, longest).or(factor_of(factor, 1..=1000, FACTOR));
+        Self::delays(0, base, factor.saturating_mul(1000), longest)
+            .checked(why, format_args!("decorrelated({base:?}, {factor}, {longest:?})"))
     }
 
     /// [`Schedule::decorrelated`] with a factor of `thousandths` (1000 to 1,000,000). The random word of `lane` (0 to
     /// 3) picks each delay.
     pub fn decorrelated_milli(lane: u8, base: Duration, thousandths: u64, longest: Duration) -> Self {
-        Self::delays(lane, base, thousandths, longest).checked(
-            delays_of(base, longest).or(lane_of(lane)).or(factor_of(
-                thousandths,
-                1000..=1_000_000,
-                "expected a factor from 1000 to 1,000,000 thousandths",
-            )),
-            format_args!("decorrelated_milli({lane}, {base:?}, {thousandths}, {longest:?})"),
-        )
+        let least = "expected a factor from 1000 to 1,000,000 thousandths";
+        let why = delays_of(base, longest).or(lane_of(lane)).or(factor_of(thousandths, 1000..=1_000_000, least));
+        Self::delays(lane, base, thousandths, longest)
+            .checked(why, format_args!("decorrelated_milli({lane}, {base:?}, {thousandths}, {longest:?})"))
     }
 
     fn delays(lane: u8, base: Duration, thousandths: u64, longest: Duration) -> Self {
