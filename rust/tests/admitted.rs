@@ -544,29 +544,4 @@ mod layers {
         }
         assert_eq!(quota.granted(), 2);
     }
-
-    // Eight threads make 100 calls each that always fail, on a bucket of 300.
-    #[test]
-    fn eight_threads_draw_each_token_once() {
-        let runs = Arc::new(AtomicU64::new(0));
-        let retries = RetryLayer::new(policy(r#"{"recurs":9}"#), tokens(300.0));
-        let counted = runs.clone();
-        let service = ServiceBuilder::new().layer(retries).service(service_fn(move |_: u8| {
-            counted.fetch_add(1, Ordering::SeqCst);
-            ready(Err::<u32, _>("busy"))
-        }));
-        let calls = |mut service: hikebox::RetryService<_, _>| async move {
-            for _ in 0..100 {
-                let _: Result<u32, BoxError> = ServiceExt::<u8>::ready(&mut service).await.unwrap().call(1).await;
-            }
-        };
-        thread::scope(|scope| {
-            for _ in 0..8 {
-                let service = service.clone();
-                let run = || tokio::runtime::Builder::new_current_thread().enable_time().build().unwrap();
-                scope.spawn(move || run().block_on(calls(service)));
-            }
-        });
-        assert_eq!(runs.load(Ordering::SeqCst), 800 + 300);
-    }
 }

@@ -2,10 +2,10 @@
 
 mod common;
 
-use common::ticket;
+use common::{at, policy, ticket};
 use hikebox::{
-    retry, Budget, Ending, LimitError, Machine, NoTicket, Policy, Quota, Report, RetryError, Retrying, Step, Ticket,
-    Tickets, Unlimited, Usage,
+    retry, Budget, Ending, LimitError, Machine, NoTicket, Quota, Report, RetryError, Retrying, Step, Ticket, Tickets,
+    Unlimited, Usage,
 };
 use std::cell::Cell;
 use std::panic::{catch_unwind, AssertUnwindSafe};
@@ -14,14 +14,6 @@ use std::thread;
 use std::time::{Duration, Instant};
 
 const WINDOW: u64 = 1 << 32;
-
-fn policy(json: &str) -> Policy {
-    json.parse().unwrap()
-}
-
-fn at(millis: u64) -> Duration {
-    Duration::from_millis(millis)
-}
 
 /// A quota with a window that no test sees the end of.
 fn quota(reserve: u64, share: f64) -> Quota {

@@ -165,20 +165,99 @@ fn each_program_plays_its_storm() {
 }
 
 #[test]
-fn the_lines_of_each_limit_run() {
-    advised_0::main().unwrap();
-    advised_1::main().unwrap();
-    advised_2::main().unwrap();
-    advised_3::main().unwrap();
-    advised_4::main().unwrap();
-    advised_5::main().unwrap();
-    advised_6::main().unwrap();
-    advised_7::main().unwrap();
-    advised_8::main().unwrap();
-    advised_9::main().unwrap();
-    advised_10::main().unwrap();
-    advised_11::main().unwrap();
-    advised_12::main().unwrap();
+fn the_lines_of_each_limit_run() -> Result<(), Box<dyn std::error::Error>> {
+    {
+        use hikebox::{Policy, Schedule, Unlimited};
+        use std::time::Duration;
+        let policy = Policy::new(&(Schedule::recurs(8) & Schedule::exponential(Duration::from_millis(100), 2).cap(Duration::from_secs(10)).jittered(0.0..1.0)))?;
+        let limit = Unlimited;
+        assert_eq!(hikebox::retry(&policy, &limit, || Ok::<_, std::io::Error>(7))?, 7);
+    }
+    {
+        use hikebox::{Policy, Quota, Schedule};
+        use std::time::Duration;
+        let policy = Policy::new(&(Schedule::recurs(8) & Schedule::exponential(Duration::from_millis(100), 2).cap(Duration::from_secs(10)).jittered(0.0..1.0)))?;
+        let limit = Quota::new(1, 0.01, Duration::from_secs(1))?;
+        assert_eq!(hikebox::retry(&policy, &limit, || Ok::<_, std::io::Error>(7))?, 7);
+    }
+    {
+        use hikebox::{Policy, Quota, Schedule};
+        use std::time::Duration;
+        let policy = Policy::new(&(Schedule::recurs(8) & Schedule::exponential(Duration::from_millis(100), 2).cap(Duration::from_secs(10)).jittered(0.0..1.0)))?;
+        let limit = Quota::new(100, 0.2, Duration::from_secs(10))?;
+        assert_eq!(hikebox::retry(&policy, &limit, || Ok::<_, std::io::Error>(7))?, 7);
+    }
+    {
+        use hikebox::{Bucket, CallLimit, Policy, Schedule};
+        use std::time::Duration;
+        let policy = Policy::new(&(Schedule::recurs(8) & Schedule::exponential(Duration::from_millis(100), 2).cap(Duration::from_secs(10)).jittered(0.0..1.0)))?;
+        let limit = CallLimit::new(Bucket::aws())?;
+        assert_eq!(hikebox::retry(&policy, &limit, || Ok::<_, std::io::Error>(7))?, 7);
+    }
+    {
+        use hikebox::{Bucket, CallLimit, Policy, Schedule};
+        use std::time::Duration;
+        let policy = Policy::new(&(Schedule::recurs(8) & Schedule::exponential(Duration::from_millis(100), 2).cap(Duration::from_secs(10)).jittered(0.0..1.0)))?;
+        let limit = CallLimit::new(Bucket::grpc(1000, 0.1)?)?;
+        assert_eq!(hikebox::retry(&policy, &limit, || Ok::<_, std::io::Error>(7))?, 7);
+    }
+    {
+        use hikebox::{CallLimit, InFlight, Policy, Schedule};
+        use std::time::Duration;
+        let policy = Policy::new(&(Schedule::recurs(8) & Schedule::exponential(Duration::from_millis(100), 2).cap(Duration::from_secs(10)).jittered(0.0..1.0)))?;
+        let limit = CallLimit::new(InFlight { least: 1, share: 0.05, most: None })?;
+        assert_eq!(hikebox::retry(&policy, &limit, || Ok::<_, std::io::Error>(7))?, 7);
+    }
+    {
+        use hikebox::{CallLimit, InFlight, Policy, Schedule};
+        use std::time::Duration;
+        let policy = Policy::new(&(Schedule::recurs(8) & Schedule::exponential(Duration::from_millis(100), 2).cap(Duration::from_secs(10)).jittered(0.0..1.0)))?;
+        let limit = CallLimit::new(InFlight::bulkhead(1000))?;
+        assert_eq!(hikebox::retry(&policy, &limit, || Ok::<_, std::io::Error>(7))?, 7);
+    }
+    {
+        use hikebox::{Breaker, CallLimit, Policy, Schedule};
+        use std::time::Duration;
+        let policy = Policy::new(&(Schedule::recurs(8) & Schedule::exponential(Duration::from_millis(100), 2).cap(Duration::from_secs(10)).jittered(0.0..1.0)))?;
+        let limit = CallLimit::new(Breaker { failures: 5, results: None, open_for: Policy::new(&Schedule::spaced(Duration::from_secs(1)))?, probes: 1, probe_deadline: Duration::from_secs(1) })?;
+        assert_eq!(hikebox::retry(&policy, &limit, || Ok::<_, std::io::Error>(7))?, 7);
+    }
+    {
+        use hikebox::{Breaker, CallLimit, Policy, Schedule};
+        use std::time::Duration;
+        let policy = Policy::new(&(Schedule::recurs(8) & Schedule::exponential(Duration::from_millis(100), 2).cap(Duration::from_secs(10)).jittered(0.0..1.0)))?;
+        let limit = CallLimit::new(Breaker { failures: 16, results: Some(32), open_for: Policy::new(&Schedule::spaced(Duration::from_secs(30)))?, probes: 1, probe_deadline: Duration::from_secs(1) })?;
+        assert_eq!(hikebox::retry(&policy, &limit, || Ok::<_, std::io::Error>(7))?, 7);
+    }
+    {
+        use hikebox::{CallLimit, Policy, Schedule, Throttle};
+        use std::time::Duration;
+        let policy = Policy::new(&(Schedule::recurs(8) & Schedule::exponential(Duration::from_millis(100), 2).cap(Duration::from_secs(10)).jittered(0.0..1.0)))?;
+        let limit = CallLimit::new(Throttle { ratio: 1.1, period: Duration::from_secs(5) })?;
+        assert_eq!(hikebox::retry(&policy, &limit, || Ok::<_, std::io::Error>(7))?, 7);
+    }
+    {
+        use hikebox::{CallLimit, Policy, Schedule, Throttle};
+        use std::time::Duration;
+        let policy = Policy::new(&(Schedule::recurs(8) & Schedule::exponential(Duration::from_millis(100), 2).cap(Duration::from_secs(10)).jittered(0.0..1.0)))?;
+        let limit = CallLimit::new(Throttle { ratio: 2.0, period: Duration::from_secs(60) })?;
+        assert_eq!(hikebox::retry(&policy, &limit, || Ok::<_, std::io::Error>(7))?, 7);
+    }
+    {
+        use hikebox::{Adaptive, CallLimit, Policy, Schedule};
+        use std::time::Duration;
+        let policy = Policy::new(&(Schedule::recurs(8) & Schedule::exponential(Duration::from_millis(100), 2).cap(Duration::from_secs(10)).jittered(0.0..1.0)))?;
+        let limit = CallLimit::new(Adaptive { least: 1, most: 200, first: 20, backoff: 0.5 })?;
+        assert_eq!(hikebox::retry(&policy, &limit, || Ok::<_, std::io::Error>(7))?, 7);
+    }
+    {
+        use hikebox::{Adaptive, CallLimit, Policy, Schedule};
+        use std::time::Duration;
+        let policy = Policy::new(&(Schedule::recurs(8) & Schedule::exponential(Duration::from_millis(100), 2).cap(Duration::from_secs(10)).jittered(0.0..1.0)))?;
+        let limit = CallLimit::new(Adaptive { least: 1, most: 10000, first: 20, backoff: 0.9 })?;
+        assert_eq!(hikebox::retry(&policy, &limit, || Ok::<_, std::io::Error>(7))?, 7);
+    }
+    Ok(())
 }
 
 mod storm_0 {
@@ -278,149 +357,6 @@ mod storm_4 {
             .beside(Population::new(20, &fourth).limited(true))
             .play()?;
         println!("{report}");
-        Ok(())
-    }
-}
-
-mod advised_0 {
-    pub fn main() -> Result<(), Box<dyn std::error::Error>> {
-        use hikebox::{Policy, Schedule, Unlimited};
-        use std::time::Duration;
-        let policy = Policy::new(&(Schedule::recurs(8) & Schedule::exponential(Duration::from_millis(100), 2).cap(Duration::from_secs(10)).jittered(0.0..1.0)))?;
-        let limit = Unlimited;
-        assert_eq!(hikebox::retry(&policy, &limit, || Ok::<_, std::io::Error>(7))?, 7);
-        Ok(())
-    }
-}
-
-mod advised_1 {
-    pub fn main() -> Result<(), Box<dyn std::error::Error>> {
-        use hikebox::{Policy, Quota, Schedule};
-        use std::time::Duration;
-        let policy = Policy::new(&(Schedule::recurs(8) & Schedule::exponential(Duration::from_millis(100), 2).cap(Duration::from_secs(10)).jittered(0.0..1.0)))?;
-        let limit = Quota::new(1, 0.01, Duration::from_secs(1))?;
-        assert_eq!(hikebox::retry(&policy, &limit, || Ok::<_, std::io::Error>(7))?, 7);
-        Ok(())
-    }
-}
-
-mod advised_2 {
-    pub fn main() -> Result<(), Box<dyn std::error::Error>> {
-        use hikebox::{Policy, Quota, Schedule};
-        use std::time::Duration;
-        let policy = Policy::new(&(Schedule::recurs(8) & Schedule::exponential(Duration::from_millis(100), 2).cap(Duration::from_secs(10)).jittered(0.0..1.0)))?;
-        let limit = Quota::new(100, 0.2, Duration::from_secs(10))?;
-        assert_eq!(hikebox::retry(&policy, &limit, || Ok::<_, std::io::Error>(7))?, 7);
-        Ok(())
-    }
-}
-
-mod advised_3 {
-    pub fn main() -> Result<(), Box<dyn std::error::Error>> {
-        use hikebox::{Bucket, CallLimit, Policy, Schedule};
-        use std::time::Duration;
-        let policy = Policy::new(&(Schedule::recurs(8) & Schedule::exponential(Duration::from_millis(100), 2).cap(Duration::from_secs(10)).jittered(0.0..1.0)))?;
-        let limit = CallLimit::new(Bucket::aws())?;
-        assert_eq!(hikebox::retry(&policy, &limit, || Ok::<_, std::io::Error>(7))?, 7);
-        Ok(())
-    }
-}
-
-mod advised_4 {
-    pub fn main() -> Result<(), Box<dyn std::error::Error>> {
-        use hikebox::{Bucket, CallLimit, Policy, Schedule};
-        use std::time::Duration;
-        let policy = Policy::new(&(Schedule::recurs(8) & Schedule::exponential(Duration::from_millis(100), 2).cap(Duration::from_secs(10)).jittered(0.0..1.0)))?;
-        let limit = CallLimit::new(Bucket::grpc(1000, 0.1)?)?;
-        assert_eq!(hikebox::retry(&policy, &limit, || Ok::<_, std::io::Error>(7))?, 7);
-        Ok(())
-    }
-}
-
-mod advised_5 {
-    pub fn main() -> Result<(), Box<dyn std::error::Error>> {
-        use hikebox::{CallLimit, InFlight, Policy, Schedule};
-        use std::time::Duration;
-        let policy = Policy::new(&(Schedule::recurs(8) & Schedule::exponential(Duration::from_millis(100), 2).cap(Duration::from_secs(10)).jittered(0.0..1.0)))?;
-        let limit = CallLimit::new(InFlight { least: 1, share: 0.05, most: None })?;
-        assert_eq!(hikebox::retry(&policy, &limit, || Ok::<_, std::io::Error>(7))?, 7);
-        Ok(())
-    }
-}
-
-mod advised_6 {
-    pub fn main() -> Result<(), Box<dyn std::error::Error>> {
-        use hikebox::{CallLimit, InFlight, Policy, Schedule};
-        use std::time::Duration;
-        let policy = Policy::new(&(Schedule::recurs(8) & Schedule::exponential(Duration::from_millis(100), 2).cap(Duration::from_secs(10)).jittered(0.0..1.0)))?;
-        let limit = CallLimit::new(InFlight::bulkhead(1000))?;
-        assert_eq!(hikebox::retry(&policy, &limit, || Ok::<_, std::io::Error>(7))?, 7);
-        Ok(())
-    }
-}
-
-mod advised_7 {
-    pub fn main() -> Result<(), Box<dyn std::error::Error>> {
-        use hikebox::{Breaker, CallLimit, Policy, Schedule};
-        use std::time::Duration;
-        let policy = Policy::new(&(Schedule::recurs(8) & Schedule::exponential(Duration::from_millis(100), 2).cap(Duration::from_secs(10)).jittered(0.0..1.0)))?;
-        let limit = CallLimit::new(Breaker { failures: 5, results: None, open_for: Policy::new(&Schedule::spaced(Duration::from_secs(1)))?, probes: 1, probe_deadline: Duration::from_secs(1) })?;
-        assert_eq!(hikebox::retry(&policy, &limit, || Ok::<_, std::io::Error>(7))?, 7);
-        Ok(())
-    }
-}
-
-mod advised_8 {
-    pub fn main() -> Result<(), Box<dyn std::error::Error>> {
-        use hikebox::{Breaker, CallLimit, Policy, Schedule};
-        use std::time::Duration;
-        let policy = Policy::new(&(Schedule::recurs(8) & Schedule::exponential(Duration::from_millis(100), 2).cap(Duration::from_secs(10)).jittered(0.0..1.0)))?;
-        let limit = CallLimit::new(Breaker { failures: 16, results: Some(32), open_for: Policy::new(&Schedule::spaced(Duration::from_secs(30)))?, probes: 1, probe_deadline: Duration::from_secs(1) })?;
-        assert_eq!(hikebox::retry(&policy, &limit, || Ok::<_, std::io::Error>(7))?, 7);
-        Ok(())
-    }
-}
-
-mod advised_9 {
-    pub fn main() -> Result<(), Box<dyn std::error::Error>> {
-        use hikebox::{CallLimit, Policy, Schedule, Throttle};
-        use std::time::Duration;
-        let policy = Policy::new(&(Schedule::recurs(8) & Schedule::exponential(Duration::from_millis(100), 2).cap(Duration::from_secs(10)).jittered(0.0..1.0)))?;
-        let limit = CallLimit::new(Throttle { ratio: 1.1, period: Duration::from_secs(5) })?;
-        assert_eq!(hikebox::retry(&policy, &limit, || Ok::<_, std::io::Error>(7))?, 7);
-        Ok(())
-    }
-}
-
-mod advised_10 {
-    pub fn main() -> Result<(), Box<dyn std::error::Error>> {
-        use hikebox::{CallLimit, Policy, Schedule, Throttle};
-        use std::time::Duration;
-        let policy = Policy::new(&(Schedule::recurs(8) & Schedule::exponential(Duration::from_millis(100), 2).cap(Duration::from_secs(10)).jittered(0.0..1.0)))?;
-        let limit = CallLimit::new(Throttle { ratio: 2.0, period: Duration::from_secs(60) })?;
-        assert_eq!(hikebox::retry(&policy, &limit, || Ok::<_, std::io::Error>(7))?, 7);
-        Ok(())
-    }
-}
-
-mod advised_11 {
-    pub fn main() -> Result<(), Box<dyn std::error::Error>> {
-        use hikebox::{Adaptive, CallLimit, Policy, Schedule};
-        use std::time::Duration;
-        let policy = Policy::new(&(Schedule::recurs(8) & Schedule::exponential(Duration::from_millis(100), 2).cap(Duration::from_secs(10)).jittered(0.0..1.0)))?;
-        let limit = CallLimit::new(Adaptive { least: 1, most: 200, first: 20, backoff: 0.5 })?;
-        assert_eq!(hikebox::retry(&policy, &limit, || Ok::<_, std::io::Error>(7))?, 7);
-        Ok(())
-    }
-}
-
-mod advised_12 {
-    pub fn main() -> Result<(), Box<dyn std::error::Error>> {
-        use hikebox::{Adaptive, CallLimit, Policy, Schedule};
-        use std::time::Duration;
-        let policy = Policy::new(&(Schedule::recurs(8) & Schedule::exponential(Duration::from_millis(100), 2).cap(Duration::from_secs(10)).jittered(0.0..1.0)))?;
-        let limit = CallLimit::new(Adaptive { least: 1, most: 10000, first: 20, backoff: 0.9 })?;
-        assert_eq!(hikebox::retry(&policy, &limit, || Ok::<_, std::io::Error>(7))?, 7);
         Ok(())
     }
 }

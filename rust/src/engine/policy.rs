@@ -113,6 +113,14 @@ impl Handle<PolicyKind> {
     }
 }
 
+impl Storm {
+    /// One whose numbers are all 0: it draws on nothing, and has no phase and no population beside the first one.
+    pub(crate) fn zeroed() -> Self {
+        // SAFETY: it is numbers alone.
+        unsafe { mem::zeroed() }
+    }
+}
+
 /// How many nodes a policy has, how deep it is, and at how many events it goes on at most, where its nodes tell.
 #[derive(Clone, Copy, Debug)]
 pub(crate) struct Size {
