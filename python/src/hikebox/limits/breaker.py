@@ -163,18 +163,20 @@ class Breaker(CallLimit):
     def look(self) -> None:
         if self._on_change is None:
             return
-        with self.lock:
-            before, self._known = self._known, self.state
-            if before is not self._known:
-                self._changes.append((before, self._known))
-            if self._tells or not self._changes:
-                return
-            self._tells = True
+        tells = False
         try:
+            with self.lock:
+                before, self._known = self._known, self.state
+                if before is not self._known:
+                    self._changes.append((before, self._known))
+                if self._tells or not self._changes:
+                    return
+                self._tells = tells = True
             while self._tells_next(self._on_change):
                 pass
         except BaseException:
-            self._tells = False
+            if tells:  # (the handler of a signal may raise an exception at any step)
+                self._tells = False
             raise
 
     def _tells_next(self, on_change: OnChange) -> bool:

@@ -2,7 +2,6 @@
 
 from __future__ import annotations
 
-import math
 import random as _random
 import time
 from functools import partial
@@ -148,7 +147,7 @@ def _hooks_follow(settings: Settings) -> None:
 def _most_wait_follows(settings: Settings) -> None:
     most = settings.max_retry_after
     if most is None:
-        settings.most_wait = math.inf
+        settings.most_wait = float(MAX_NUMBER)
     elif isinstance(most, bool) or not isinstance(most, (int, float)) or not most >= 0:
         raise TypeError(f"max_retry_after: expected a number of seconds, or None, got {most!r}")
     else:

@@ -329,7 +329,8 @@ class Progress:
         settings = self.settings
         grants, most, start = settings.grants, settings.deadline_millis, self.state.start_time
         self._float_error = self._rounds = FLOAT_ERROR + abs(start) * GRAIN
-        self._origin = moment(start + seconds) if grants.reads_clock else 0
+        origin = moment(start + seconds) if grants.reads_clock else 0
+        self._origin = min(origin, MAX_NUMBER - _MOST)
         deadline = NO_DEADLINE if most is None else self._last_start(most - seconds * 1000 + self._float_error)
         try:
             machine = idle.pop()
@@ -380,7 +381,7 @@ class HeldProgress(Progress):
             pass  # it was never begun, or its budget is being freed with it
 
 
-#: No retry that comes this far is near the last moment that there is.
+#: A retry that takes no longer than this does not come to the last moment that there is.
 _MOST = MAX_NUMBER // 4
 #: In the place of an attempt that failed, and of which nobody asks how.
 _FAILED = Outcome()
