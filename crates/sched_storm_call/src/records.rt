@@ -6,9 +6,10 @@ ghost use Rattle.sched_storm_call.specs.Told.{ArePopulationsGiven, IsOnSome, Are
 ghost use Rattle.sched_storm_call.specs.Told.{population_given, others_of, of_given, parameters_of, room_of};
 ghost use Rattle.sched_storm_call.specs.Told.{window_told, totals_told};
 
+use sched_handle::Handle;
 use sched_limit::{Adaptive, Breaker, Bucket, InFlight, Throttle};
 use sched_storm::{
-    BrownOut, Draws, Limit, Others, Parameters, Phase, Population, Rates, Span, Storm, Totals,
+    BrownOut, Draws, Limit, Others, Parameters, Phase, Population, Rates, Report, Span, Storm,
     Window,
 };
 use sched_ticket_quota::Terms;
@@ -21,6 +22,15 @@ pub struct PopulationGiven {
     pub share: u64,
     pub patience: u64,
     pub limited: u64,
+}
+
+/// The policies of a storm's populations: a further handle that is empty stands for the policy of the first.
+#[repr(C)]
+pub struct Policies {
+    pub first: Handle,
+    pub second: Handle,
+    pub third: Handle,
+    pub fourth: Handle,
 }
 
 /// The parameters of a storm.
@@ -101,10 +111,11 @@ pub struct WindowTold {
     pub waiting: u64,
 }
 
-/// What a storm comes to in all.
+/// What a storm comes to in all: of so many windows.
 #[repr(C)]
 #[derive(Clone, Copy)]
 pub struct TotalsTold {
+    pub windows: u64,
     pub requests: u64,
     pub won: u64,
     pub lost: u64,
@@ -132,7 +143,7 @@ pub struct SizedTotals {
 }
 
 /// The size of it.
-pub(crate) const TOTALS_SIZE: usize = 128;
+pub(crate) const TOTALS_SIZE: usize = 136;
 
 impl PopulationGiven {
     // Whether it says if its retries draw on what those of the first population draw on.
@@ -412,12 +423,14 @@ impl WindowTold {
 }
 
 impl TotalsTold {
-    /// Totals, as C is told of them: 0 in the place of what there is none of.
-    pub(crate) fn of(totals: &Totals) -> TotalsTold
-        ensures { result ≡ totals_told totals.now }
+    /// Totals of a report, as C is told of them: 0 in the place of what there is none of.
+    pub(crate) fn of(report: &Report) -> TotalsTold
+        ensures { result ≡ totals_told report.now }
     {
+        let totals = &report.totals;
         let counts = totals.counts;
         TotalsTold {
+            windows: report.windows.len() as u64,
             requests: counts.requests,
             won: counts.won,
             lost: totals.lost,

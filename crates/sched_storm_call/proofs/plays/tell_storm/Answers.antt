@@ -19,7 +19,7 @@ returns-then-windows-room c = (Err NoRoom, search rules, search rules)
 
 pub returns-in-Err : goal.returns-in-Err
 returns-in-Err c =
-    let t : Told = record { windows = c.args.windows.now; count = c.args.count.now; totals = c.args.totals.now } in
+    let t : Told = record { windows = c.args.windows.now; totals = c.args.totals.now } in
     let room : HasRoom c.args.arrivals.now c.args.given.now t = search rules in
     let reason : IsReason c.in-Err.status = search rules in
     rw c.code-in-Err.ensures
@@ -29,7 +29,7 @@ returns-in-Err c =
 pub returns-in-Ok-play : goal.returns-in-Ok-play
 returns-in-Ok-play c =
     let room : HasRoom c.args.arrivals.now c.args.given.now
-    (record { windows = c.args.windows.now; count = c.args.count.now; totals = c.args.totals.now }) = search rules in
+    (record { windows = c.args.windows.now; totals = c.args.totals.now }) = search rules in
     let ws = c.in-Ok-play.report.windows.items in
     let told : c.in-Ok-play.told.items ≡ map window_told ws = c.in-Ok-play.ensures.told in
     let many : length c.in-Ok-play.told.items ≡ length ws = ap length told ∙ length-map ws window_told in
@@ -57,7 +57,7 @@ returns-in-Ok-play c =
 
 pub returns-in-Err-play : goal.returns-in-Err-play
 returns-in-Err-play c =
-    let t : Told = record { windows = c.args.windows.now; count = c.args.count.now; totals = c.args.totals.now } in
+    let t : Told = record { windows = c.args.windows.now; totals = c.args.totals.now } in
     let room : HasRoom c.args.arrivals.now c.args.given.now t = search rules in
     rw c.code-in-Err-play.ensures
     (short c.args.arrivals.now c.args.given.now t (plans_of c.args.plans) (λ k. plan_at k c.in-Ok.plans) room
