@@ -99,11 +99,10 @@ pub extern "C" fn hikebox_policy_outputs(
     ensures course { Comes (StepsPolicy course.now events.now policy.old.held)
         (TellsOutputs result text.old text.new length.old length.new) }
 {
-    let outputs = match course_told(alloc, policy, course, events) {
-        Ok(told) => Ok(told.text),
-        Err(status) => Err(status),
-    };
-    tell_text(outputs, text, length)
+    match course_told(alloc, policy, course, events) {
+        Ok(told) => tell_text(Ok(told.text), text, length),
+        Err(status) => status.code(),
+    }
 }
 
 // What the policy that a handle holds does along the course with these events.

@@ -35,9 +35,8 @@ returns-in-Ok-play c =
     let many : length c.in-Ok-play.told.items ≡ length ws = ap length told ∙ length-map ws window_told in
     let each : vec_len c.in-Ok-play.told ≡ length c.in-Ok-play.told.items = search rules in
     let len : c.len.result ≡ length ws = c.len.ensures ∙ each ∙ many in
-    let count : c.len-in-Ok-play.result ≡ length ws = c.len-in-Ok-play.ensures ∙ each ∙ many in
     let copied : c.copy_from_slice.new.self ≡ map window_told ws = search rules in
-    let totals : c.of-in-Ok-play.result ≡ totals_told c.in-Ok-play.report.totals = c.of-in-Ok-play.ensures in (
+    let totals : c.of-in-Ok-play.result ≡ totals_told c.in-Ok-play.report = c.of-in-Ok-play.ensures in (
       Ok c.in-Ok-play.report,
       (
         room,
@@ -52,7 +51,7 @@ returns-in-Ok-play c =
           },
         ),
       ),
-      (refl, rw (copied, len, count, totals) refl),
+      (refl, rw (copied, len, totals) refl),
     )
 
 pub returns-in-Err-play : goal.returns-in-Err-play
