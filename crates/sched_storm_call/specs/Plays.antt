@@ -28,14 +28,14 @@ pub record Told : Type 0 where
   pub windows : List WindowTold
   pub totals : SizedTotals
 
--- both structs have their size
-pub record AreSized (g : SizedStorm) (t : Told) : Type 0 where
-  pub storm : g.size ≡ 1176
-  pub totals : t.totals.size ≡ 136
+-- the struct of a storm and that of totals have their sizes
+pub record AreSized (storm totals : ℕ) : Type 0 where
+  pub storm_size : storm ≡ 1176
+  pub totals_size : totals ≡ 136
 
 -- the storm is given, of requests that may come at these moments, with room for all its windows
 pub record HasRoom (ms : List ℕ) (g : SizedStorm) (t : Told) : Type 0 where
-  pub sized : AreSized g t
+  pub sized : AreSized g.size t.totals.size
   pub given : IsGiven g.storm
   pub arrivals : AreArrivals ms
   pub room : room_given g.storm ≤ length t.windows
@@ -58,10 +58,10 @@ IsShort (Err s) = s ≡ NoMemory
 abbrev pub Plays : List ℕ → SizedStorm → Told → Result (ℕ → Schedule) Status → Result Report Status → Type 0
 Plays ms g t given (Ok report) =
     HasRoom ms g t × ((plans : ℕ → Schedule) × (given ≡ Ok plans) × IsStormOf ms g.storm plans report)
-Plays ms g t given (Err WrongSize) = ¬ AreSized g t
-Plays ms g t given (Err OutOfRange) = AreSized g t × ¬ (IsGiven g.storm × AreArrivals ms)
+Plays ms g t given (Err WrongSize) = ¬ AreSized g.size t.totals.size
+Plays ms g t given (Err OutOfRange) = AreSized g.size t.totals.size × ¬ (IsGiven g.storm × AreArrivals ms)
 Plays ms g t given (Err NoRoom) =
-    AreSized g t × IsGiven g.storm × AreArrivals ms × (length t.windows < room_given g.storm)
+    AreSized g.size t.totals.size × IsGiven g.storm × AreArrivals ms × (length t.windows < room_given g.storm)
 Plays ms g t given (Err Empty) = HasRoom ms g t × (given ≡ Err Empty)
 Plays ms g t given (Err WrongKind) = HasRoom ms g t × (given ≡ Err WrongKind)
 Plays ms g t given (Err NoMemory) = HasRoom ms g t × IsShort given

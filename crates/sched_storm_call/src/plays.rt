@@ -9,7 +9,7 @@ ghost use Rattle.sched_storm_call.specs.Plays.{PlaysStorm, PlaysPlans, HavePlans
 ghost use Rattle.sched_storm_call.specs.Plays.{alone, held_by, plans_of};
 
 use crate::records::{
-    Policies, STORM_SIZE, SizedStorm, SizedTotals, TOTALS_SIZE, TotalsTold, WindowTold, room_of,
+    Policies, SizedStorm, SizedTotals, TotalsTold, WindowTold, are_sized, room_of,
 };
 use sched_handle::{Handle, Status};
 use sched_plan::SharedPlan;
@@ -49,7 +49,7 @@ pub fn storm_play_populations(
         (record { windows = windows.old; totals = totals.old }) result
         (record { windows = windows.new; totals = totals.new }) }
 {
-    let plans = policies.plans();
+    let plans = their_plans(policies);
     tell_storm(alloc, plans, storm, arrivals, windows, totals)
 }
 
@@ -66,24 +66,22 @@ fn its_plans(policy: &mut Handle) -> Result<Plans, Status>
     }
 }
 
-impl Policies {
-    // The plans of the policies that the handles hold.
-    fn plans(&mut self) -> Result<Plans, Status>
-        ensures kept { held_by self.new ≡ held_by self.old }
-        ensures plans { HavePlans (held_by self.old) (plans_of result) }
-        ensures reason { IfErr result IsReason }
-    {
-        let first = self.first.plan()?;
-        let second = plan_or(&mut self.second, &first)?;
-        let third = plan_or(&mut self.third, &first)?;
-        let fourth = plan_or(&mut self.fourth, &first)?;
-        Ok(Plans {
-            first,
-            second,
-            third,
-            fourth,
-        })
-    }
+// The plans of the policies that the handles hold.
+fn their_plans(policies: &mut Policies) -> Result<Plans, Status>
+    ensures kept { held_by policies.new ≡ held_by policies.old }
+    ensures plans { HavePlans (held_by policies.old) (plans_of result) }
+    ensures reason { IfErr result IsReason }
+{
+    let first = policies.first.plan()?;
+    let second = plan_or(&mut policies.second, &first)?;
+    let third = plan_or(&mut policies.third, &first)?;
+    let fourth = plan_or(&mut policies.fourth, &first)?;
+    Ok(Plans {
+        first,
+        second,
+        third,
+        fourth,
+    })
 }
 
 // The plan of the policy that the handle holds, or the first one where it holds nothing.
@@ -116,7 +114,7 @@ fn tell_storm(
         (record { windows = windows.old; totals = totals.old }) result
         (record { windows = windows.new; totals = totals.new }) }
 {
-    if given.size != STORM_SIZE || totals.size != TOTALS_SIZE {
+    if !are_sized(given.size, totals.size) {
         return Status::WrongSize.code();
     }
     let given = &given.storm;

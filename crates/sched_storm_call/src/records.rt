@@ -5,6 +5,7 @@ ghost use Rattle.sched_storm_call.specs.Told.{IsThrottleGiven, AreDrawsGiven};
 ghost use Rattle.sched_storm_call.specs.Told.{ArePopulationsGiven, IsOnSome, AreDrawsOf, IsOf, down_of, slow_of};
 ghost use Rattle.sched_storm_call.specs.Told.{population_given, others_of, of_given, parameters_of, room_of};
 ghost use Rattle.sched_storm_call.specs.Told.{window_told, totals_told};
+ghost use Rattle.sched_storm_call.specs.Plays.{AreSized};
 
 use sched_handle::Handle;
 use sched_limit::{Adaptive, Breaker, Bucket, InFlight, Throttle};
@@ -93,8 +94,8 @@ pub struct SizedStorm {
     pub storm: StormGiven,
 }
 
-/// The size of it.
-pub(crate) const STORM_SIZE: usize = 1176;
+// The size of it.
+const STORM_SIZE: usize = 1176;
 
 /// A window of a storm.
 #[repr(C)]
@@ -142,8 +143,15 @@ pub struct SizedTotals {
     pub totals: TotalsTold,
 }
 
-/// The size of it.
-pub(crate) const TOTALS_SIZE: usize = 136;
+// The size of it.
+const TOTALS_SIZE: usize = 136;
+
+/// Whether the structs of a storm and of totals have their sizes.
+pub(crate) fn are_sized(storm: usize, totals: usize) -> bool
+    ensures { IsTrue result ↔ AreSized storm totals }
+{
+    storm == STORM_SIZE && totals == TOTALS_SIZE
+}
 
 impl PopulationGiven {
     // Whether it says if its retries draw on what those of the first population draw on.

@@ -1,12 +1,15 @@
 -- A storm that is given is played and told, or refused for the first of the reasons listed.
 use Rattle.std.proofs.Common.{rules, ◌≡◌, length, vec_len, map, Ok, Err, refl, ap, ◌∙◌}
 use Rattle.std.proofs.lemmas.List.{length-map}
-use Rattle.sched_handle.specs.declared.status.Status.TheVariants.{NoRoom, OutOfRange}
+use Rattle.sched_handle.specs.declared.status.Status.TheVariants.{NoRoom, OutOfRange, WrongSize}
 use Rattle.sched_storm.specs.Clients.{plan_at}
 use Rattle.sched_storm_call.specs.Told.{of_given, window_told, totals_told}
 use Rattle.sched_storm_call.specs.Plays.{Told, HasRoom, IsReason, plans_of}
 use Rattle.sched_storm_call.proofs.Refused.{refused, short}
 use Rattle.sched_storm_call.proofs.plays.tell_storm.Goals as goal
+
+pub returns-then-not-are_sized : goal.returns-then-not-are_sized
+returns-then-not-are_sized c = (Err WrongSize, search rules, search rules)
 
 pub returns-in_default : goal.returns-in_default
 returns-in_default c = (Err OutOfRange, search rules, search rules)
