@@ -59,11 +59,10 @@ static uint64_t retry(hikebox_policy *policy) {
 
 static uint64_t step(hikebox_policy *policy) {
     static hikebox_line lines[ROUND];
-    static char text[32 * ROUND];
     const hikebox_course course = {sizeof course, ROUND, 0, 0};
     const hikebox_event event = {CODE, {0, 0, 0, 0}};
-    size_t events, length;
-    check(hikebox_policy_course(policy, &course, &event, 1, lines, ROUND, &events, text, sizeof text, &length));
+    size_t events;
+    check(hikebox_policy_course(policy, &course, &event, 1, lines, ROUND, &events));
     return events;
 }
 

@@ -201,7 +201,9 @@ pub trait Tickets: Send + Sync {
 }
 
 mod sealed {
-    use super::{Admitted, Arc, Begun, CallLimit, Counted, Holding, Infallible, Lender, Moment, Policy, Quiet, Refused};
+    use super::{
+        Admitted, Arc, Begun, CallLimit, Counted, Holding, Infallible, Lender, Moment, Policy, Quiet, Refused,
+    };
     use super::{Source, Status, Ticket, Tickets};
     use std::error::Error;
 
