@@ -22,7 +22,6 @@ from hikebox import (
     RefusalReason,
     Retrying,
     StoreError,
-    StoreLost,
     TermsError,
     Usage,
     recurs,

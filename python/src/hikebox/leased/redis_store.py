@@ -20,17 +20,18 @@ _BASE = 2**52
 #: The most microseconds of a burst: what is due stays below 2^53, which a script counts exactly.
 _MOST_MICROS = 2**52
 
-#: Begins a budget: KEYS are its count and the name of the server's start; ARGV[1] is the first count.
+#: Begins a budget: KEYS[1] is its count, beside which stands the name of the server's start; ARGV[1] is the first
+#: count.
 BEGIN = """
 local server = string.match(redis.call('INFO', 'server'), 'run_id:(%x+)')
-return redis.call('MSET', KEYS[1], ARGV[1], KEYS[2], server)
+return redis.call('MSET', KEYS[1], ARGV[1], KEYS[1] .. ':server', server)
 """
 
-#: A lease of a budget without windows: KEYS as above; ARGV are the tickets wanted and the limit. It answers the count
-#: before, or a number of `_LOST`. On a server that keeps each write it is without its second part.
+#: A lease of a budget without windows: KEYS[1] as above; ARGV are the tickets wanted and the limit. It answers the
+#: count before, or a number of `_LOST`. On a server that keeps each write it is without its second part.
 TAKE = (
     f"""
-local counted, server = redis.call('GET', KEYS[1]), redis.call('GET', KEYS[2])
+local counted, server = redis.call('GET', KEYS[1]), redis.call('GET', KEYS[1] .. ':server')
 local given = (tonumber(counted) or 0) - {_BASE}
 if given < 0 or not server then
   return -1
@@ -191,19 +192,19 @@ class RedisStore:
     def begin(self, name: str) -> None:
         """Begins a budget of this name with no ticket leased. Call it once for each budget, in one process."""
         with _errors:
-            self._begin.by(self.client.execute_command, 2, *self._keys(name), _BASE)
+            self._begin.by(self.client.execute_command, 1, self._key(name), _BASE)
 
     def forget(self, name: str) -> None:
         """Takes a budget away: from then on it grants nothing."""
         with _errors:
-            self.client.delete(*self._keys(name))
+            self.client.delete(self._key(name), self._key(name) + ":server")
 
     def take(self, name: str, count: int, limit: int, period: Optional[int], clock: Callable[[], float]) -> Range:
         """A range of this name's tickets, or of its present window's."""
         with _errors:
             send = self.client.execute_command
             if period is None:
-                given = self._take.by(send, 2, *self._keys(name), count, limit)
+                given = self._take.by(send, 1, self._key(name), count, limit)
                 return Range(*_leased(given, name, count, limit), None)
             before, key = clock(), f"{self._key(name)}:{period}"
             found = self._take_of_window.by(send, 1, key, period * 1000, count, limit, 2 * period)
@@ -281,10 +282,6 @@ class RedisStore:
 
     def _key(self, name: str) -> str:
         return f"{self.prefix}:{{{name}}}"
-
-    def _keys(self, name: str) -> Tuple[str, str]:
-        """Those of a budget without windows: its count, and the start of the server on which it was begun."""
-        return self._key(name), self._key(name) + ":server"
 
 
 def _checked_client(client: Any) -> Any:
