@@ -37,21 +37,7 @@ from .errors import (
     TooSoon,
     TryAgain,
 )
-from .limits import (
-    Adaptive,
-    Breaker,
-    BreakerState,
-    Bucket,
-    CallLimit,
-    InFlight,
-    PerHost,
-    PerKey,
-    Request,
-    Throttle,
-    both,
-)
 from .log import after_log, before_log, before_sleep_log
-from .pace import Pace
 from .policy import Policy, Step
 from .policy.builders import (
     decorrelated,
@@ -79,21 +65,39 @@ from .retrying import AsyncRetrying, Attempt, Retrying, Tickets, retry
 from .version import VERSION
 
 if TYPE_CHECKING:
+    from .limits import (
+        Adaptive,
+        Breaker,
+        BreakerState,
+        Bucket,
+        CallLimit,
+        InFlight,
+        PerHost,
+        PerKey,
+        Request,
+        Throttle,
+        both,
+    )
+    from .pace import Pace
     from .storms.storm import Population, PopulationReport, Storm, StormRow, StormTotals, storm
 
 __version__ = VERSION
 
-#: What is loaded when it is first asked for: a program that retries calls plays no storms.
-_OF_STORMS = ("Population", "PopulationReport", "Storm", "StormRow", "StormTotals", "storm")
+#: What is loaded when it is first asked for, and of which module: a program that retries calls may need none of it.
+_LATER = {
+    "limits": "Adaptive Breaker BreakerState Bucket CallLimit InFlight PerHost PerKey Request Throttle both limits",
+    "pace": "Pace pace",
+    "storms.storm": "Population PopulationReport Storm StormRow StormTotals storm",
+}
 
 
 def __getattr__(name: str) -> Any:
-    if name not in _OF_STORMS:
-        raise AttributeError(f"module {__name__!r} has no attribute {name!r}")
-    from .storms import storm as module
-
-    globals().update({each: getattr(module, each) for each in _OF_STORMS})
-    return globals()[name]
+    for path, names in _LATER.items():
+        if name in names.split():
+            module = __import__(f"{__name__}.{path}", fromlist=["__name__"])
+            found = globals()[name] = module if name == path else getattr(module, name)
+            return found
+    raise AttributeError(f"module {__name__!r} has no attribute {name!r}")
 
 
 def __dir__() -> List[str]:

@@ -73,6 +73,8 @@ class CallLimit(OfOneProcess, Limit):
     has_costs = False
     rests = False
 
+    IS_ASKED = True
+
     #: What its requests are.
     REQUEST: ClassVar[Type[Request]]
 

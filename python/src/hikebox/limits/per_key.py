@@ -62,6 +62,8 @@ class PerKey(OfOneProcess, Limit, Generic[Made]):
     A loop, or a retry whose arguments don't determine the key, takes `limit=per_tenant["ours"]`.
     """
 
+    HAS_KEYS = True
+
     def __init__(
         self, make: Callable[[Any], Made], *, key: Optional[Callable[..., Any]] = None, most: int = 10_000
     ) -> None:
