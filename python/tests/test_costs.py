@@ -220,7 +220,7 @@ def test_a_coroutine_and_a_loop_go_through_few_more() -> None:
             with attempt:
                 await call()
 
-    runs: List[Any] = [(lambda: asyncio.run(awaiting(call)), 22), (loop, 31), (lambda: asyncio.run(loop_later()), 32)]
+    runs: List[Any] = [(lambda: asyncio.run(awaiting(call)), 22), (loop, 30), (lambda: asyncio.run(loop_later()), 31)]
     for run, most in runs:
         for _ in range(3):
             left[0] = 1

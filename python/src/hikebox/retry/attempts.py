@@ -156,17 +156,14 @@ class _BaseAttempts:
         except BaseException:
             self.progress.close()
             raise
-        return self.judged(want)
-
-    def pends(self, awaitable: Any, outcome: Outcome) -> None:
-        """Something is to be awaited to judge this attempt."""
-        not_awaitable(awaitable)
-
-    def judged(self, want: Any) -> bool:
         self.want = want
         if want is OVER or want is RAISE:
             self.progress.close()
         return want is not RAISE
+
+    def pends(self, awaitable: Any, outcome: Outcome) -> None:
+        """Something is to be awaited to judge this attempt."""
+        not_awaitable(awaitable)
 
 
 class Attempts(_BaseAttempts):
@@ -215,7 +212,9 @@ class AsyncAttempts(_BaseAttempts):
             return
         (awaitable, outcome), self.pending = self.pending, None
         try:
-            if not self.judged(await settle_async(self.steps, self.steps.send(await awaitable))):
+            self.want = await settle_async(self.steps, self.steps.send(await awaitable))
+            if self.want is RAISE:
+                self.progress.close()
                 outcome.result()
         finally:
             del outcome
