@@ -83,7 +83,7 @@ LIMITS = list(dict.fromkeys(candidates(500, [kind])[end] for kind in KINDS for e
 def policies() -> List[Policy]:
     rng = random.Random(7)
     some: List[Any] = [reference.some_plan(rng, rng.randrange(2, 12)) for _ in range(40)]
-    each = [(node, sum(item["unit"] == "plan" for item in node["items"])) for node in TABLE for _ in range(2)]
+    each = [(node, sum(item["unit"] == "plan" for item in node["items"])) for node in TABLE]
     known = [
         *map(Policy.from_json, NODES),
         *(Policy.from_dict(RANDOM["some_node"](rng, node, ["forever"] * plans)) for node, plans in each),

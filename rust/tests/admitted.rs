@@ -1,10 +1,13 @@
 //! Calls that ask a limit before their first run: by everything that retries, with threads, panics and futures that are
 //! dropped.
 
+mod common;
+
+use common::{fails, policy};
 use hikebox::RefusalReason::{BreakerOpen, LevelLow, Probing, RetriesFull};
 use hikebox::{
-    repeat, retry, BlockingRetryable, Breaker, Bucket, CallLimit, InFlight, Policy, RefusalReason, Refused,
-    RepeatError, RetryError, Retrying, SharedRetrying,
+    repeat, retry, BlockingRetryable, Breaker, Bucket, CallLimit, InFlight, RefusalReason, Refused, RepeatError,
+    RetryError, Retrying, SharedRetrying,
 };
 use std::cell::Cell;
 use std::panic::{catch_unwind, AssertUnwindSafe};
@@ -13,10 +16,6 @@ use std::thread;
 use std::time::{Duration, Instant};
 
 type Answer<T> = Result<T, RetryError<&'static str, Refused>>;
-
-fn policy(json: &str) -> Policy {
-    json.parse().unwrap()
-}
 
 /// A breaker that opens after this many failures, for as long as the policy says.
 fn breaker(failures: u32, open_for: &str) -> CallLimit {
@@ -31,18 +30,6 @@ fn tokens(capacity: f64) -> CallLimit {
 /// One retry for every two calls in flight.
 fn halves() -> CallLimit {
     CallLimit::new(InFlight { least: 0, share: 0.5, most: None }).unwrap()
-}
-
-/// A call that fails so often, and then says how often it failed.
-fn fails(mut times: u32) -> impl FnMut() -> Result<u32, &'static str> {
-    let failures = times;
-    move || match times.checked_sub(1) {
-        Some(left) => {
-            times = left;
-            Err("busy")
-        }
-        None => Ok(failures),
-    }
 }
 
 /// Why the first run was refused.

@@ -2,7 +2,7 @@
 
 mod common;
 
-use common::{admitted, policy};
+use common::{admitted, fails, policy};
 use hikebox::RefusalReason::{BreakerOpen, LevelLow, OutOfTurn, Probing, RetriesFull, Throttled};
 use hikebox::{
     both, retry, Breaker, Bucket, CallLimit, InFlight, LimitError, RefusalReason, Request, RetryError, Terms, Throttle,
@@ -233,16 +233,7 @@ fn a_breaker_that_would_never_open_is_refused() {
 fn a_retry_that_succeeds_gives_back() {
     let bucket =
         CallLimit::new(Bucket { capacity: 2.0, debit: 1.0, credit: 1.0, cost: 0.0, ..Bucket::default() }).unwrap();
-    let mut runs = 0;
-    let answer = retry(&policy(r#"{"recurs":9}"#), &bucket, || {
-        runs += 1;
-        if runs < 3 {
-            Err("not yet")
-        } else {
-            Ok(runs)
-        }
-    });
-    assert_eq!(answer, Ok(3));
+    assert_eq!(retry(&policy(r#"{"recurs":9}"#), &bucket, fails(2)), Ok(2));
     assert_eq!(admitted(&bucket).draw_at(1).err(), None);
     assert_eq!(admitted(&bucket).draw_at(1).unwrap_err().reason(), LevelLow);
 }

@@ -2,7 +2,7 @@
 
 mod common;
 
-use common::{at, policy, ticket};
+use common::{at, fails, policy, ticket};
 use hikebox::{
     retry, Budget, Ending, LimitError, Machine, NoTicket, Quota, Report, RetryError, Retrying, Step, Ticket, Tickets,
     Unlimited, Usage,
@@ -23,18 +23,6 @@ fn quota(reserve: u64, share: f64) -> Quota {
 /// What was asked, what was given and what is left.
 fn told(usage: Usage) -> [u64; 3] {
     [usage.asked, usage.given, usage.left]
-}
-
-/// A call that fails so often and then succeeds.
-fn fails(times: u32) -> impl FnMut() -> Result<u32, &'static str> {
-    let mut left = times;
-    move || match left {
-        0 => Ok(times),
-        _ => {
-            left -= 1;
-            Err("busy")
-        }
-    }
 }
 
 #[test]

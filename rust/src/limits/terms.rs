@@ -361,7 +361,7 @@ fn within(number: Option<u64>, most: u64, parameter: &'static str, expected: &'s
     number.filter(|number| *number <= most).ok_or_else(|| out_of_range(parameter, expected))
 }
 
-fn out_of_range(parameter: &'static str, expected: &'static str) -> LimitError {
+pub(crate) fn out_of_range(parameter: &'static str, expected: &'static str) -> LimitError {
     LimitError::OutOfRange { parameter, expected }
 }
 

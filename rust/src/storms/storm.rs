@@ -320,13 +320,14 @@ impl Storm {
 
     /// The retries draw on a quota with these terms, as [`Quota::new`](crate::Quota::new) takes them.
     pub fn quota(mut self, reserve: u64, share: f64, per: Duration) -> Self {
-        match QuotaTerms::new(reserve, share, per).and_then(QuotaTerms::checked) {
-            Ok(QuotaTerms { reserve, share, period }) => {
+        self.fault = match QuotaTerms::new(reserve, share, per) {
+            Ok(terms) => {
+                let QuotaTerms { reserve, share, period } = terms;
                 self.parameters = engine::Storm { draws_on: ON_QUOTA, reserve, share, period, ..self.parameters };
-                self.fault = None;
+                terms.checked().err()
             }
-            Err(fault) => self.fault = Some(fault),
-        }
+            Err(fault) => Some(fault),
+        };
         self
     }
 

@@ -1,7 +1,7 @@
 //! What several tests use.
 #![allow(dead_code, unused_macros)]
 
-use hikebox::{retry, CallLimit, Grants, NoTicket, Policy, Request, RetryError, Ticket, Usage};
+use hikebox::{CallLimit, NoTicket, Policy, Request, Ticket, Usage};
 use std::ffi::OsStr;
 use std::future::Future;
 use std::io::{BufRead, BufReader, Write};
@@ -72,17 +72,16 @@ pub fn counts(usage: Usage) -> (u64, u64, u64, u64, Duration) {
     (window, asked, given, left, next)
 }
 
-/// What a retry of this call gives that fails once and then succeeds: the number of its runs.
-pub fn retried_once<B: Grants>(policy: &Policy, budget: &B) -> Result<u32, RetryError<&'static str, B::Refusal>> {
-    let mut runs = 0;
-    retry(policy, budget, || {
-        runs += 1;
-        if runs == 2 {
-            Ok(runs)
-        } else {
+/// A call that fails so often, and then says how often it failed.
+pub fn fails(mut times: u32) -> impl FnMut() -> Result<u32, &'static str> {
+    let failures = times;
+    move || match times.checked_sub(1) {
+        Some(left) => {
+            times = left;
             Err("busy")
         }
-    })
+        None => Ok(failures),
+    }
 }
 
 /// The number of a ticket that was drawn, or `None` where all are used up.
