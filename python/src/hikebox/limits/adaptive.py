@@ -26,8 +26,8 @@ class Adaptive(CallLimit):
     `backoff`
         What a failure leaves of it, from 0.001 to 0.999. It is counted in thousandths.
 
-    A success raises the bound by its reciprocal, and only while at least half as many calls are under way as it allows:
-    an idle client learns nothing. It grants each retry, which is a part of its call; put a bucket beside it for those.
+    A success raises the bound by its reciprocal, and only while the calls under way are at least half of its level: an
+    idle client learns nothing. It grants each retry, which is a part of its call; put a bucket beside it for those.
 
     >>> from hikebox import recurs, retry
     >>> @retry(recurs(3), limit=Adaptive())
