@@ -92,9 +92,9 @@ pub struct Throttle {
     pub period: Duration,
 }
 
-/// A bound on the calls under way at once, which finds by itself how many its peer bears: each success at the bound
-/// raises it, by about one for each round of calls, and each failure lowers it to a share of what it was. It grants each
-/// retry, which is a part of its call.
+/// A bound on the calls under way at once, which finds by itself how many its peer bears: each success while at least
+/// half of it is in use raises it, by about one for each round of calls, and each failure lowers it to a share of what
+/// it was. It grants each retry, which is a part of its call.
 #[derive(Clone, Copy, Debug, PartialEq)]
 pub struct Adaptive {
     /// The bound is never lower: 1 or more.

@@ -26,8 +26,8 @@ class Adaptive(CallLimit):
     `backoff`
         The share of the bound that a failure leaves, from 0.001 to 0.999. It is counted in thousandths.
 
-    A success raises the bound by its reciprocal, and only while at least half as many calls are under way as it allows:
-    an idle client learns nothing. The limit grants each retry, which is a part of its call; to bound retries too, join
+    A success raises the bound by its reciprocal, and only while the calls under way are at least half of its level: an
+    idle client learns nothing. The limit grants each retry, which is a part of its call; to bound retries too, join
     a `Bucket` by `both`.
 
     >>> from hikebox import recurs, retry

@@ -11,7 +11,7 @@ from .._engine.limits import STATE_CLOSED, STATE_OPEN, LimitHandle
 from .._functions import look_at_function
 from .._time import Duration, moment, seconds_text
 from ..budgets.terms import count_of, duration_of
-from ..errors import PolicyError, TermsError
+from ..errors import PolicyError, TermsError, shown
 from ..policy import Policy
 from .kinds import MAX_COUNT
 from .limit import CallLimit, Request, WatchedRequest
@@ -204,8 +204,8 @@ class Breaker(CallLimit):
 def _policy_of(open_for: Any) -> Policy:
     """The policy whose waits are the open times."""
     if isinstance(open_for, (int, float, timedelta)):
-        number = f"{open_for.total_seconds():g}" if isinstance(open_for, timedelta) else open_for
-        raise TypeError(f"open_for: expected a policy, as spaced({number}), got {open_for!r}")
+        number = f"{open_for.total_seconds():g}" if isinstance(open_for, timedelta) else shown(open_for)
+        raise TypeError(f"open_for: expected a policy, as spaced({number}), got {shown(open_for)}")
     try:
         return Policy.of(open_for)
     except PolicyError as error:

@@ -9,7 +9,7 @@ from weakref import WeakKeyDictionary, WeakValueDictionary
 
 from .._forks import OfOneProcess, begins_anew_in_a_child
 from ..budgets.limit import Limit
-from ..errors import TermsError
+from ..errors import TermsError, shown
 
 __all__ = ["PerHost", "PerKey", "look_at_no_keys"]
 
@@ -73,7 +73,7 @@ class PerKey(OfOneProcess, Limit, Generic[Made]):
         if isinstance(most, bool) or not isinstance(most, int):
             raise TypeError(f"most: expected a whole number, got {most!r}")
         if most < 1:
-            raise TermsError(f"most: expected 1 or more, got {most}")
+            raise TermsError(f"most: expected 1 or more, got {shown(most)}")
         self.make = make
         self.key = key
         self.most = most

@@ -147,7 +147,7 @@ def _most_wait_follows(settings: Settings) -> None:
     if most is None:
         settings.most_wait = float(MAX_NUMBER)
     elif isinstance(most, bool) or not isinstance(most, (int, float)) or not most >= 0:
-        raise TypeError(f"max_retry_after: expected a number of seconds, or None, got {most!r}")
+        raise TypeError(f"max_retry_after: expected a number of seconds, or None, got {shown(most)}")
     else:
         settings.most_wait = float(min(most, MAX_NUMBER))
 
