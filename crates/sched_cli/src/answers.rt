@@ -30,9 +30,9 @@ struct Failed {
 
 /// Does what is asked for: reads a text to its end, and writes what is printed of it.
 ///
-/// Stops as `print_course`, `print_pool`, `print_quota_pool`, `print_storm` and `print_check` do, with what is told of
-/// it: of a read or a write that failed the name of the stream and the system's reason, of a text that is no plan or no
-/// jobs its first fault and the place, and nothing at all where nobody reads what is written.
+/// Stops as `print_plan`, `print_course`, `print_pool`, `print_quota_pool`, `print_storm` and `print_check` do, with
+/// what is told of it: of a read or a write that failed the name of the stream and the system's reason, of a text that
+/// is no plan or no jobs its first fault and the place, and nothing at all where nobody reads what is written.
 #[tactic(auto, using(crate::proofs::Answered::of_answers))]
 pub fn answer<R, S: Read, W: Write>(
     rt: &R,

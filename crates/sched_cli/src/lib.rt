@@ -12,6 +12,7 @@ pub use answers::answer;
 pub use sched_cli_check::{jobs_fault, print_check};
 pub use sched_cli_plan::{
     Counted, MAX_INPUT, MAX_STEPS, PlanCourse, PlanOptions, PrintFault, Sink, Source, print_course,
+    print_plan,
 };
 pub use sched_cli_pool::{PoolFault, print_pool, print_quota_pool};
 pub use sched_cli_storm::print_storm;

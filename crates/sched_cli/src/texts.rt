@@ -10,10 +10,9 @@ ghost use Rattle.sched_cli.specs.Answering.{AnswersText, ForInput, OfPrint};
 
 use crate::storms::storm_text;
 use sched_cli_check::print_check;
-use sched_cli_plan::{Given, PlanCourse, PlanOptions, PrintFault, Sink, print_course};
+use sched_cli_plan::{Given, PlanCourse, PlanOptions, Sink, print_course, print_plan};
 use sched_cli_pool::{PoolFault, print_pool, print_quota_pool};
 use sched_cli_words::{Asked, PoolOptions, QuotaOptions};
-use sched_time::NoMemory;
 use std::alloc::{AllocGlobal, Global};
 use std::random::RandomSource;
 use std::sync::Wait;
@@ -44,6 +43,7 @@ where
 }
 
 // Prints the plan that the text spells.
+#[tactic(auto, using(crate::proofs::Again::plan_again))]
 fn plan_text<W: Sink>(
     alloc: Global,
     bytes: &[u8],
@@ -55,9 +55,10 @@ fn plan_text<W: Sink>(
     ensures reads { 0 ≡ count_of_pool_reads result 0 }
     ensures writes { W.failures writer.new ≡ count_of_pool_writes result (W.failures writer.old) }
 {
-    match PlanCourse::steady(alloc, options) {
-        Ok(course) => course_text(alloc, bytes, writer, &course),
-        Err(NoMemory) => Err(PoolFault::Print(PrintFault::NoMemory)),
+    let mut reader = Given::new(bytes);
+    match print_plan(alloc, &mut reader, writer, options) {
+        Ok(()) => Ok(()),
+        Err(fault) => Err(PoolFault::Print(fault)),
     }
 }
 

@@ -10,46 +10,43 @@ use Rattle.serde_json.specs.View.{view}
 use Rattle.serde_json.specs.declared.value.Value.{Value}
 use Rattle.sched_time.specs.declared.faults.NoMemory.{NoMemory}
 use Rattle.sched_plan_check.specs.declared.places.Fault.{Fault}
-use Rattle.sched_plan_json.specs.PlanOf.{plan_of}
-use Rattle.sched_pool_json.specs.JobsOf.{jobs_of}
-use Rattle.sched_plan_check.specs.Places.{Into, place_of, value_at}
-use Rattle.sched_plan_check.specs.PlanFaults.{FirstFault}
+use Rattle.sched_plan_check.specs.Places.{place_of}
 use Rattle.sched_plan_check.specs.Checked.{IsPlanFault}
 use Rattle.sched_pool_check.specs.Checked.{IsJobsFault}
-use Rattle.sched_pool_check.specs.JobFaults.{JobsFault}
 use Rattle.sched_plan_hint.specs.Faults.{IsTold, told_text}
-use Rattle.sched_cli_check.specs.Reporting.{TellsFault, TellsPlanFault, TellsJobsFault, ReportsPlan, ReportsJobs}
-use Rattle.sched_cli_check.specs.Reporting.{Reports, IsReport}
+use Rattle.sched_cli_check.specs.Reporting.{TellsPlanFault, TellsJobsFault, ReportsPlan, ReportsJobs, Reports, IsReport}
 use Rattle.sched_plan_hint.specs.declared.faults.ToldFault.{ToldFault}
 use Rattle.sched_plan_hint.specs.declared.faults.ToldFault.TheVariants as what
 use Rattle.sched_cli_check.specs.declared.reports.Report.{Report}
 use Rattle.sched_cli_check.specs.declared.reports.Report.TheVariants.{Read, Refused, NotJson}
 
--- the first fault that was found is told with the text of its place
-tells : (Is : Type 0) (IsFirst : List Into → Data → Type 0) (d : Data) (found : Fault) (t : ToldFault) (text : List ℕ)
-    → Is → value_at (place_of found.place.items) d ≡ Some (view found.value.now)
-    → IsFirst (place_of found.place.items) (view found.value.now) → IsTold found t
-    → text ≡ told_text t ++ codes "\n" → TellsFault Is IsFirst d text
-tells Is IsFirst d found (what.NotJson line column why) text is leads first at is_line = absurd at
-tells Is IsFirst d found (what.Refused fault place hint) text is leads first at is_line = record {
+pub tells_plan : (d : Data) (found : Fault) (t : ToldFault) (text : List ℕ) → IsPlanFault d found → IsTold found t
+    → text ≡ told_text t ++ codes "\n" →
+    TellsPlanFault d found.fault text
+tells_plan d found (what.NotJson line column why) text is at is_line = absurd at
+tells_plan d found (what.Refused fault place hint) text is at is_line = record {
   place = place_of found.place.items;
   value = view found.value.now;
   hint = string_bytes hint;
-  refused = is;
-  leads = leads;
-  first = first;
+  refused = is.fault;
+  leads = is.leads;
+  first = is.first;
   told = is_line ∙ ap (λ p. (p ++ codes ": " ++ string_bytes hint) ++ codes "\n") at.1;
 }
 
-pub tells_plan : (d : Data) (found : Fault) (t : ToldFault) (text : List ℕ) → IsPlanFault d found → IsTold found t
-    → text ≡ told_text t ++ codes "\n" → TellsPlanFault d found.fault text
-tells_plan d found t text is at is_line =
-    tells (plan_of d ≡ Err found.fault) (FirstFault found.fault d) d found t text is.fault is.leads is.first at is_line
-
 pub tells_jobs : (d : Data) (found : Fault) (t : ToldFault) (text : List ℕ) → IsJobsFault d found → IsTold found t
-    → text ≡ told_text t ++ codes "\n" → TellsJobsFault d found.fault text
-tells_jobs d found t text is at is_line =
-    tells (jobs_of d ≡ Err found.fault) (JobsFault found.fault d) d found t text is.fault is.leads is.first at is_line
+    → text ≡ told_text t ++ codes "\n" →
+    TellsJobsFault d found.fault text
+tells_jobs d found (what.NotJson line column why) text is at is_line = absurd at
+tells_jobs d found (what.Refused fault place hint) text is at is_line = record {
+  place = place_of found.place.items;
+  value = view found.value.now;
+  hint = string_bytes hint;
+  refused = is.fault;
+  leads = is.leads;
+  first = is.first;
+  told = is_line ∙ ap (λ p. (p ++ codes ": " ++ string_bytes hint) ++ codes "\n") at.1;
+}
 
 jobs_too : (d : Data) (r : Report) → is_some (as_array d) ≡ true → ReportsJobs d r → Reports d r
 jobs_too (array items) r is told = told

@@ -16,22 +16,25 @@ use Rattle.sched_plan_hint.specs.PlaceText.{fault_text}
 use Rattle.sched_cli_check.specs.declared.reports.Report.{Report}
 use Rattle.sched_cli_check.specs.declared.reports.Report.TheVariants.{Read, Refused, NotJson}
 
--- the value is refused, and the text is the line of its first fault: its place, and a hint
-pub record TellsFault (Refused : Type 0) (IsFirst : List Into → Data → Type 0) (d : Data) (text : List ℕ) : Type 0 where
+-- the text is the line of the first fault that reading the value as a plan finds: its place, and a hint
+pub record TellsPlanFault (d : Data) (fault : ReadFault) (text : List ℕ) : Type 0 where
   pub place : List Into
   pub value : Data
   pub hint : List ℕ
-  pub refused : Refused
+  pub refused : plan_of d ≡ Err fault
   pub leads : value_at place d ≡ Some value
-  pub first : IsFirst place value
+  pub first : FirstFault fault d place value
   pub told : text ≡ fault_text place hint ++ codes "\n"
 
--- the first fault that reading the value as a plan finds, and as jobs
-abbrev pub TellsPlanFault : Data → ReadFault → List ℕ → Type 0
-TellsPlanFault d fault text = TellsFault (plan_of d ≡ Err fault) (FirstFault fault d) d text
-
-abbrev pub TellsJobsFault : Data → ReadFault → List ℕ → Type 0
-TellsJobsFault d fault text = TellsFault (jobs_of d ≡ Err fault) (JobsFault fault d) d text
+-- the same of reading it as jobs
+pub record TellsJobsFault (d : Data) (fault : ReadFault) (text : List ℕ) : Type 0 where
+  pub place : List Into
+  pub value : Data
+  pub hint : List ℕ
+  pub refused : jobs_of d ≡ Err fault
+  pub leads : value_at place d ≡ Some value
+  pub first : JobsFault fault d place value
+  pub told : text ≡ fault_text place hint ++ codes "\n"
 
 -- what is told of a value as a plan, and as jobs
 abbrev pub ReportsPlan : Data → Report → Type 0

@@ -11,7 +11,7 @@ use Rattle.sched_plan_json.specs.PlanOf.{reading_of}
 use Rattle.sched_plan_json.specs.declared.faults.ReadFault.{ReadFault}
 use Rattle.sched_plan_json.specs.declared.faults.ReadFault.TheVariants as reading
 use Rattle.sched_cli_plan.specs.Refusal.{refusal_of}
-use Rattle.sched_cli_plan.specs.Printing.{Prints, ReadsPlan, ReadsValue, SpellsNothing}
+use Rattle.sched_cli_plan.specs.Printing.{Prints, ReadsPlan, ReadsValue}
 use Rattle.sched_cli_plan.specs.Whole.{IsWholeInput}
 use Rattle.sched_plan_course.specs.Course.{Course}
 use Rattle.sched_cli_plan.specs.declared.faults.PrintFault.{PrintFault}
@@ -32,23 +32,18 @@ prints_fault o l m t bytes ReadFailed whole reads = absurd reads
 prints_fault o l m t bytes TooLong whole reads = absurd reads
 prints_fault o l m t bytes WriteFailed whole reads = absurd reads
 
--- bytes are read as no value because they spell none, or for want of memory
-pub in_no_value : (P : PrintFault → Type 0) (bytes : List ℕ) (fault : PrintFault)
-    → (SpellsNothing bytes → P NotJson) → P NoMemory → ReadsValue bytes (Err fault) → P fault
-in_no_value P bytes NotJson spells memory reads = spells reads
-in_no_value P bytes NoMemory spells memory reads = memory
-in_no_value P bytes NotAPlan spells memory reads = absurd reads
-in_no_value P bytes OutOfRange spells memory reads = absurd reads
-in_no_value P bytes TooDeep spells memory reads = absurd reads
-in_no_value P bytes TooMany spells memory reads = absurd reads
-in_no_value P bytes ReadFailed spells memory reads = absurd reads
-in_no_value P bytes TooLong spells memory reads = absurd reads
-in_no_value P bytes WriteFailed spells memory reads = absurd reads
-
 -- bytes that spell no value spell no plan
 pub plan_in_no_value : (bytes : List ℕ) (fault : PrintFault) → ReadsValue bytes (Err fault)
     → ReadsPlan bytes (Err fault)
-plan_in_no_value bytes fault = in_no_value (λ f. ReadsPlan bytes (Err f)) bytes fault (λ spells. spells) tt
+plan_in_no_value bytes NotJson reads = reads
+plan_in_no_value bytes NoMemory reads = reads
+plan_in_no_value bytes NotAPlan reads = absurd reads
+plan_in_no_value bytes OutOfRange reads = absurd reads
+plan_in_no_value bytes TooDeep reads = absurd reads
+plan_in_no_value bytes TooMany reads = absurd reads
+plan_in_no_value bytes ReadFailed reads = absurd reads
+plan_in_no_value bytes TooLong reads = absurd reads
+plan_in_no_value bytes WriteFailed reads = absurd reads
 
 -- a value that is refused is no plan, for the fault of reading it
 pub plan_refused : (bytes : List ℕ) (v : Value) (fault : ReadFault) → IsUtf8 bytes → read bytes ≡ Some (view v) →

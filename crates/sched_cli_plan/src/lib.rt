@@ -15,7 +15,7 @@ pub use again::Given;
 pub use amounts::push_count;
 pub use counts::Counted;
 pub use faults::PrintFault;
-pub use printing::{print_course, read_value};
+pub use printing::{print_course, print_plan, read_value};
 pub use sched_plan_course::{MAX_STEPS, PlanCourse, PlanOptions};
 pub use streams::{Sink, Source};
 pub use whole::{MAX_INPUT, put_all, put_long, read_all};

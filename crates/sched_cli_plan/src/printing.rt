@@ -1,5 +1,5 @@
 ghost use Rattle.std.specs.Prelude.{◌≡◌, ◌++◌, string_bytes, OnOk};
-ghost use Rattle.sched_plan_course.specs.Course.{course_of};
+ghost use Rattle.sched_plan_course.specs.Course.{course_of, steady};
 ghost use Rattle.sched_cli_plan.specs.PlanText.{line_text, plan_text};
 ghost use Rattle.sched_cli_plan.specs.Printing.{Prints, ReadsPlan, ReadsValue, WritesText};
 ghost use Rattle.sched_cli_plan.specs.Whole.{count_of_reads, count_of_writes};
@@ -8,18 +8,34 @@ use crate::faults::PrintFault;
 use crate::streams::{Sink, Source};
 use crate::whole::{put_all, put_long, read_all};
 use sched_plan::Plan;
-use sched_plan_course::{Line, PlanCourse, line_at};
+use sched_plan_course::{Line, PlanCourse, PlanOptions, line_at};
 use sched_plan_json::read_plan;
 use sched_step::initial;
 use sched_time::NoMemory;
 use serde_json::Value;
 use std::alloc::Global;
 
-/// Reads one plan as JSON from `reader`, steps it along the course, and writes a line for each event to `writer`:
+/// Reads one plan as JSON from `reader`, steps it as the options say, and writes a line for each event to `writer`:
 /// `MOMENT: OUTPUT next START` or `MOMENT: OUTPUT done`, up to the first event at which the plan is done.
 ///
 /// Refused as `ReadFailed`, `TooLong`, `NotJson`, `NotAPlan`, `OutOfRange`, `TooDeep` and `TooMany` with nothing
 /// written, as `NoMemory` and `WriteFailed` with a front of the text written.
+pub fn print_plan<R: Source, W: Sink>(
+    alloc: Global,
+    reader: &mut R,
+    writer: &mut W,
+    options: &PlanOptions,
+) -> Result<(), PrintFault>
+    ensures text { Prints (steady options.now)
+        (R.left reader.old) (R.left reader.new) (W.taken writer.old) (W.taken writer.new) result }
+    ensures reads { R.failures reader.new ≡ count_of_reads result (R.failures reader.old) }
+    ensures writes { W.failures writer.new ≡ count_of_writes result (W.failures writer.old) }
+{
+    let course = PlanCourse::steady(alloc, options)?;
+    print_course(alloc, reader, writer, &course)
+}
+
+/// The same as [`print_plan`], with an input and words of its own for each event.
 pub fn print_course<R: Source, W: Sink>(
     alloc: Global,
     reader: &mut R,

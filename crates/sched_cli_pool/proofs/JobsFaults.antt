@@ -14,7 +14,6 @@ use Rattle.sched_cli_plan.specs.Refusal.{refusal_of}
 use Rattle.sched_cli_plan.specs.Printing.{ReadsValue}
 use Rattle.sched_pool_json.specs.Job.{Job}
 use Rattle.sched_cli_plan.specs.Whole.{IsWholeInput}
-use Rattle.sched_cli_plan.proofs.PrintFaults.{in_no_value}
 use Rattle.sched_cli_pool.specs.JobsPrinting.{SpellsJobs, ReadsJobs, IsRunFault, WritesPool, PrintsJobs}
 use Rattle.sched_cli_plan.specs.declared.faults.PrintFault.{PrintFault}
 use Rattle.sched_cli_plan.specs.declared.faults.PrintFault.TheVariants.{ReadFailed, TooLong, NotJson, NotAPlan}
@@ -75,7 +74,15 @@ module _ (Runs : List Job → List Past → List ℕ → Type 0) (may : Type 0)
 -- bytes that spell no value spell no jobs
 pub jobs_in_no_value : (bytes : List ℕ) (fault : PrintFault) → ReadsValue bytes (Err fault)
     → ReadsJobs bytes (Err fault)
-jobs_in_no_value bytes fault = in_no_value (λ f. ReadsJobs bytes (Err f)) bytes fault (λ spells. spells) tt
+jobs_in_no_value bytes NotJson reads = reads
+jobs_in_no_value bytes NoMemory reads = reads
+jobs_in_no_value bytes NotAPlan reads = absurd reads
+jobs_in_no_value bytes OutOfRange reads = absurd reads
+jobs_in_no_value bytes TooDeep reads = absurd reads
+jobs_in_no_value bytes TooMany reads = absurd reads
+jobs_in_no_value bytes ReadFailed reads = absurd reads
+jobs_in_no_value bytes TooLong reads = absurd reads
+jobs_in_no_value bytes WriteFailed reads = absurd reads
 
 -- a value that is refused is no list of jobs, for the fault of reading it
 pub jobs_refused : (bytes : List ℕ) (v : Value) (fault : ReadFault) → IsUtf8 bytes → read bytes ≡ Some (view v) →

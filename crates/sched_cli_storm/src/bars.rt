@@ -1,5 +1,5 @@
 //! A line for each window: the share of its requests that were won, what happened in it, and a bar of its calls.
-use crate::lines::{push_numbers, push_right, widths};
+use crate::lines::{digits, push_right};
 use crate::totals::share_of;
 use sched_cli_plan::push_count;
 use sched_storm::{Report, Window};
@@ -21,7 +21,7 @@ pub(crate) fn push_bars(
     report: &Report,
     width: u64,
 ) -> Result<(), NoMemory> {
-    let widths = widths(alloc, &NAMES, &greatest(&report.windows))?;
+    let widths = widths(alloc, &report.windows)?;
     let before = length_of(&widths);
     let bar = (width as usize).saturating_sub(before).max(1);
     push_right(text, SHARE, SHARE.len())?;
@@ -31,7 +31,7 @@ pub(crate) fn push_bars(
     text.push_str("  # request, + retry\n")?;
     for window in &report.windows {
         push_share(alloc, text, window)?;
-        push_numbers(alloc, text, &numbers(window), &widths)?;
+        push_numbers(alloc, text, window, &widths)?;
         push_bar(text, window, report.totals.most_calls, bar)?;
         text.push('\n')?;
     }
@@ -54,8 +54,8 @@ fn numbers(window: &Window) -> [u64; 5] {
     ]
 }
 
-// The greatest number of each column.
-fn greatest(windows: &[Window]) -> [u64; 5] {
+// How wide each column is: as its name, or as its longest number.
+fn widths(alloc: Global, windows: &[Window]) -> Result<Vec<usize>, NoMemory> {
     let mut greatest = [0u64; 5];
     for window in windows {
         let numbers = numbers(window);
@@ -63,7 +63,11 @@ fn greatest(windows: &[Window]) -> [u64; 5] {
             greatest[place] = greatest[place].max(numbers[place]);
         }
     }
-    greatest
+    let mut widths = Vec::new(alloc);
+    for (name, number) in NAMES.iter().zip(&greatest) {
+        widths.push(name.len().max(digits(*number)))?;
+    }
+    Ok(widths)
 }
 
 // How long a line is without its bar: two spaces stand before each column, and before the bar.
@@ -83,6 +87,22 @@ fn push_share(alloc: Global, text: &mut String, window: &Window) -> Result<(), N
         None => word.push('-')?,
     }
     push_right(text, word.as_str(), SHARE.len())
+}
+
+// Adds the numbers of a window.
+fn push_numbers(
+    alloc: Global,
+    text: &mut String,
+    window: &Window,
+    widths: &[usize],
+) -> Result<(), NoMemory> {
+    let mut word = String::new(alloc);
+    for (number, width) in numbers(window).iter().zip(widths) {
+        word.clear();
+        write!(word, "{number}")?;
+        push_right(text, word.as_str(), *width)?;
+    }
+    Ok(())
 }
 
 // Adds a bar of the calls that began, of which so many are as long as the longest bar: requests, and then retries.

@@ -11,20 +11,20 @@ pub(crate) fn push_lines(
     text: &mut String,
     report: &Report,
 ) -> Result<(), NoMemory> {
-    let widths = widths(alloc, &NAMES, &greatest(&report.windows))?;
+    let widths = widths(alloc, &report.windows)?;
     for (name, width) in NAMES.iter().zip(&widths) {
         push_right(text, name, *width)?;
     }
     text.push('\n')?;
     for window in &report.windows {
-        push_numbers(alloc, text, &row(window), &widths)?;
+        push_numbers(alloc, text, window, &widths)?;
         text.push('\n')?;
     }
     Ok(())
 }
 
-// The greatest number of each column.
-fn greatest(windows: &[Window]) -> [u64; 9] {
+// How wide each column is: as its name, or as its longest number.
+fn widths(alloc: Global, windows: &[Window]) -> Result<Vec<usize>, NoMemory> {
     let mut greatest = [0u64; 9];
     for window in windows {
         let numbers = row(window);
@@ -32,17 +32,8 @@ fn greatest(windows: &[Window]) -> [u64; 9] {
             greatest[place] = greatest[place].max(numbers[place]);
         }
     }
-    greatest
-}
-
-/// How wide each column is: as its name, or as its greatest number.
-pub(crate) fn widths(
-    alloc: Global,
-    names: &[&str],
-    greatest: &[u64],
-) -> Result<Vec<usize>, NoMemory> {
     let mut widths = Vec::new(alloc);
-    for (name, number) in names.iter().zip(greatest) {
+    for (name, number) in NAMES.iter().zip(&greatest) {
         widths.push(name.len().max(digits(*number)))?;
     }
     Ok(widths)
@@ -69,15 +60,15 @@ pub(crate) fn push_right(text: &mut String, word: &str, width: usize) -> Result<
     Ok(())
 }
 
-/// Adds numbers, each at the right of its column.
-pub(crate) fn push_numbers(
+// Adds the numbers of a window.
+fn push_numbers(
     alloc: Global,
     text: &mut String,
-    numbers: &[u64],
+    window: &Window,
     widths: &[usize],
 ) -> Result<(), NoMemory> {
     let mut word = String::new(alloc);
-    for (number, width) in numbers.iter().zip(widths) {
+    for (number, width) in row(window).iter().zip(widths) {
         word.clear();
         write!(word, "{number}")?;
         push_right(text, word.as_str(), *width)?;

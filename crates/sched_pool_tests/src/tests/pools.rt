@@ -10,7 +10,7 @@ use std::random::RandomSource;
 use std::sync::Wait;
 use std::thread::Threads;
 
-// So many jobs, each of which wants three tickets, run on as many threads until all are over. Answers how many tickets
+// So many jobs, each of which wants three tickets, run on so many threads until all are over. Answers how many tickets
 // they were granted.
 fn runs_all<R, N: Naming + Send + Sync, Q: Gate + Sync>(
     rt: &R,
@@ -18,6 +18,7 @@ fn runs_all<R, N: Naming + Send + Sync, Q: Gate + Sync>(
     budget: &Budget,
     mut pass: Pass,
     jobs: usize,
+    threads: usize,
     gate: &Q,
 ) -> (Pass, u64)
 where
@@ -27,7 +28,7 @@ where
     ensures { IsOf budget.entry.now result.0 }
 {
     let board: Board<Scripted, N> = board_of(rt, alloc, budget, &mut pass, jobs, 3);
-    let stations = stations(rt, alloc, jobs);
+    let stations = stations(rt, alloc, threads);
     let end = board
         .run(rt, alloc, pass, stations, gate, 100_000_000)
         .ok()
@@ -36,19 +37,19 @@ where
     (end.pass, end.granted)
 }
 
-/// How many tickets a pool of so many jobs, on as many threads, draws on a budget of its own.
+/// How many tickets a pool of so many jobs, on so many threads, draws on a budget of its own.
 pub(super) fn total<R, Q: Gate + Sync>(
     rt: &R,
     alloc: Global,
     limit: u64,
-    jobs: usize,
+    size: (usize, usize),
     gate: &Q,
 ) -> u64
 where
     R: Threads + Wait + RandomSource + AllocGlobal + Abort + Sync,
 {
     let (budget, pass) = Budget::new(alloc, limit).expect(rt, "the limit is in range");
-    let (pass, granted) = runs_all::<_, Brand, _>(rt, alloc, &budget, pass, jobs, gate);
+    let (pass, granted) = runs_all::<_, Brand, _>(rt, alloc, &budget, pass, size.0, size.1, gate);
     assert_eq!(rt; budget.close(pass).ok(), Some(granted));
     granted
 }

@@ -105,6 +105,57 @@ fn look<R: Wait + Abort>(rt: &R, jobs: &[Mutex<Paced>], active: &[usize], step: 
     }
 }
 
+// Works through the share at this gate. Of the run, the first is the turns, and the second what it answers.
+fn drive<R, C: Clock, Q: Gate>(
+    rt: &R,
+    jobs: &[Mutex<Paced>],
+    claims: &Claims,
+    share: &mut Share,
+    worker: &mut Station<C, MidWords>,
+    gate: &Q,
+    run: (u64, Worked),
+)
+where
+    R: Wait + RandomSource + AllocGlobal + Abort,
+    requires of { IsPartOf claims.now share.old }
+    requires places { claims.now.terms.limit ≤ length jobs.now }
+    ensures of { IsPartOf claims.now share.new }
+{
+    let worked = work_through(rt, jobs, claims, share, worker, gate, run.0);
+    gets(rt, worked, run.1);
+}
+
+// Takes one step.
+fn take<R, C: Clock, Q: Gate>(
+    rt: &R,
+    jobs: &[Mutex<Paced>],
+    claims: &Claims,
+    share: &mut Share,
+    worker: &mut Station<C, MidWords>,
+    gate: &Q,
+    step: &Step<'_>,
+)
+where
+    R: Wait + RandomSource + AllocGlobal + Abort,
+    requires of { IsPartOf claims.now share.old }
+    requires places { claims.now.terms.limit ≤ length jobs.now }
+    ensures of { IsPartOf claims.now share.new }
+{
+    match step {
+        Step::Gated(turns, want) => drive(rt, jobs, claims, share, worker, gate, (*turns, *want)),
+        Step::Works(turns, want) => drive(
+            rt,
+            jobs,
+            claims,
+            share,
+            worker,
+            &OpenGate,
+            (*turns, *want),
+        ),
+        _ => look(rt, jobs, share.active(), step),
+    }
+}
+
 // Asserts the moment at the end.
 fn ends(rt: &impl Abort, moment: Moment, at: u64) {
     assert_eq!(rt; moment.get(), at);
@@ -132,17 +183,7 @@ where
     };
     let mut worker = Station::new(clock, MidWords, play.hold).expect(rt, "the hold is in range");
     for step in play.steps {
-        match step {
-            Step::Gated(turns, want) => {
-                let worked = work_through(rt, jobs, claims, share, &mut worker, gate, *turns);
-                gets(rt, worked, *want);
-            }
-            Step::Works(turns, want) => {
-                let worked = work_through(rt, jobs, claims, share, &mut worker, &OpenGate, *turns);
-                gets(rt, worked, *want);
-            }
-            _ => look(rt, jobs, share.active(), step),
-        }
+        take(rt, jobs, claims, share, &mut worker, gate, step);
     }
     ends(rt, moment.get(), play.ends_at);
 }

@@ -39,7 +39,7 @@ returns-in-Ok-play c =
     let each : vec_len c.in-Ok-play.told ≡ length c.in-Ok-play.told.items = search rules in
     let len : c.len.result ≡ length ws = c.len.ensures ∙ each ∙ many in
     let copied : c.copy_from_slice.new.self ≡ map window_told ws = search rules in
-    let totals : c.of-in-Ok-play.result ≡ totals_told c.in-Ok-play.report = c.of-in-Ok-play.ensures in (
+    let totals : c.of-totals.result ≡ totals_told c.in-Ok-play.report = c.of-totals.ensures in (
       Ok c.in-Ok-play.report,
       (
         room,
