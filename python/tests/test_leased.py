@@ -6,6 +6,9 @@ import asyncio
 import math
 import pickle
 import random
+import select
+import socket
+import threading
 import time
 from datetime import timedelta
 from pathlib import Path
@@ -565,6 +568,47 @@ def test_a_redis_that_was_started_anew_grants_nothing(redis_server: Any) -> None
     # (a lease that is refused counts nothing)
     durable = RedisStore(server.client(), durable=True)
     assert durable.take("a", 7, 20, None, time.monotonic)[:2] == (3, 7)
+
+
+def led(listening: socket.socket, ports: List[int]) -> None:
+    """Leads one client to the last of these ports, over one connection, as a proxy does."""
+    client, at = listening.accept()[0], 0
+    server: Any = None
+    with client:
+        while True:
+            ready = select.select([client] if server is None else [client, server], [], [])[0]
+            if server in ready:
+                client.sendall(server.recv(65536))
+            if client in ready:
+                asked = client.recv(65536)
+                if not asked:
+                    break
+                if at != ports[-1]:
+                    at = ports[-1]
+                    server = socket.create_connection(("127.0.0.1", at))
+                server.sendall(asked)
+
+
+def test_a_server_that_a_proxy_puts_in_the_place_of_another_grants_nothing(redis_server: Any) -> None:
+    import redis
+
+    first, second = redis_server(), redis_server()
+    ports = [first.port]
+    with socket.create_server(("127.0.0.1", 0)) as listening:
+        threading.Thread(target=led, args=(listening, ports), daemon=True).start()
+        client = redis.Redis(port=listening.getsockname()[1])
+        store = RedisStore(client)
+        store.begin("a")
+        assert store.take("a", 3, 10, None, time.monotonic) == Range(0, 3, None)
+        for key in first.client().keys("*"):
+            second.client().set(key, first.client().get(key))
+        ports.append(second.port)
+        for _ in range(2):
+            with pytest.raises(StoreLost, match="restarted"):
+                store.take("a", 3, 10, None, time.monotonic)
+        ports.append(first.port)
+        assert store.take("a", 3, 10, None, time.monotonic) == Range(3, 3, None)
+        client.connection_pool.disconnect()
 
 
 def test_8_processes_draw_100000_tickets_of_redis_each_once(workers: Drawers, redis_server: Any) -> None:

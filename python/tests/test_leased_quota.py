@@ -601,6 +601,15 @@ def test_a_window_that_is_known_is_asked_once(redis_server: Any) -> None:
     sent.clear()
     assert store.take_of_quota("a", Terms(90, 0, 3_000_000), 2, asked, lambda: time.monotonic())[:2] == (12, 2)
     assert len(sent) == 2
+    # of names without end some are forgotten
+    for each in range(1100):
+        assert store.take_of_quota(f"n{each}", Terms(90, 0, 3_000_000), 2, asked, time.monotonic)[:2] == (0, 2)
+    assert 0 < len(store._windows) <= 1024
+
+    def knows_none() -> None:
+        assert store._windows == {}
+
+    in_a_forked_child(knows_none)
 
 
 def test_a_redis_that_answers_something_else_grants_nothing(redis_server: Any) -> None:

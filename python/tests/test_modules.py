@@ -106,6 +106,8 @@ def test_hikebox_plan_loads_nothing_of_storms_or_of_the_lab() -> None:
     assert "hikebox.policy.parsing" in loaded
     parts = (
         "advice",
+        "limits",
+        "pace",
         "storms",
         "traffic",
         "lab",

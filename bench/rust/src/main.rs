@@ -101,7 +101,7 @@ fn draws() {
 /// Draws of a budget in a folder, each of which leases one ticket.
 fn leases() {
     let folder = std::env::temp_dir().join(format!("hikebox-bench-{}", std::process::id()));
-    let leased = Leased::new(&folder, "bench", MAX_TICKETS).expect("a limit").per(WINDOW).lease(1);
+    let leased = Leased::new(&folder, "bench", MAX_TICKETS).expect("a limit").in_each(WINDOW).lease(1);
     let [draw] = least([&mut || leased.draw().is_ok()]);
     println!("a draw that leases one ticket in a folder: {draw:.0} ns");
     std::fs::remove_dir_all(&folder).expect("the folder");

@@ -17,7 +17,6 @@ from ._time import MAX_NUMBER, Duration, Milliseconds, milliseconds
 from .budget import Budget
 from .budgets.limit import Limit
 from .budgets.tickets import Refusal, RefusalReason, Ticket
-from .built import BuildInfo, build_info
 from .errors import (
     AttemptTimeout,
     LimitClosed,
@@ -37,7 +36,6 @@ from .errors import (
     TooSoon,
     TryAgain,
 )
-from .log import after_log, before_log, before_sleep_log
 from .policy import Policy, Step
 from .policy.builders import (
     decorrelated,
@@ -59,12 +57,12 @@ from .policy.builders import (
 )
 from .quota import Quota, Usage
 from .retry.deadline import seconds_left
-from .retry.repeating import AsyncRepeating, Repeating, poll_until, repeat
 from .retry.state import Ending, Outcome, RetryState, Statistics, code_of, state_of
 from .retrying import AsyncRetrying, Attempt, Retrying, Tickets, retry
 from .version import VERSION
 
 if TYPE_CHECKING:
+    from .built import BuildInfo, build_info
     from .limits import (
         Adaptive,
         Breaker,
@@ -78,15 +76,20 @@ if TYPE_CHECKING:
         Throttle,
         both,
     )
+    from .log import after_log, before_log, before_sleep_log
     from .pace import Pace
+    from .retry.repeating import AsyncRepeating, Repeating, poll_until, repeat
     from .storms.storm import Population, PopulationReport, Storm, StormRow, StormTotals, storm
 
 __version__ = VERSION
 
 #: What is loaded when it is first asked for, and of which module: a program that retries calls may need none of it.
 _LATER = {
+    "built": "BuildInfo build_info",
     "limits": "Adaptive Breaker BreakerState Bucket CallLimit InFlight PerHost PerKey Request Throttle both limits",
+    "log": "after_log before_log before_sleep_log",
     "pace": "Pace pace",
+    "retry.repeating": "AsyncRepeating Repeating poll_until repeat",
     "storms.storm": "Population PopulationReport Storm StormRow StormTotals storm",
 }
 

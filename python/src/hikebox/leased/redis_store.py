@@ -137,6 +137,8 @@ end
 
 #: How many windows of a quota may end in a row while the store asks for them.
 _TRIES = 3
+#: How many quotas have a window that is known.
+_MOST_WINDOWS = 1024
 
 
 class _Script:
@@ -239,6 +241,8 @@ class RedisStore:
                 present, by = _present(micros, period, before, clock()), clock
                 if server is None:
                     return QuotaRange(0, 0, present.until, present.number, 0, lost=True)
+                if len(self._windows) >= _MOST_WINDOWS:
+                    self._windows.clear()
                 self._windows[name, period] = present, by, server
                 if told is not None:  # of a window that is over
                     told = 0
