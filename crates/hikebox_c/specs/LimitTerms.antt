@@ -8,7 +8,7 @@ use Rattle.sched_limit.specs.declared.bucket.Bucket.{Bucket}
 use Rattle.sched_limit.specs.declared.in_flight.InFlight.{InFlight}
 use Rattle.sched_limit.specs.declared.breaker.Breaker.{Breaker}
 use Rattle.sched_limit.specs.declared.throttle.Throttle.{Throttle}
-use Rattle.sched_limit_handle.specs.Held.{MakesAdaptive, MakesBreaker, MakesThrottle}
+use Rattle.sched_limit_handle.specs.Held.{Makes, IsAdaptive, IsBreaker, IsThrottle}
 use Rattle.sched_limit_handle.specs.declared.held.Held.{Held}
 use Rattle.sched_limit_handle.specs.declared.status.Status.{Status}
 use Rattle.sched_limit_handle.specs.declared.status.Status.TheVariants.{OutOfRange}
@@ -38,7 +38,7 @@ pub record IsAdaptiveOf (t : AdaptiveGiven) (k : Adaptive) : Type 0 where
 
 abbrev pub AdaptiveMade : AdaptiveGiven → Result (Box Held Global) Status → Type 0
 AdaptiveMade t r =
-    ((k : Adaptive) × IsAdaptiveOf t k × MakesAdaptive k r) ⊎ ((IsAdaptiveGiven t → ⊥) × (r ≡ Err OutOfRange))
+    ((k : Adaptive) × IsAdaptiveOf t k × Makes (IsAdaptive k) r) ⊎ ((IsAdaptiveGiven t → ⊥) × (r ≡ Err OutOfRange))
 
 -- a breaker with these terms, and so many open times
 pub record IsBreakerOf (now : ℕ) (t : BreakerGiven) (count : ℕ) (b : Breaker) : Type 0 where
@@ -51,7 +51,7 @@ pub record IsBreakerOf (now : ℕ) (t : BreakerGiven) (count : ℕ) (b : Breaker
 
 abbrev pub BreakerMade : ℕ → BreakerGiven → ℕ → Result (Box Held Global) Status → Type 0
 BreakerMade now t count r =
-    ((b : Breaker) × IsBreakerOf now t count b × MakesBreaker b r) ⊎ (r ≡ Err OutOfRange)
+    ((b : Breaker) × IsBreakerOf now t count b × Makes (IsBreaker b) r) ⊎ (r ≡ Err OutOfRange)
 
 pub record IsThrottleOf (now ratio period : ℕ) (t : Throttle) : Type 0 where
   pub ratio_is : t.ratio ≡ ratio
@@ -60,4 +60,4 @@ pub record IsThrottleOf (now ratio period : ℕ) (t : Throttle) : Type 0 where
 
 abbrev pub ThrottleMade : ℕ → ℕ → ℕ → Result (Box Held Global) Status → Type 0
 ThrottleMade now ratio period r =
-    ((t : Throttle) × IsThrottleOf now ratio period t × MakesThrottle t r) ⊎ (r ≡ Err OutOfRange)
+    ((t : Throttle) × IsThrottleOf now ratio period t × Makes (IsThrottle t) r) ⊎ (r ≡ Err OutOfRange)

@@ -3,7 +3,7 @@ ghost use Rattle.std.specs.Prelude.{◌≡◌, ◌≢◌, ◌<◌, ◌≤◌, No
 ghost use Rattle.sched_time.specs.declared.numbers.TheConstants.{FAR};
 ghost use Rattle.sched_limit.specs.Results.{IsByResults};
 ghost use Rattle.sched_limit.specs.declared.request.Told.TheVariants as told_as;
-ghost use Rattle.sched_limit_handle.specs.Held.{MakesBucket, MakesFlight, HeldTells};
+ghost use Rattle.sched_limit_handle.specs.Held.{MakesBucket, Makes, IsFlight, HeldTells};
 ghost use Rattle.sched_handle.specs.Fills.{Frees};
 ghost use Rattle.sched_handle.specs.Limits.{OnLimits};
 ghost use Rattle.sched_handle.specs.Status.{code_of};
@@ -105,7 +105,7 @@ pub extern "C" fn hikebox_in_flight_new(
     most: u32,
     limit: &mut Handle,
 ) -> u32
-    ensures { MakesLimit (MakesFlight (flight_of least share most)) limit.old.held result limit.new.held }
+    ensures { MakesLimit (Makes (IsFlight (flight_of least share most))) limit.old.held result limit.new.held }
 {
     if limit.is_full() {
         return Status::Full.code();
