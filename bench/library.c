@@ -1,5 +1,6 @@
 // Does through the library what `bench draw` and `bench retry` do inside:
 //   draw DRAWS            draws of one budget
+//   breaker REQUESTS      requests that a closed breaker admits, and that succeed and end
 //   retry PLAN ROUNDS     a round is a retry whose run fails each time and is granted again, a thousand times: a call each
 //   step PLAN ROUNDS      a round is a course of the plan, of a thousand events
 //   wait PLAN ROUNDS      a round is a thousand polls of a retry that waits
@@ -41,6 +42,21 @@ static uint64_t draw(uint64_t draws) {
     return tickets;
 }
 
+static uint64_t breaker(uint64_t requests) {
+    hikebox_limit limit = HIKEBOX_INIT;
+    const hikebox_breaker terms = HIKEBOX_BREAKER;
+    const uint64_t open_for = 30000;
+    uint64_t number;
+    check(hikebox_breaker_new(0, &terms, &open_for, 1, &limit));
+    for (uint64_t turn = 0; turn < requests; turn++) {
+        check(hikebox_limit_admit(&limit, turn, 0, &number));
+        check(hikebox_limit_succeeded(&limit, turn));
+        check(hikebox_limit_ended(&limit));
+    }
+    check(hikebox_limit_free(&limit));
+    return requests;
+}
+
 static uint64_t retry(hikebox_policy *policy) {
     hikebox_pass pass = HIKEBOX_INIT;
     hikebox_retry machine = HIKEBOX_INIT;
@@ -59,11 +75,10 @@ static uint64_t retry(hikebox_policy *policy) {
 
 static uint64_t step(hikebox_policy *policy) {
     static hikebox_line lines[ROUND];
-    static char text[32 * ROUND];
     const hikebox_course course = {sizeof course, ROUND, 0, 0};
     const hikebox_event event = {CODE, {0, 0, 0, 0}};
-    size_t events, length;
-    check(hikebox_policy_course(policy, &course, &event, 1, lines, ROUND, &events, text, sizeof text, &length));
+    size_t events;
+    check(hikebox_policy_course(policy, &course, &event, 1, lines, ROUND, &events));
     return events;
 }
 
@@ -150,6 +165,8 @@ int main(int count, char **arguments) {
     uint64_t done = 0;
     if (count == 3 && strcmp(arguments[1], "draw") == 0) {
         done = draw(strtoull(arguments[2], 0, 10));
+    } else if (count == 3 && strcmp(arguments[1], "breaker") == 0) {
+        done = breaker(strtoull(arguments[2], 0, 10));
     } else if (count == 4 && is_one_of(arguments[2], "nothing budget quota")) {
         done = calls(arguments[1], arguments[2], strtoull(arguments[3], 0, 10));
     } else if (count == 4) {

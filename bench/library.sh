@@ -1,7 +1,8 @@
 #!/usr/bin/env bash
 # What a draw of a budget, a granted retry, a step and a poll that waits take through the C library, beside the same inside
-# (bench): instructions, which other work does not change, and nanoseconds. Then, in instructions, what
-# calls take in C that succeed at once, are retried and are refused a retry, and what a retry of ten million failures holds.
+# (bench): instructions, which other work does not change, and nanoseconds. Then, in instructions, what calls take in C
+# that succeed at once, are retried and are refused a retry, what a breaker's three calls take, and what a retry of ten
+# million failures holds.
 # Then what an attempt takes by the Python package beside tenacity, and by the Rust crate beside the crates retry and
 # backoff.
 # Started by hand at the top of the repository: bench/library.sh. It needs rt, cc, valgrind, what tests/rust.sh and
@@ -56,6 +57,7 @@ for plan in spaced pair; do
     row "wait $plan" 1000 2 2000 "$work/bench" retry wait "$plan"
 done
 calls_by "in C" "$work/library"
+echo "a request that a breaker admits, its success and its end: $(counted 1 2000 22000 "$work/library" breaker) instructions"
 for failures in 1000 10000000; do
     echo "a retry of $failures failures: $(/usr/bin/time -f %M "$work/library" granted nothing "$failures" 2>&1 > /dev/null) KB"
 done

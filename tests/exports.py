@@ -26,6 +26,7 @@ RATTLE = {
     "&mut SizedReply": ["hikebox_next *"],
     "&Run": ["const hikebox_run *"],
     "&mut SizedUsage": ["hikebox_usage *"],
+    "&mut Policies": ["hikebox_policies *"],
     "&SizedStorm": ["const hikebox_storm *"],
     "&mut [WindowTold]": ["hikebox_window *", "size_t"],
     "&mut SizedTotals": ["hikebox_totals *"],
@@ -60,6 +61,7 @@ STRUCTS = {
     "SizedUsage": "hikebox_usage",
     "Phase": "hikebox_phase",
     "PopulationGiven": "hikebox_population",
+    "Policies": "hikebox_policies",
     "SizedStorm": "hikebox_storm",
     "WindowTold": "hikebox_window",
     "SizedTotals": "hikebox_totals",
@@ -91,6 +93,7 @@ FIELDS = {
     "[u64; 64]": "uint64_t[64]",
     "[Phase; 16]": "hikebox_phase[16]",
     "PopulationGiven": "hikebox_population",
+    "Handle": "hikebox_policy",
 }
 #: The structs after a size: their members follow it.
 AFTER_SIZE = ("CourseGiven", "Reply", "Usage", "StormGiven", "TotalsTold")
@@ -154,9 +157,8 @@ def passed_on():
 
 def members(rattle, replies):
     """The members of a struct that has the layout of C: types and names of C."""
-    body = re.search(r"#\[repr\(C\)\]\s*#\[derive\([^)]*\)\]\s*pub struct " + rattle + r" \{([^}]*)\}", replies).group(
-        1
-    )
+    laid_out = r"#\[repr\(C\)\]\s*(?:#\[derive\([^)]*\)\]\s*)?pub struct "
+    body = re.search(laid_out + rattle + r" \{([^}]*)\}", replies).group(1)
     for name, kind in re.findall(r"pub (\w+): (\[.*?\]|\w+)", body):
         if kind in AFTER_SIZE:
             yield from members(kind, replies)

@@ -302,8 +302,8 @@ static int handles(void) {
             wants(hikebox_policy_share(handle, &spare), refused);
             wants(hikebox_policy_size(handle, &number, &other, &most), refused);
             wants(hikebox_policy_json(handle, text, sizeof text, &length), refused);
-            wants(hikebox_policy_course(handle, &course, &event, 1, &line, 1, &length, text, sizeof text, &length),
-                  refused);
+            wants(hikebox_policy_course(handle, &course, &event, 1, &line, 1, &length), refused);
+            wants(hikebox_policy_outputs(handle, &course, &event, 1, text, sizeof text, &length), refused);
             wants(hikebox_retry_new(handle, &other_pass, HIKEBOX_NO_DEADLINE, (hikebox_retry *)&spare), refused);
             wants(hikebox_retry_new(handle, &other_quota, HIKEBOX_NO_DEADLINE, (hikebox_retry *)&spare), refused);
             wants(retry_on_nothing(handle, HIKEBOX_NO_DEADLINE, (hikebox_retry *)&spare), refused);
@@ -1352,10 +1352,9 @@ static hikebox_window windows_told[128];
 static hikebox_totals plays_at(int line, const char *json, const hikebox_storm *storm, size_t wanted) {
     hikebox_policy policy = HIKEBOX_INIT;
     hikebox_totals totals = HIKEBOX_TOTALS;
-    size_t count = 99;
     wants_at(__FILE__, line, read_policy(json, &policy), HIKEBOX_OK);
-    wants_at(__FILE__, line, hikebox_storm_play(&policy, storm, windows_told, 128, &count, &totals), HIKEBOX_OK);
-    holds_at(__FILE__, line, count == wanted);
+    wants_at(__FILE__, line, hikebox_storm_play(&policy, storm, windows_told, 128, &totals), HIKEBOX_OK);
+    holds_at(__FILE__, line, totals.windows == wanted);
     wants_at(__FILE__, line, hikebox_policy_free(&policy), HIKEBOX_OK);
     return totals;
 }
@@ -1364,39 +1363,35 @@ static hikebox_totals plays_at(int line, const char *json, const hikebox_storm *
 // What a storm of two populations of these policies comes to: of all requests, or of those of one population. Its events
 // are of one window.
 static hikebox_totals plays_two_at(int line, const char *json, const char *beside, hikebox_storm storm, uint64_t of) {
-    hikebox_policy policy = HIKEBOX_INIT, second = HIKEBOX_INIT, third = HIKEBOX_INIT, fourth = HIKEBOX_INIT;
+    hikebox_policies policies = HIKEBOX_POLICIES;
     hikebox_totals totals = HIKEBOX_TOTALS;
-    size_t count = 99;
     storm.of = of;
-    wants_at(__FILE__, line, read_policy(json, &policy), HIKEBOX_OK);
-    wants_at(__FILE__, line, read_policy(beside, &second), HIKEBOX_OK);
-    wants_at(
-        __FILE__, line,
-        hikebox_storm_play_populations(&policy, &second, &third, &fourth, &storm, windows_told, 128, &count, &totals),
-        HIKEBOX_OK);
-    holds_at(__FILE__, line, count == 1);
-    wants_at(__FILE__, line, hikebox_policy_free(&policy), HIKEBOX_OK);
-    wants_at(__FILE__, line, hikebox_policy_free(&second), HIKEBOX_OK);
-    wants_at(__FILE__, line, hikebox_policy_free(&third), HIKEBOX_EMPTY);
+    wants_at(__FILE__, line, read_policy(json, &policies.first), HIKEBOX_OK);
+    wants_at(__FILE__, line, read_policy(beside, &policies.second), HIKEBOX_OK);
+    wants_at(__FILE__, line,
+             hikebox_storm_play_populations(&policies, &storm, &storm.of, 0, windows_told, 128, &totals), HIKEBOX_OK);
+    holds_at(__FILE__, line, totals.windows == 1);
+    wants_at(__FILE__, line, hikebox_policy_free(&policies.first), HIKEBOX_OK);
+    wants_at(__FILE__, line, hikebox_policy_free(&policies.second), HIKEBOX_OK);
+    wants_at(__FILE__, line, hikebox_policy_free(&policies.third), HIKEBOX_EMPTY);
     return totals;
 }
 #define plays_two(json, beside, storm, of) plays_two_at(__LINE__, json, beside, storm, of)
 
 // A storm with one parameter changed is refused, and nothing is written.
 static void refuses_at(int line, hikebox_policy *policy, hikebox_storm storm) {
-    hikebox_policy second = HIKEBOX_INIT, third = HIKEBOX_INIT, fourth = HIKEBOX_INIT;
-    hikebox_totals totals = HIKEBOX_TOTALS;
-    size_t count = 99;
+    hikebox_policies policies = {*policy, HIKEBOX_INIT, HIKEBOX_INIT, HIKEBOX_INIT};
+    hikebox_totals totals;
     memset(&totals, 7, sizeof totals);
     totals.size = sizeof totals;
     hikebox_totals before = totals;
-    wants_at(__FILE__, line, hikebox_storm_play(policy, &storm, windows_told, 128, &count, &totals),
+    wants_at(__FILE__, line, hikebox_storm_play(&policies.first, &storm, windows_told, 128, &totals),
              HIKEBOX_OUT_OF_RANGE);
-    wants_at(
-        __FILE__, line,
-        hikebox_storm_play_populations(policy, &second, &third, &fourth, &storm, windows_told, 128, &count, &totals),
-        HIKEBOX_OUT_OF_RANGE);
-    holds_at(__FILE__, line, count == 99 && memcmp(&before, &totals, sizeof totals) == 0);
+    wants_at(__FILE__, line,
+             hikebox_storm_play_populations(&policies, &storm, &storm.of, 0, windows_told, 128, &totals),
+             HIKEBOX_OUT_OF_RANGE);
+    holds_at(__FILE__, line, memcmp(&before, &totals, sizeof totals) == 0);
+    *policy = policies.first;
 }
 // The same of `storm` with this field changed, by `policy`.
 #define refuses(field, number)                                                                                         \
@@ -1538,37 +1533,34 @@ static void storms_refused(void) {
     hikebox_pass pass = HIKEBOX_INIT;
     hikebox_storm storm = HIKEBOX_STORM;
     hikebox_totals totals = HIKEBOX_TOTALS;
-    size_t count = 99;
-    wants(hikebox_storm_play(&policy, &storm, windows_told, 120, &count, &totals), HIKEBOX_NO_ROOM);
-    holds(count == 121);
-    wants(hikebox_storm_play(&policy, &storm, windows_told, 121, &count, &totals), HIKEBOX_EMPTY);
+    wants(hikebox_storm_play(&policy, &storm, windows_told, 120, &totals), HIKEBOX_NO_ROOM);
+    holds(totals.windows == 121 && totals.size == sizeof totals && totals.requests == 0);
+    wants(hikebox_storm_play(&policy, &storm, windows_told, 121, &totals), HIKEBOX_EMPTY);
     wants(hikebox_budget_fixed(1, &pass), HIKEBOX_OK);
-    wants(hikebox_storm_play((hikebox_policy *)&pass, &storm, windows_told, 121, &count, &totals), HIKEBOX_WRONG_KIND);
+    wants(hikebox_storm_play((hikebox_policy *)&pass, &storm, windows_told, 121, &totals), HIKEBOX_WRONG_KIND);
     wants(hikebox_pass_free(&pass), HIKEBOX_OK);
 }
 
 // Requests at moments of their own: by hand, as by rates where there are none, and moments that are refused.
 static void requests_at_moments(void) {
-    hikebox_policy four[4] = {HIKEBOX_INIT, HIKEBOX_INIT, HIKEBOX_INIT, HIKEBOX_INIT};
+    hikebox_policies policies = HIKEBOX_POLICIES;
     hikebox_storm storm = HIKEBOX_STORM;
     hikebox_totals totals = HIKEBOX_TOTALS, by_rates = HIKEBOX_TOTALS;
-    size_t count = 99;
     uint64_t moments[] = {0, 0, 5, 5, 100};
-    wants(read_policy("{\"recurs\":0}", four), HIKEBOX_OK);
+    wants(read_policy("{\"recurs\":0}", &policies.first), HIKEBOX_OK);
 #define plays_moments(moments, length)                                                                                 \
-    hikebox_storm_play_arrivals(four, four + 1, four + 2, four + 3, &storm, moments, length, windows_told, 128,        \
-                                &count, &totals)
+    hikebox_storm_play_populations(&policies, &storm, moments, length, windows_told, 128, &totals)
     // the peer does a call a millisecond: the second of two waits for the first, and those in the outage are lost
     storm.outage_from = 5;
     storm.outage_to = 100;
     wants(plays_moments(moments, 5), HIKEBOX_OK);
-    holds(count == 1 && totals.requests == 5 && totals.won == 3 && totals.lost == 2 && totals.slowest == 2);
+    holds(totals.windows == 1 && totals.requests == 5 && totals.won == 3 && totals.lost == 2 && totals.slowest == 2);
     storm.until = 99;
     wants(plays_moments(moments, 5), HIKEBOX_OK);
     holds(totals.requests == 4 && totals.won == 2);
     storm.until = 60000;
     wants(plays_moments(moments, 0), HIKEBOX_OK);
-    wants(hikebox_storm_play(four, &storm, windows_told, 128, &count, &by_rates), HIKEBOX_OK);
+    wants(hikebox_storm_play(&policies.first, &storm, windows_told, 128, &by_rates), HIKEBOX_OK);
     holds(memcmp(&by_rates, &totals, sizeof totals) == 0 && totals.requests == 48000);
     moments[2] = 101;
     wants(plays_moments(moments, 5), HIKEBOX_OUT_OF_RANGE);
@@ -1582,40 +1574,39 @@ static void requests_at_moments(void) {
     wants(plays_moments(many, 1048577), HIKEBOX_OUT_OF_RANGE);
     wants(plays_moments(many, 1048576), HIKEBOX_OK);
     holds(totals.cut && totals.calls == 1);
-    wants(hikebox_policy_free(four), HIKEBOX_OK);
+    wants(hikebox_policy_free(&policies.first), HIKEBOX_OK);
     wants(plays_moments(moments, 2), HIKEBOX_EMPTY);
 #undef plays_moments
 }
 
 // The same of populations: each handle that is wrong in turn. All keep what they hold.
 static void populations_refused(void) {
-    hikebox_policy four[4] = {HIKEBOX_INIT, HIKEBOX_INIT, HIKEBOX_INIT, HIKEBOX_INIT};
+    hikebox_policies policies = HIKEBOX_POLICIES;
+    hikebox_policy *const four[] = {&policies.first, &policies.second, &policies.third, &policies.fourth};
     hikebox_pass pass = HIKEBOX_INIT;
     hikebox_storm storm = HIKEBOX_STORM;
     hikebox_totals totals = HIKEBOX_TOTALS;
-    size_t count = 99;
-#define plays_four(room)                                                                                               \
-    hikebox_storm_play_populations(four, four + 1, four + 2, four + 3, &storm, windows_told, room, &count, &totals)
+#define plays_four(room) hikebox_storm_play_populations(&policies, &storm, &storm.of, 0, windows_told, room, &totals)
     wants(plays_four(120), HIKEBOX_NO_ROOM);
-    holds(count == 121);
+    holds(totals.windows == 121);
     wants(plays_four(121), HIKEBOX_EMPTY);
-    wants(read_policy("{\"recurs\":1}", four + 1), HIKEBOX_OK);
+    wants(read_policy("{\"recurs\":1}", four[1]), HIKEBOX_OK);
     wants(plays_four(121), HIKEBOX_EMPTY);
-    wants(hikebox_policy_share(four + 1, four), HIKEBOX_OK);
-    wants(hikebox_policy_free(four + 1), HIKEBOX_OK);
+    wants(hikebox_policy_share(four[1], four[0]), HIKEBOX_OK);
+    wants(hikebox_policy_free(four[1]), HIKEBOX_OK);
     wants(hikebox_budget_fixed(1, &pass), HIKEBOX_OK);
     for (int at = 0; at < 4; at++) {
-        hikebox_policy kept = four[at];
-        four[at] = *(hikebox_policy *)&pass;
+        hikebox_policy kept = *four[at];
+        *four[at] = *(hikebox_policy *)&pass;
         wants(plays_four(120), HIKEBOX_NO_ROOM);
         wants(plays_four(121), HIKEBOX_WRONG_KIND);
-        holds(count == 121 && totals.requests == 0 && memcmp(four + at, &pass, sizeof pass) == 0);
-        four[at] = kept;
+        holds(totals.windows == 121 && totals.requests == 0 && memcmp(four[at], &pass, sizeof pass) == 0);
+        *four[at] = kept;
     }
     wants(plays_four(121), HIKEBOX_OK);
     holds(totals.requests == 48000);
     wants(hikebox_pass_free(&pass), HIKEBOX_OK);
-    wants(hikebox_policy_free(four), HIKEBOX_OK);
+    wants(hikebox_policy_free(four[0]), HIKEBOX_OK);
 }
 
 // A hundred requests at one moment, thirty of them of a second population.
@@ -1865,6 +1856,7 @@ static int calls(void) {
     hikebox_usage usage = HIKEBOX_USAGE;
     hikebox_next next = HIKEBOX_NEXT;
     hikebox_storm storm = HIKEBOX_STORM;
+    hikebox_policies policies = HIKEBOX_POLICIES;
     hikebox_totals totals = HIKEBOX_TOTALS;
     uint64_t number = 5, other, most;
     char text[128];
@@ -1880,14 +1872,17 @@ static int calls(void) {
     storm.rate = storm.seconds = 2;
     storm.outage_from = 0;
     storm.until = 100000;
-    again(hikebox_storm_play(&policy, &storm, windows_told, 128, &length, &totals));
+    again(hikebox_storm_play(&policy, &storm, windows_told, 128, &totals));
     holds(totals.requests == 4 && totals.lost == 4 && totals.calls == 12);
     storm.second = (hikebox_population){50, 500, 0};
-    again(hikebox_storm_play_populations(&policy, &second, &both, &none, &storm, windows_told, 128, &length, &totals));
+    policies.first = policy;
+    policies.second = second;
+    again(hikebox_storm_play_populations(&policies, &storm, moments, 0, windows_told, 128, &totals));
     holds(totals.requests == 4 && totals.lost == 4 && totals.calls == 12);
-    again(hikebox_storm_play_arrivals(&policy, &second, &both, &none, &storm, moments, 4, windows_told, 128, &length,
-                                      &totals));
+    again(hikebox_storm_play_populations(&policies, &storm, moments, 4, windows_told, 128, &totals));
     holds(totals.requests == 4 && totals.lost == 4 && totals.calls == 12);
+    policy = policies.first;
+    second = policies.second;
     again(make_node("cap", &number, 1, &policy, &none, &both));
     again(hikebox_policy_free(&both));
     again(make_node("follow", &number, 0, &policy, &second, &both));
@@ -1896,7 +1891,8 @@ static int calls(void) {
     again(hikebox_policy_free(&both));
     again(hikebox_policy_json(&second, text, sizeof text, &length));
     holds(length == sizeof json - 1 && memcmp(text, json, length) == 0);
-    again(hikebox_policy_course(&second, &course, &event, 1, lines, 3, &count, text, sizeof text, &length));
+    again(hikebox_policy_course(&second, &course, &event, 1, lines, 3, &count));
+    again(hikebox_policy_outputs(&second, &course, &event, 1, text, sizeof text, &length));
     holds(count == 3 && length == 26 && memcmp(text, "[][(0, 0)][(0, 0), (1, 1)]", 26) == 0);
     again(hikebox_budget_rising(3, &pass));
     again(hikebox_pass_split(&pass, &part));

@@ -95,7 +95,7 @@ done
   printf 'return 0;\n}\n'
   printf 'int populations(hikebox_policy policy, hikebox_storm storm, hikebox_window *windows);\n'
   printf 'int populations(hikebox_policy policy, hikebox_storm storm, hikebox_window *windows) {\n'
-  printf 'size_t count;\nhikebox_place place;\nhikebox_totals totals = HIKEBOX_TOTALS;\n'
+  printf 'hikebox_place place;\nhikebox_totals totals = HIKEBOX_TOTALS;\n'
   block 8
   printf 'return 0;\n}\n'
 } >"$work/page.c"

@@ -73,11 +73,12 @@ int plan(char **words) {
     hikebox_status status = read_policy(input, &policy);
     if (status != HIKEBOX_OK) return (int)status;
     read_again(&policy);
-    wants(hikebox_policy_course(&policy, &course, events, given, lines, 0, &needed, text, 0, &bytes),
-          course.steps ? HIKEBOX_NO_ROOM : HIKEBOX_OK);
-    wants(hikebox_policy_course(&policy, &course, events, given, lines, needed, &count, text, bytes, &length),
-          HIKEBOX_OK);
-    holds(count == needed && length == bytes);
+    hikebox_status short_of = course.steps ? HIKEBOX_NO_ROOM : HIKEBOX_OK;
+    wants(hikebox_policy_course(&policy, &course, events, given, lines, 0, &needed), short_of);
+    wants(hikebox_policy_course(&policy, &course, events, given, lines, needed, &count), HIKEBOX_OK);
+    wants(hikebox_policy_outputs(&policy, &course, events, given, text, 0, &bytes), short_of);
+    wants(hikebox_policy_outputs(&policy, &course, events, given, text, bytes, &length), HIKEBOX_OK);
+    holds(count == needed && length == bytes && length == (count ? lines[count - 1].text_to : 0));
     for (size_t at = 0, from = 0; at < count; from = lines[at++].text_to) {
         printf("%llu: %.*s", (unsigned long long)lines[at].moment, (int)(lines[at].text_to - from), text + from);
         if (lines[at].goes_on)
@@ -214,7 +215,8 @@ static void refuses(hikebox_policy *policy, hikebox_course course, const hikebox
     hikebox_line line = {1, 2, 3, true};
     size_t count = 77, length = 78;
     char text = '#';
-    wants(hikebox_policy_course(policy, &course, events, given, &line, 1, &count, &text, 1, &length), wanted);
+    wants(hikebox_policy_course(policy, &course, events, given, &line, 1, &count), wanted);
+    wants(hikebox_policy_outputs(policy, &course, events, given, &text, 1, &length), wanted);
     holds(line.moment == 1 && line.start == 2 && line.text_to == 3 && line.goes_on && text == '#');
     if (wanted != HIKEBOX_NO_ROOM) holds(count == 77 && length == 78);
 }
@@ -234,21 +236,23 @@ int courses(void) {
     char text[40];
     memset(text, '#', sizeof text);
     wants(read_policy(json, &policy), HIKEBOX_OK);
-    wants(hikebox_policy_course(&policy, &course, events, 2, lines, 4, &count, text, sizeof text, &length), HIKEBOX_OK);
+    wants(hikebox_policy_course(&policy, &course, events, 2, lines, 4, &count), HIKEBOX_OK);
+    wants(hikebox_policy_outputs(&policy, &course, events, 2, text, sizeof text, &length), HIKEBOX_OK);
     holds(count == 3 && length == sizeof wanted - 1 && !memcmp(text, wanted, length) && text[length] == '#');
     // the word of lane 3 makes the second delay 149, and the third event has the last words
     holds(lines[0].moment == 5 && lines[0].start == 105 && lines[0].text_to == 11 && lines[0].goes_on);
     holds(lines[1].moment == 125 && lines[1].start == 274 && lines[1].text_to == 22 && lines[1].goes_on);
     holds(lines[2].moment == 294 && lines[2].start == 0 && lines[2].text_to == 33 && !lines[2].goes_on);
     holds(lines[3].moment == 8 && lines[3].start == 8 && lines[3].text_to == 8 && lines[3].goes_on);
-    wants(hikebox_policy_course(&policy, &course, events, 2, lines, 2, &count, text, 33, &length), HIKEBOX_NO_ROOM);
-    wants(hikebox_policy_course(&policy, &course, events, 2, lines, 3, &count, text, 32, &length), HIKEBOX_NO_ROOM);
+    wants(hikebox_policy_course(&policy, &course, events, 2, lines, 2, &count), HIKEBOX_NO_ROOM);
+    wants(hikebox_policy_outputs(&policy, &course, events, 2, text, 32, &length), HIKEBOX_NO_ROOM);
     holds(count == 3 && length == 33 && !memcmp(text, wanted, length));
-    wants(hikebox_policy_course(&policy, &course, events, 2, lines, 3, &count, text, 33, &length), HIKEBOX_OK);
+    wants(hikebox_policy_course(&policy, &course, events, 2, lines, 3, &count), HIKEBOX_OK);
+    wants(hikebox_policy_outputs(&policy, &course, events, 2, text, 33, &length), HIKEBOX_OK);
     // no event is stepped, and none has to be there for that but the one that gives the input
-    wants(hikebox_policy_course(&policy, &(hikebox_course){sizeof(hikebox_course), 0, 0, 0}, events, 1, lines, 0,
-                                &count, text, 0, &length),
-          HIKEBOX_OK);
+    const hikebox_course none = {sizeof none, 0, 0, 0};
+    wants(hikebox_policy_course(&policy, &none, events, 1, lines, 0, &count), HIKEBOX_OK);
+    wants(hikebox_policy_outputs(&policy, &none, events, 1, text, 0, &length), HIKEBOX_OK);
     holds(count == 0 && length == 0);
     wants(hikebox_budget_fixed(1, &pass), HIKEBOX_OK);
     refuses(&empty, (hikebox_course){sizeof(hikebox_course), 4097, 0, 0}, events, 1, HIKEBOX_OUT_OF_RANGE);

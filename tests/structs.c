@@ -77,9 +77,11 @@ static void looks(void) {
 
 // A storm of which each population has this policy, as it is played with a policy for each.
 static hikebox_status plays_four(hikebox_policy *policy, const hikebox_storm *storm, hikebox_window *windows,
-                                 size_t *count, hikebox_totals *totals) {
-    hikebox_policy second = HIKEBOX_INIT, third = HIKEBOX_INIT, fourth = HIKEBOX_INIT;
-    return hikebox_storm_play_populations(policy, &second, &third, &fourth, storm, windows, 121, count, totals);
+                                 hikebox_totals *totals) {
+    hikebox_policies policies = {*policy, HIKEBOX_INIT, HIKEBOX_INIT, HIKEBOX_INIT};
+    const hikebox_status status = hikebox_storm_play_populations(&policies, storm, &storm->of, 0, windows, 121, totals);
+    *policy = policies.first;
+    return status;
 }
 
 static void plays(void) {
@@ -87,32 +89,32 @@ static void plays(void) {
     hikebox_policy policy = HIKEBOX_INIT, empty = HIKEBOX_INIT;
     hikebox_storm storm = HIKEBOX_STORM;
     hikebox_totals totals = HIKEBOX_TOTALS, told;
-    size_t count = 7, length = 7;
     holds(storm.size == sizeof storm && storm.rate == 800 && storm.period == 1);
-    holds(totals.size == sizeof totals && totals.requests == 0 && !totals.recovers && !totals.cut);
+    holds(totals.size == sizeof totals && totals.windows == 0 && totals.requests == 0 && !totals.recovers &&
+          !totals.cut);
     wants(read_policy("{\"recurs\":1}", &policy), HIKEBOX_OK);
     fill(windows, sizeof windows);
     for (int at = 0; at < WRONG_SIZES; at++) {
         fill(&told, sizeof told);
         told.size = wrong_size(sizeof told, at);
-        wants(hikebox_storm_play(&policy, &storm, windows, 121, &count, &told), HIKEBOX_WRONG_SIZE);
+        wants(hikebox_storm_play(&policy, &storm, windows, 121, &told), HIKEBOX_WRONG_SIZE);
         storm.size = wrong_size(sizeof storm, at);
-        wants(hikebox_storm_play(&policy, &storm, windows, 121, &count, &told), HIKEBOX_WRONG_SIZE);
+        wants(hikebox_storm_play(&policy, &storm, windows, 121, &told), HIKEBOX_WRONG_SIZE);
         holds(told.size == wrong_size(sizeof told, at));
         told.size = sizeof told;
-        wants(hikebox_storm_play(&policy, &storm, windows, 121, &count, &told), HIKEBOX_WRONG_SIZE);
-        wants(hikebox_storm_play(&empty, &storm, windows, 0, &count, &told), HIKEBOX_WRONG_SIZE);
-        wants(plays_four(&policy, &storm, windows, &count, &told), HIKEBOX_WRONG_SIZE);
-        wants(plays_four(&empty, &storm, windows, &count, &told), HIKEBOX_WRONG_SIZE);
-        holds(count == 7 && told.size == sizeof told && is_filled(&told, sizeof told));
+        wants(hikebox_storm_play(&policy, &storm, windows, 121, &told), HIKEBOX_WRONG_SIZE);
+        wants(hikebox_storm_play(&empty, &storm, windows, 0, &told), HIKEBOX_WRONG_SIZE);
+        wants(plays_four(&policy, &storm, windows, &told), HIKEBOX_WRONG_SIZE);
+        wants(plays_four(&empty, &storm, windows, &told), HIKEBOX_WRONG_SIZE);
+        holds(told.size == sizeof told && is_filled(&told, sizeof told));
         holds(is_filled(windows, sizeof windows));
         storm.size = sizeof storm;
     }
-    wants(hikebox_storm_play(&policy, &storm, windows, 121, &count, &totals), HIKEBOX_OK);
+    wants(hikebox_storm_play(&policy, &storm, windows, 121, &totals), HIKEBOX_OK);
     holds(totals.requests == 48000 && totals.size == sizeof totals);
     told = (hikebox_totals)HIKEBOX_TOTALS;
-    wants(plays_four(&policy, &storm, windows, &length, &told), HIKEBOX_OK);
-    holds(length == count && told.size == sizeof told && told.requests == 48000);
+    wants(plays_four(&policy, &storm, windows, &told), HIKEBOX_OK);
+    holds(told.windows == totals.windows && told.size == sizeof told && told.requests == 48000);
     holds(told.calls == totals.calls && told.won == totals.won && told.recovered == totals.recovered);
     wants(hikebox_policy_free(&policy), HIKEBOX_OK);
 }
@@ -130,15 +132,15 @@ static void steps(void) {
     fill(text, sizeof text);
     for (int at = 0; at < WRONG_SIZES; at++) {
         course.size = wrong_size(sizeof course, at);
-        wants(hikebox_policy_course(&policy, &course, &event, 1, lines, 10, &count, text, sizeof text, &length),
-              HIKEBOX_WRONG_SIZE);
-        wants(hikebox_policy_course(&empty, &course, &event, 0, lines, 0, &count, text, 0, &length),
-              HIKEBOX_WRONG_SIZE);
+        wants(hikebox_policy_course(&policy, &course, &event, 1, lines, 10, &count), HIKEBOX_WRONG_SIZE);
+        wants(hikebox_policy_course(&empty, &course, &event, 0, lines, 0, &count), HIKEBOX_WRONG_SIZE);
+        wants(hikebox_policy_outputs(&policy, &course, &event, 1, text, sizeof text, &length), HIKEBOX_WRONG_SIZE);
+        wants(hikebox_policy_outputs(&empty, &course, &event, 0, text, 0, &length), HIKEBOX_WRONG_SIZE);
         holds(count == 7 && length == 8 && is_filled(lines, sizeof lines) && is_filled(text, sizeof text));
     }
     course.size = sizeof course;
-    wants(hikebox_policy_course(&policy, &course, &event, 1, lines, 10, &count, text, sizeof text, &length),
-          HIKEBOX_OK);
+    wants(hikebox_policy_course(&policy, &course, &event, 1, lines, 10, &count), HIKEBOX_OK);
+    wants(hikebox_policy_outputs(&policy, &course, &event, 1, text, sizeof text, &length), HIKEBOX_OK);
     holds(count == 10 && lines[9].moment == 45 && length == 10);
     wants(hikebox_policy_free(&policy), HIKEBOX_OK);
 }
@@ -146,7 +148,7 @@ static void steps(void) {
 // The sizes of version 1.0.0, which each later 1.x accepts.
 int sizes(void) {
     holds(sizeof(hikebox_course) == 32 && sizeof(hikebox_usage) == 48 && sizeof(hikebox_next) == 48);
-    holds(sizeof(hikebox_storm) == 1176 && sizeof(hikebox_totals) == 128);
+    holds(sizeof(hikebox_storm) == 1176 && sizeof(hikebox_totals) == 136);
     holds(sizeof(hikebox_bucket) == 48 && sizeof(hikebox_breaker) == 40 && sizeof(hikebox_adaptive) == 40);
     holds(sizeof(hikebox_state) == 48);
     holds(sizeof(hikebox_kept) == 16 && sizeof(hikebox_request) == 32 && sizeof(hikebox_told) == 24);
@@ -166,10 +168,11 @@ static bool is_same_without(hikebox_policy *policy, int lane) {
     size_t counts[2], lengths[2];
     events[1].words[lane] = UINT32_MAX;
     memset(lines, 0, sizeof lines);
-    for (int at = 0; at < 2; at++)
-        wants(hikebox_policy_course(policy, &course, events + at, 1, lines[at], 10, counts + at, text[at],
-                                    sizeof text[at], lengths + at),
+    for (int at = 0; at < 2; at++) {
+        wants(hikebox_policy_course(policy, &course, events + at, 1, lines[at], 10, counts + at), HIKEBOX_OK);
+        wants(hikebox_policy_outputs(policy, &course, events + at, 1, text[at], sizeof text[at], lengths + at),
               HIKEBOX_OK);
+    }
     if (counts[0] != counts[1] || lengths[0] != lengths[1] || memcmp(text[0], text[1], lengths[0])) return false;
     for (size_t at = 0; at < counts[0]; at++)
         if (lines[0][at].moment != lines[1][at].moment || lines[0][at].start != lines[1][at].start) return false;

@@ -45,8 +45,12 @@ def is_skipped(app, what, name, obj, skip, options):
 
 
 def without_places(app, what, name, obj, options, signature, returned):
-    """A signature without the places in memory of the defaults that have no text of their own."""
+    """A signature without the places in memory of the defaults that have no text of their own, and with the values of
+    those that have the name of something of a module's own."""
     if signature:
+        values = getattr(obj, "__kwdefaults__", None) or {}
+        named = {name: f"{name}={value!r}" for name, value in values.items()}
+        signature = re.sub(r"(\w+)=_[\w.]+", lambda found: named.get(found[1], found[0]), signature)
         signature = re.sub(r"<(?:built-in |bound )?(?:function|method) (\w+)[^<>]*>", r"\1", signature)
     return signature, returned
 

@@ -21,10 +21,9 @@ static void check(hikebox_status status, const char *call) {
 static void play(hikebox_policy *policy, const hikebox_storm *storm, const char *name) {
     static hikebox_window windows[121]; /* until / window, and one more */
     hikebox_totals totals = HIKEBOX_TOTALS;
-    size_t count;
-    check(hikebox_storm_play(policy, storm, windows, 121, &count, &totals), "hikebox_storm_play");
-    printf("%s: %llu calls for %llu requests in %zu windows, ", name, (unsigned long long)totals.calls,
-           (unsigned long long)totals.requests, count);
+    check(hikebox_storm_play(policy, storm, windows, 121, &totals), "hikebox_storm_play");
+    printf("%s: %llu calls for %llu requests in %llu windows, ", name, (unsigned long long)totals.calls,
+           (unsigned long long)totals.requests, (unsigned long long)totals.windows);
     if (totals.recovers) {
         printf("recovered at %llu ms\n", (unsigned long long)totals.recovered);
     } else {

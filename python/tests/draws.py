@@ -1,4 +1,4 @@
-"""Tickets that several threads draw side by side."""
+"""Tickets that several threads draw side by side, and what scripts of a Redis server are told of its clock."""
 
 from __future__ import annotations
 
@@ -6,6 +6,16 @@ import threading
 from typing import Any, Callable, List, Optional
 
 from hikebox import Refusal, Ticket
+
+#: A server's time, the name of its start, and how long ago it says that that was, in the place of its own.
+SCRIPTED = """
+local asks = redis.call
+local redis = {call = function(name, ...)
+  if name == 'TIME' then return {'%d', '%d'} end
+  if name == 'INFO' then return 'run_id:%s\\r\\nuptime_in_seconds:%d\\r\\n' end
+  return asks(name, ...)
+end}
+"""
 
 
 def number(drawn: Any) -> Optional[int]:

@@ -180,7 +180,6 @@ def test_a_success_on_another_limit_makes_its_three_calls(limit: Any) -> None:
     begins = ["ask", "__init__", "admit", *moment, *word]
     ends = ["succeeded", *moment * limit.times_successes, "ended", "__del__"]
     assert sorted(functions(lambda: retrying(succeeds))) == sorted(["__call__", "run", *begins, *ends])
-    ends = ["_end", *ends]
     assert len(functions(lambda: asyncio.run(awaiting(succeeds_later)))) == len([*begins, *ends]) + 2
     assert retrying.statistics.won == 2 and awaiting.statistics.won == 1
 
@@ -199,3 +198,31 @@ def test_a_failure_that_is_retried_on_a_quota_goes_through_few_functions() -> No
         seen: Set[Any] = set(codes(lambda: retrying(call)))
     assert len(seen) <= 20
     assert len({code.co_filename for code in seen}) <= 9
+
+
+def test_a_coroutine_and_a_loop_go_through_few_more() -> None:
+    left = [1]
+    how: Any = {"policy": recurs(3) & spaced(0.001), "limit": Quota(99, 0, 3600), "sleep": lambda seconds: None}
+    retrying, awaiting = Retrying(**how), AsyncRetrying(**how)
+
+    async def call() -> None:
+        left[0] -= 1
+        if left[0] >= 0:
+            raise ValueError
+
+    def loop() -> None:
+        for attempt in retrying:
+            with attempt:
+                asyncio.run(call())
+
+    async def loop_later() -> None:
+        async for attempt in awaiting:
+            with attempt:
+                await call()
+
+    runs: List[Any] = [(lambda: asyncio.run(awaiting(call)), 22), (loop, 30), (lambda: asyncio.run(loop_later()), 31)]
+    for run, most in runs:
+        for _ in range(3):
+            left[0] = 1
+            seen: Set[Any] = set(codes(run))
+        assert len(seen) <= most

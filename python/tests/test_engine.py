@@ -43,6 +43,7 @@ TYPES: Dict[str, Any] = {
     "const hikebox_run *": (ctypes.POINTER(structs.Run),),
     "hikebox_usage *": (ctypes.POINTER(structs.Usage),),
     "const hikebox_storm *": (ctypes.POINTER(storms.Storm),),
+    "hikebox_policies *": (ctypes.POINTER(storms.Policies),),
     "hikebox_window *": (ctypes.POINTER(storms.Window),),
     "hikebox_totals *": (ctypes.POINTER(storms.Totals),),
     "hikebox_stored *": (ctypes.POINTER(leasing.Stored),),

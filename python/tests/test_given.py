@@ -23,6 +23,7 @@ import pytest
 
 from conftest import python_environment
 from hikebox import (
+    MAX_NUMBER,
     AsyncRepeating,
     AsyncRetrying,
     Budget,
@@ -501,6 +502,10 @@ def test_what_is_asked_for_has_a_bound(name: str, clock: VirtualClock) -> None:
     Retrying(recurs(1), max_retry_after=90, **how)(fails)
     Retrying(recurs(1), max_retry_after=None, **how)(fails)
     assert clock.slept == pytest.approx([21600.0, 90.0, 999999999999.0])
+    clock.slept.clear()
+    for endless in (1e306, float("inf")):
+        assert plain(recurs(1), max_retry_after=None, **{**how, name: lambda _: endless})(fails) is None
+    assert len(clock.slept) == 2 and min(clock.slept) >= MAX_NUMBER / 1000
     clock.slept.clear()
     plain(recurs(1), **{**how, name: lambda _: float("nan")})(fails)
     assert clock.slept == []

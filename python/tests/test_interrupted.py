@@ -20,7 +20,7 @@ import hikebox
 from hikebox import AsyncRetrying, Bucket, Budget, Quota, Retrying, recurs, spaced
 from hikebox._engine import machine as machines
 from hikebox.leased import FileStore, Leased, LeasedQuota
-from hikebox.retry import progress, state
+from hikebox.retry import state, steps
 
 
 @pytest.fixture(autouse=True)
@@ -220,7 +220,7 @@ def interrupted_at(step: int, run: Callable[[], Any]) -> bool:
 
 
 def test_a_machine_serves_one_retry_at_a_time_whatever_step_is_interrupted(monkeypatch: Any) -> None:
-    monkeypatch.setattr(progress, "is_crowded", lambda: True)
+    monkeypatch.setattr(steps, "is_crowded", lambda: True)
     retrying = AsyncRetrying(recurs(2) & spaced(0.001), sleep=lambda seconds: Waits())
 
     def run() -> None:

@@ -6,6 +6,9 @@ import asyncio
 import math
 import pickle
 import random
+import select
+import socket
+import threading
 import time
 from datetime import timedelta
 from pathlib import Path
@@ -13,7 +16,7 @@ from typing import Any, Dict, List, Tuple
 
 import pytest
 
-from draws import drawn_by, number
+from draws import SCRIPTED, drawn_by, number
 from processes import Workers, in_a_forked_child
 from hikebox import (
     AsyncRetrying,
@@ -492,51 +495,52 @@ def test_the_script_of_a_budget_leases_what_the_step_does(redis_server: Any) -> 
     assert leased > 200
 
 
-#: A server's time, and how long ago it says that it was started, in the place of its own.
-SCRIPTED = """
-local asks = redis.call
-local redis = {call = function(name, ...)
-  if name == 'TIME' then return {'%d', '%d'} end
-  if name == 'INFO' then return 'run_id:%s\\r\\nuptime_in_seconds:%d\\r\\n' end
-  return asks(name, ...)
-end}
-"""
-
-
 def test_windows_of_redis_by_a_scripted_clock(redis_server: Any) -> None:
     client, server = redis_server().client(), "5e" * 20
 
     def leased(count: int, limit: int, now: Tuple[int, int], uptime: int, period: int = 1000) -> Any:
+        """The count before, and the count of the window then."""
         script = SCRIPTED % (*now, server, uptime) + redis_store.TAKE_OF_WINDOW
-        return client.eval(script, 1, "w", period * 1000, count, limit, 2 * period)[2:]
+        micros, given = client.eval(script, 1, "w", period * 1000, count, limit, 2 * period)
+        assert micros == now[0] * 10**6 + now[1]
+        return given, client.get(f"w:{micros // (period * 1000)}")
 
-    def looked(now: Tuple[int, int], uptime: int) -> Any:
-        return client.eval(SCRIPTED % (*now, server, uptime) + redis_store.LOOK, 1, "w", 1_000_000)
+    def looked(now: Tuple[int, int], uptime: int, number: int = -1, start: str = "") -> Any:
+        script = SCRIPTED % (*now, server, uptime) + redis_store.IN_WINDOW + "return 'in it'"
+        return client.eval(script, 1, "w", *range(6), 1_000_000, number, start)
 
     # a window that began at 1000 s, of a server that was started at 997.25 s, or up to two seconds later
-    assert looked((1000, 250_000), 3) == [b"1000", b"250000", server.encode()]
-    assert looked((1000, 250_000), 2) == [b"1000", b"250000", None]
-    assert looked((1000, 999_999), 2)[2] is None and looked((1001, 0), 3)[2] is not None
-    assert leased(3, 9, (1000, 250_000), 2) == [0, -1] and client.keys("*") == []
-    assert leased(3, 9, (1000, 250_000), 3) == [0, 3] == leased(4, 9, (1001, 0), 9)[:1] + [3]
-    assert [leased(4, 9, (1000, 999_999), 9) for _ in range(3)] == [[3, 4], [7, 2], [9, 0]]
-    assert client.get("w:1000") == b"9" and client.get("w:1001") == b"4"
+    assert looked((1000, 250_000), 3) == [1_000_250_000, server.encode()]
+    assert looked((1000, 250_000), 2) == [1_000_250_000, None]
+    assert looked((1000, 999_999), 2)[1] is None and looked((1001, 0), 3)[1] is not None
+    # who names the window and the server's start goes on, and nobody else
+    assert looked((1000, 999_999), 9, 1000, server) == b"in it" == looked((1000, 0), 9, 1000, server)
+    for others in ((1001, server), (999, server), (1000, "5e" * 19 + "5f"), (-1, server)):
+        assert looked((1000, 999_999), 9, *others) == [1_000_999_999, server.encode()]
+    assert leased(3, 9, (1000, 250_000), 2) == (-1, None) and client.keys("*") == []
+    assert leased(3, 9, (1000, 250_000), 3) == (0, b"3") and leased(4, 9, (1001, 0), 9) == (0, b"4")
+    assert [leased(4, 9, (1000, 999_999), 9) for _ in range(3)] == [(3, b"7"), (7, b"9"), (9, b"9")]
     # a greater limit goes on where the lower one ended, and none at all counts nothing
-    assert leased(4, 10, (1000, 0), 9) == [9, 1] and leased(4, 0, (1002, 0), 9) == [0, 0]
-    assert client.get("w:1002") == b"0" and all(0 < client.pttl(key) <= 2000 for key in client.keys("w:*"))
+    assert leased(4, 10, (1000, 0), 9) == (9, b"10") and leased(4, 0, (1002, 0), 9) == (0, b"0")
+    assert client.get("w:1001") == b"4" and all(0 < client.pttl(key) <= 2000 for key in client.keys("w:*"))
     # a period of years: one window, which began before the server
-    assert leased(1, 9, (1000, 0), 500, period=10**12) == [0, -1]
+    assert leased(1, 9, (1000, 0), 500, period=10**12) == (-1, None)
 
 
-def test_a_redis_that_answers_something_else_leases_nothing(redis_server: Any, monkeypatch: Any) -> None:
+def test_a_redis_that_answers_something_else_leases_nothing(redis_server: Any) -> None:
     store = RedisStore(redis_server().client())
     store.begin("a")
-    for answer in ([0, -2], [-5, 2], [0, 3], [8, 2], [0, 2, 0], [0], "abc", 3, None):
-        monkeypatch.setattr(store, "_take", lambda keys, args: answer)
-        with pytest.raises(StoreError, match="^Redis: "):
+    for answer in ("-3", "{0, 2}", "{8}", "'abc'", "'7'", "nil"):
+        store._take = redis_store._Script(f"return {answer}")
+        with pytest.raises(StoreError, match="^Redis: expected a count of tickets, got "):
             store.take("a", 2, 9, None, time.monotonic)
-    monkeypatch.setattr(store, "_take", lambda keys, args: [7, 2])
-    assert store.take("a", 2, 9, None, time.monotonic) == Range(7, 2, None)
+    for answer in ("3", "{1}", "{1000, -3}", "{1000, 'b'}", "{'b', 1}", "{1, 2, 3}", "'abc'", "nil"):
+        store._take_of_window = redis_store._Script(f"return {answer}")
+        with pytest.raises(StoreError, match="^Redis: "):
+            store.take("a", 2, 9, 1000, time.monotonic)
+    for given, tickets in ((7, 2), (8, 1), (9, 0), (12, 0)):
+        store._take = redis_store._Script(f"return {given}")
+        assert store.take("a", 2, 9, None, time.monotonic) == Range(given, tickets, None)
 
 
 def test_a_client_that_decodes_answers(redis_server: Any) -> None:
@@ -564,6 +568,47 @@ def test_a_redis_that_was_started_anew_grants_nothing(redis_server: Any) -> None
     # (a lease that is refused counts nothing)
     durable = RedisStore(server.client(), durable=True)
     assert durable.take("a", 7, 20, None, time.monotonic)[:2] == (3, 7)
+
+
+def led(listening: socket.socket, ports: List[int]) -> None:
+    """Leads one client to the last of these ports, over one connection, as a proxy does."""
+    client, at = listening.accept()[0], 0
+    server: Any = None
+    with client:
+        while True:
+            ready = select.select([client] if server is None else [client, server], [], [])[0]
+            if server in ready:
+                client.sendall(server.recv(65536))
+            if client in ready:
+                asked = client.recv(65536)
+                if not asked:
+                    break
+                if at != ports[-1]:
+                    at = ports[-1]
+                    server = socket.create_connection(("127.0.0.1", at))
+                server.sendall(asked)
+
+
+def test_a_server_that_a_proxy_puts_in_the_place_of_another_grants_nothing(redis_server: Any) -> None:
+    import redis
+
+    first, second = redis_server(), redis_server()
+    ports = [first.port]
+    with socket.create_server(("127.0.0.1", 0)) as listening:
+        threading.Thread(target=led, args=(listening, ports), daemon=True).start()
+        client = redis.Redis(port=listening.getsockname()[1])
+        store = RedisStore(client)
+        store.begin("a")
+        assert store.take("a", 3, 10, None, time.monotonic) == Range(0, 3, None)
+        for key in first.client().keys("*"):
+            second.client().set(key, first.client().get(key))
+        ports.append(second.port)
+        for _ in range(2):
+            with pytest.raises(StoreLost, match="restarted"):
+                store.take("a", 3, 10, None, time.monotonic)
+        ports.append(first.port)
+        assert store.take("a", 3, 10, None, time.monotonic) == Range(3, 3, None)
+        client.connection_pool.disconnect()
 
 
 def test_8_processes_draw_100000_tickets_of_redis_each_once(workers: Drawers, redis_server: Any) -> None:

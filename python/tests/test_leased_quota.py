@@ -3,6 +3,7 @@
 from __future__ import annotations
 
 import asyncio
+import math
 import pickle
 import random
 import time
@@ -12,7 +13,7 @@ from typing import Any, Counter as Counts, Dict, List, Optional, Tuple
 
 import pytest
 
-from draws import drawn_by, number, repeated
+from draws import SCRIPTED, drawn_by, number, repeated
 from processes import Workers, in_a_forked_child
 from hikebox import (
     AsyncRetrying,
@@ -21,7 +22,6 @@ from hikebox import (
     RefusalReason,
     Retrying,
     StoreError,
-    StoreLost,
     TermsError,
     Usage,
     recurs,
@@ -31,6 +31,7 @@ from hikebox import (
 from hikebox._engine.calls import MAX_TICKETS
 from hikebox._engine.leasing import Stored, lease_of_quota
 from hikebox.leased import FileStore, Leased, LeasedQuota, QuotaRange, RedisStore
+from hikebox.leased.stores import Present
 from hikebox.budgets.terms import Terms
 
 #: A window that no test sees the end of.
@@ -557,35 +558,74 @@ def test_the_script_grants_what_the_step_of_a_lease_does(redis_server: Any) -> N
     assert granted_in_all > 400
 
 
-def test_the_script_grants_nothing_in_another_start_of_the_server(redis_server: Any) -> None:
+def test_a_window_that_is_known_is_asked_once(redis_server: Any) -> None:
+    """Requests that are told for a window which is over, or for another start of the server, count nowhere."""
     from hikebox.leased import redis_store
 
-    client = redis_server().client()
-    wanted = (3, 2, 9, 0, 2**32, 60_000)
-    script = redis_store.IN_START + redis_store.GRANT
-    assert client.eval(script, 1, "k", *wanted, "0" * 40) == b"restarted meanwhile" and client.keys("*") == []
-    assert client.eval(script, 1, "k", *wanted, client.info("server")["run_id"]) == [0, 2, 3]
-    store, now = RedisStore(client), [b"5000", b"0"]
-    store._look = lambda keys, args: [*now, b"0" * 40]
-    with pytest.raises(StoreLost, match="^Redis was restarted while it was asked for a lease of 'a'$"):
-        store.take_of_quota("a", Terms(9, 0, 1000), 2, lambda began: 3, time.monotonic)
-    store._look = lambda keys, args: [*now, client.info("server")["run_id"]]
-    assert store.take_of_quota("a", Terms(9, 0, 1000), 2, lambda began: 3, time.monotonic)[:2] == (0, 2)
-    assert client.hgetall("hikebox:{a}:quota:1000:5000") == {b"asked": b"3", b"given": b"2"}
+    store, start, told, sent = RedisStore(redis_server().client()), "5e" * 20, [], []
+
+    class Script(redis_store._Script):
+        def by(self, *words: Any) -> Any:
+            sent.append(words)
+            return super().by(*words)
+
+    def asked(began: float) -> int:
+        told.append(began)
+        return 3
+
+    def takes(number: int, of: str, now: int, uptime: int = 4000, until: float = math.inf) -> Any:
+        """What two tickets are taken of where this window was the latest one, and how often it asked; what it counts
+        then."""
+        told.clear()
+        sent.clear()
+        store._windows["a", 3_000_000] = (Present(number, 0.0, until), time.monotonic, of)
+        store._grant = Script(SCRIPTED % (now, 0, start, uptime) + redis_store.IN_WINDOW + redis_store.GRANT)
+        found = store.take_of_quota("a", Terms(90, 0, 3_000_000), 2, asked, time.monotonic)
+        counts = store.client.hgetall(f"hikebox:{{a}}:quota:3000000:{found.window}")
+        return found[:2], found.window, found.lost, len(sent), len(told), {name: int(n) for name, n in counts.items()}
+
+    # the window from 3000 s to 6000 s: the first lease of it looks at it first
+    assert takes(-1, "", 3000, until=-math.inf) == ((0, 2), 1, False, 2, 1, {b"asked": 3, b"given": 2})
+    assert takes(1, start, 3000) == ((2, 2), 1, False, 1, 1, {b"asked": 6, b"given": 4})
+    assert takes(1, start, 5000) == ((4, 2), 1, False, 1, 1, {b"asked": 9, b"given": 6})
+    # it is over by the server's clock, which may leap or go back, or by the process's
+    assert takes(1, start, 6000) == ((0, 2), 2, False, 2, 1, {b"asked": 0, b"given": 2})
+    assert takes(1, start, 600_000) == ((0, 2), 200, False, 2, 1, {b"asked": 0, b"given": 2})
+    assert takes(2, start, 5000) == ((6, 2), 1, False, 2, 1, {b"asked": 9, b"given": 8})
+    assert takes(1, start, 5000, until=-math.inf) == ((8, 2), 1, False, 2, 1, {b"asked": 12, b"given": 10})
+    # it is known of another start of the server: the present one may have begun in the window, or did before it
+    assert takes(1, "5f" * 20, 5000, uptime=2001) == ((0, 0), 1, True, 1, 1, {b"asked": 12, b"given": 10})
+    assert takes(1, "5f" * 20, 5000, uptime=2002) == ((10, 2), 1, False, 2, 1, {b"asked": 12, b"given": 12})
+    # it is known by another clock
+    store._windows["a", 3_000_000] = (Present(1, 0.0, math.inf), time.monotonic, start)
+    sent.clear()
+    assert store.take_of_quota("a", Terms(90, 0, 3_000_000), 2, asked, lambda: time.monotonic())[:2] == (12, 2)
+    assert len(sent) == 2
+    # of names without end some are forgotten
+    for each in range(1100):
+        assert store.take_of_quota(f"n{each}", Terms(90, 0, 3_000_000), 2, asked, time.monotonic)[:2] == (0, 2)
+    assert 0 < len(store._windows) <= 1024
+
+    def knows_none() -> None:
+        assert store._windows == {}
+
+    in_a_forked_child(knows_none)
 
 
-def test_a_redis_that_answers_something_else_grants_nothing(redis_server: Any, monkeypatch: Any) -> None:
+def test_a_redis_that_answers_something_else_grants_nothing(redis_server: Any) -> None:
     from hikebox.leased import redis_store
 
     store = RedisStore(redis_server().client())
     time.sleep(3.2)
     quota = LeasedQuota(store, "a", 9, 0, 0.5, lease=2, again_after=0)
     for answer in ("{0, -2, 0}", "{-5, 2, 0}", "{0, 2, -1}", "{0, 3, 0}", "{8, 2, 0}", "{0, 2}", "'abc'", "3", "nil"):
-        monkeypatch.setattr(redis_store, "GRANT", f"return {answer}")
+        store._grant = redis_store._Script(f"{redis_store.IN_WINDOW}return {answer}")
         refused = quota.draw()
         assert isinstance(refused, Refusal) and refused.reason is RefusalReason.UNREACHABLE
-        assert "expected the count of a window and at most 2 tickets of it, got" in str(refused.error)
-    monkeypatch.setattr(redis_store, "GRANT", "return {7, 2, 0}")
+        expected = "expected the count of a window and at most 2 tickets of it, got"
+        expected = "windows of 500 ms end before it answers" if answer == "{0, 2}" else expected
+        assert expected in str(refused.error)
+    store._grant = redis_store._Script(f"{redis_store.IN_WINDOW}return {{7, 2, 0}}")
     assert number(quota.draw()) == 7
 
 
@@ -602,7 +642,7 @@ def test_a_client_that_repeats_tells_requests_once(lost_at: str, redis_server: A
     lost: List[bool] = []
 
     def notes(connection: Any, command: Any, *more: Any, **options: Any) -> Any:
-        is_lease = any(b"HINCRBY" in bytes(part) for part in command)
+        is_lease = any(b"{%s}:quota:5000:%d" % (name.encode(), time.time() // 5) in bytes(part) for part in command)
         sent.append(is_lease)
         if is_lease and not lost and lost_at == "the question":
             lost.append(True)

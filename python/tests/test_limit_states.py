@@ -3,6 +3,7 @@
 from __future__ import annotations
 
 import asyncio
+import sys
 import threading
 from typing import Any, Callable, List, Tuple
 
@@ -295,6 +296,39 @@ def test_what_hears_of_a_change_may_call_the_breaker_and_raise(clock: Any, caplo
     admitted(breaker).failed()
     assert told == [(CLOSED, OPEN), (OPEN, CLOSED)]
     assert [record.getMessage().partition(" of ")[0] for record in caplog.records] == ["on_change", "on_change"]
+
+
+def test_after_an_exception_at_any_step_changes_are_told_again() -> None:
+    class Interrupt(BaseException):
+        pass
+
+    step, left = 0, [0]
+
+    def trace(frame: Any, event: str, _: Any) -> Any:
+        if not frame.f_code.co_filename.endswith("breaker.py"):
+            return None
+        if event == "line":
+            left[0] -= 1
+            if left[0] < 0:
+                sys.settrace(None)
+                raise Interrupt()
+        return trace
+
+    while left[0] <= 0:
+        breaker, told = changes_of()
+        step, left[0] = step + 1, step
+        sys.settrace(trace)
+        try:
+            breaker.open(60)
+        except Interrupt:
+            pass
+        finally:
+            sys.settrace(None)
+        breaker.close()
+        told.clear()
+        breaker.open(60)
+        assert told[-1:] == [("closed", "open")], step
+    assert step > 20
 
 
 def test_a_forked_child_tells_of_its_own(clock: Any) -> None:

@@ -27,6 +27,7 @@ from hikebox import (
     InFlight,
     NotAdmitted,
     Pace,
+    PerKey,
     Quota,
     RefusalReason,
     Retrying,
@@ -645,6 +646,19 @@ def test_misuse() -> None:
         both(breaker, "aws")  # type: ignore[arg-type]
     with pytest.raises(TypeError, match="belongs to its process"):
         pickle.dumps(breaker)
+
+
+@pytest.mark.parametrize(
+    "make",
+    [
+        lambda: PerKey(Budget, most=-(10**5000)),
+        lambda: Breaker(1, 10**5000),
+        lambda: Retrying(recurs(1), max_retry_after=-(10**5000)),
+    ],
+)
+def test_a_number_of_too_many_digits_is_told_as_that(make: Callable[[], Any]) -> None:
+    with pytest.raises((TypeError, TermsError), match=", got a number of too many digits$"):
+        make()
 
 
 def test_a_request_is_copied_as_itself() -> None:

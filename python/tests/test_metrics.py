@@ -6,6 +6,7 @@ import asyncio
 import builtins
 import gc
 import logging
+import signal
 import sys
 from functools import partial
 from pathlib import Path
@@ -418,6 +419,35 @@ def test_a_coroutine_that_the_collector_closes_is_counted_with_the_next_one(coun
         Retrying(stop())(succeeds)
         assert len(counted.all("calls_total")) == 2
         metric.clear()
+
+
+def test_a_call_of_a_signals_handler_is_counted_after_the_one_that_it_interrupts(
+    counted: Counted, monkeypatch: Any
+) -> None:
+    class Interrupted:
+        """A lock that cannot be taken again, under which a signal comes once."""
+
+        def __init__(self) -> None:
+            self.is_held = self.was_held = False
+
+        def __enter__(self) -> None:
+            assert not self.is_held
+            self.is_held = True
+            if not self.was_held:
+                self.was_held = True
+                signal.raise_signal(signal.SIGINT)
+
+        def __exit__(self, *_: Any) -> None:
+            self.is_held = False
+
+    metric = counted.registry._names_to_collectors["hikebox_calls_total"]
+    monkeypatch.setattr(metric, "_lock", Interrupted())
+    before = signal.signal(signal.SIGINT, lambda *_: Retrying(stop())(succeeds))
+    try:
+        Retrying(stop())(len, "seven")
+    finally:
+        signal.signal(signal.SIGINT, before)
+    assert counted.all("calls_total") == {("builtins.len", "won"): 1, (f"{HERE}.succeeds", "won"): 1}
 
 
 def test_what_a_watcher_raises_ends_no_call(caplog: Any) -> None:

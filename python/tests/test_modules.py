@@ -82,11 +82,11 @@ def loaded_by(text: str) -> List[str]:
     return re.findall(r"\| +(hikebox[\w.]*)$", ran.stderr, re.M)
 
 
-def test_import_hikebox_loads_nothing_of_storms_of_the_lab_or_of_adapters() -> None:
+def test_import_hikebox_loads_nothing_of_limits_of_storms_of_the_lab_or_of_adapters() -> None:
     loaded = loaded_by("import hikebox")
     assert "hikebox.retrying" in loaded
     parts = ["advice", "storms", "traffic", "lab", "adapters", "cli", "sweeps", "leased", "metrics"]
-    parts += ["_engine.kept", "_engine.leasing", "_engine.storms"]
+    parts += ["limits", "pace", "_engine.kept", "_engine.leasing", "_engine.limits", "_engine.paces", "_engine.storms"]
     assert [name for name in loaded if name.startswith(tuple(f"hikebox.{part}" for part in parts))] == []
 
 
@@ -106,6 +106,8 @@ def test_hikebox_plan_loads_nothing_of_storms_or_of_the_lab() -> None:
     assert "hikebox.policy.parsing" in loaded
     parts = (
         "advice",
+        "limits",
+        "pace",
         "storms",
         "traffic",
         "lab",
@@ -119,9 +121,14 @@ def test_hikebox_plan_loads_nothing_of_storms_or_of_the_lab() -> None:
     assert [name for name in loaded if name.startswith(tuple(f"hikebox.{part}" for part in parts))] == []
 
 
-def test_storms_are_loaded_when_they_are_asked_for() -> None:
+def test_limits_and_storms_are_loaded_when_they_are_asked_for() -> None:
     asks = "import hikebox; assert 'Storm' in dir(hikebox); from hikebox import storm; assert hikebox.storm is storm"
     assert "hikebox.storms.storm" in loaded_by(asks)
+    retries = "import hikebox; hikebox.Retrying(hikebox.recurs(1), limit=hikebox.Quota(1, 1, 1))(int)"
+    assert "hikebox.limits" not in loaded_by(retries)
+    asks = "import hikebox; assert hikebox.Breaker is hikebox.limits.Breaker and hikebox.Pace is hikebox.pace.Pace"
+    assert {"hikebox.limits", "hikebox.pace"} <= set(loaded_by(asks))
+    assert "hikebox.pace" in loaded_by("from hikebox import *; Pace(1, 1)")
     assert "hikebox.storms.storm" in loaded_by("from hikebox import *; storm(once())")
     with pytest.raises(AttributeError, match="^module 'hikebox' has no attribute 'nonsense'$"):
         getattr(hikebox, "nonsense")

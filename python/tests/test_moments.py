@@ -12,6 +12,7 @@ import pytest
 import reference
 
 from hikebox import (
+    MAX_NUMBER,
     AsyncRetrying,
     Breaker,
     Budget,
@@ -255,6 +256,29 @@ def test_a_clock_that_is_set_back_is_not_waited_for(clock: VirtualClock) -> None
 
     Retrying(recurs(2) & spaced(1), clock=clock, sleep=clock.sleep, fallback=lambda state: None)(call)
     assert clock.slept == [1.0, 1.0]
+
+
+@pytest.mark.parametrize("start", [MAX_NUMBER / 1000 - 2, MAX_NUMBER / 1000 + 1, 1e18])
+@pytest.mark.parametrize("is_limited", [False, True])
+@pytest.mark.parametrize("leaps", [False, True])
+def test_a_clock_past_the_last_moment_ends_no_retry(start: float, is_limited: bool, leaps: bool) -> None:
+    """Such as one that counts nanoseconds, or that leaps there during a call."""
+    clock = VirtualClock(0.0 if leaps else start)
+    quota = Quota(9, 0, 60, clock=clock)
+
+    def call() -> None:
+        clock.advance(max(0.0, start - clock()))
+        raise ConnectionError()
+
+    retrying = Retrying(
+        recurs(2) & spaced(1),
+        limit=quota if is_limited else None,
+        clock=clock,
+        sleep=clock.sleep,
+        fallback=lambda state: state.ending,
+    )
+    assert retrying(call) is Ending.SCHEDULE_DONE
+    assert clock.slept == [1.0, 1.0] and quota.close() == (2 if is_limited else 0)
 
 
 # Deadlines

@@ -644,7 +644,8 @@ def test_what_the_page_on_storms_says_of_clients_beside_is_so() -> None:
     assert (with_quota.totals.recovered_ms, without.totals.recovered_ms) == (27_000, 29_000)
     assert "at 27 s if half of the requests have none, and at 29 s if all have none" in page
     won = [1000 * each.totals.won // each.totals.requests for each in with_quota.populations]
-    assert won == [781, 980] and "78.1 % of your requests succeed, and 98.0 % of the others" in page
+    assert won == [781, 980]  # 78.16.. and 98.01..
+    assert "78.2 % of your requests succeed, and 98.0 % of the others" in page
 
 
 def test_what_the_page_on_storms_says_of_its_sweeps_is_so() -> None:

@@ -4,7 +4,6 @@ spelt, told and drawn."""
 from __future__ import annotations
 
 import contextlib
-import ctypes
 import importlib
 import io
 import json
@@ -220,19 +219,18 @@ def test_what_has_the_wrong_type_is_a_type_error(beside: Any, place: str) -> Non
         storm(recurs(1), beside=beside)
 
 
-def test_the_engine_has_four_handles_and_want_of_memory_is_told(monkeypatch: pytest.MonkeyPatch) -> None:
+def test_the_engine_has_each_policy_and_want_of_memory_is_told(monkeypatch: pytest.MonkeyPatch) -> None:
     asked: List[Any] = []
 
-    def no_memory(*given: Any) -> int:
-        four = [handle._obj for handle in given[:4]]
-        asked.append((len(set(map(ctypes.addressof, four))), [bool(handle.held) for handle in four]))
+    def no_memory(policies: Any, *_: Any) -> int:
+        asked.append([bool(handle.held) for handle in policies._obj])
         return calls.NO_MEMORY
 
     monkeypatch.setattr(engines_storms, "_patient", {"hikebox_storm_play_populations": no_memory}.__getitem__)
-    for beside in ([Population(0.3, FULL)], [Population(0.1, FULL)] * 3):
+    for beside in ([], [Population(0.3, FULL)], [Population(0.1, FULL)] * 3):
         with pytest.raises(MemoryError, match="^hikebox_storm_play_populations: "):
             storm(FULL, beside=beside)
-    assert asked == [(4, [True, True, False, False]), (4, [True] * 4)]
+    assert asked == [[True, False, False, False], [True, True, False, False], [True] * 4]
 
 
 # How they are spelt

@@ -18,9 +18,13 @@ import pytest
 from conftest import python_environment
 from test_cli import hikebox, start  # noqa: F401
 
+from hikebox.cli.terminal import processes
+
 PROGRAM = [sys.executable, "-m", "hikebox"]
 #: No wait between attempts.
 AT_ONCE = ["--policy", "recurs(2)"]
+#: How many seconds a test waits for what has to come, on a machine that is busy with other things.
+PATIENCE = 150.0
 
 
 def is_alive(process: int) -> bool:
@@ -32,7 +36,7 @@ def is_alive(process: int) -> bool:
     return state not in "ZX"
 
 
-def wait_for(path: Path, seconds: float = 30.0) -> str:
+def wait_for(path: Path, seconds: float = PATIENCE) -> str:
     """What is in a file, once there is a line in it."""
     until = time.monotonic() + seconds
     while time.monotonic() < until:
@@ -287,7 +291,7 @@ class Shell:
     def types(self, text: str) -> None:
         os.write(self.file, text.encode())
 
-    def expects(self, pattern: str, seconds: float = 40.0) -> "re.Match[str]":
+    def expects(self, pattern: str, seconds: float = PATIENCE) -> "re.Match[str]":
         """Waits for what the pattern says, and takes all up to there."""
         until = time.monotonic() + seconds
         while True:
@@ -300,6 +304,21 @@ class Shell:
             if select.select([self.file], [], [], left)[0]:
                 with contextlib.suppress(OSError):
                     self.seen += os.read(self.file, 4096).decode(errors="replace")
+
+    def gives(self, process: int) -> None:
+        """Waits until the group of a process has the terminal, and none of the group is stopped."""
+        group, until = os.getpgid(process), time.monotonic() + PATIENCE
+        while os.tcgetpgrp(self.file) != group or any(
+            each.state == "T" for each in processes().values() if each.group == group
+        ):
+            assert time.monotonic() < until, f"expected the group {group}, got {os.tcgetpgrp(self.file)}"
+            time.sleep(0.01)
+
+    def begins(self) -> int:
+        """Waits until a command says `up` and its id, and its group has the terminal."""
+        process = int(self.expects(r"up (\d+)\.")[1])
+        self.gives(process)
+        return process
 
     def close(self) -> None:
         with contextlib.suppress(OSError):
@@ -338,7 +357,7 @@ def test_a_command_reads_the_terminal(shell: Shell) -> None:
     shell.expects("over 0")
     # it is in the foreground, as programs look for that draw a bar, or write a log where they are not
     test = "import os; print('front' if os.tcgetpgrp(0) == os.getpgrp() else 'back')"
-    shell.types(f'{RUN} -- {sys.executable} -c "import time; time.sleep(0.2); {test}"\n')
+    shell.types(f'{RUN} -- {sys.executable} -c "{test}"\n')
     shell.expects("front")
     shell.types('stty -a | grep -o " echo "; echo still here\n')
     shell.expects("still here")
@@ -347,21 +366,19 @@ def test_a_command_reads_the_terminal(shell: Shell) -> None:
 def test_control_c_reaches_the_command_and_ends_the_run(shell: Shell) -> None:
     # one that dies by it, one that ends as if it had failed, and one that has a grandchild
     for script, status in (
-        ("echo up; exec sleep 60", 130),
-        ('trap "exit 2" INT; echo up; while :; do sleep 0.05; done', 2),
-        ('echo up; sh -c "sleep 60; true"', 130),
+        ("echo up $$.; exec sleep 60", 130),
+        ('trap "exit 2" INT; echo up $$.; while :; do sleep 0.05; done', 2),
+        ('echo up $$.; sh -c "sleep 60; true"', 130),
     ):
         shell.types(f"{RUN} --policy 'recurs(9)' -- sh -c '{script}'; echo over $?\n")
-        shell.expects("up")
-        time.sleep(0.5)
+        shell.begins()
         shell.types("\x03")
         shell.expects(f"over {status}\r")
         assert "up" not in shell.seen
     # a command that goes on, as a shell of its own would, may be interrupted again
-    script = 'trap "echo heard" INT; echo up; n=0; while [ $n -lt 2 ]; do read x && n=$((n+1)); done; exit 4'
+    script = 'trap "echo heard" INT; echo up $$.; n=0; while [ $n -lt 2 ]; do read x && n=$((n+1)); done; exit 4'
     shell.types(f"{RUN} -- bash -c '{script}'; echo over $?\n")
-    shell.expects("up")
-    time.sleep(0.5)
+    shell.begins()
     shell.types("\x03")
     shell.expects("heard")
     shell.types("a\nb\n")
@@ -377,7 +394,7 @@ def test_control_c_between_two_attempts_ends_the_run(shell: Shell) -> None:
 
 def stopped(shell: Shell) -> None:
     """Asks the shell for its jobs until one is stopped."""
-    until = time.monotonic() + 40
+    until = time.monotonic() + PATIENCE
     while True:
         shell.types("jobs; echo all''listed\n")
         if "Stopped" in shell.expects("(?s).*alllisted")[0]:
@@ -387,24 +404,22 @@ def stopped(shell: Shell) -> None:
 
 
 def test_control_z_stops_both_and_fg_continues_both(shell: Shell, tmp_path: Path) -> None:
-    shell.types(f"{RUN} -- sh -c 'echo up; read x; echo got $x'\n")
-    shell.expects("up")
-    time.sleep(0.5)
+    shell.types(f"{RUN} -- sh -c 'echo up $$.; read x; echo got $x'\n")
+    command = shell.begins()
     for _ in range(2):
         shell.types("\x1a")
         shell.expects("Stopped")
         shell.types("echo the''shell; fg\n")
         shell.expects("theshell")
         shell.expects("run")
-        time.sleep(0.5)
+        shell.gives(command)
     shell.types("line\n")
     shell.expects("got line")
     # in the background it goes on, and is stopped where it reads the terminal
     file = tmp_path / "file"
     waits = f"until [ -e {file} ]; do sleep 0.05; done"
-    shell.types(f"{RUN} -- sh -c 'echo up; {waits}; echo slept; read x; echo got $x'\n")
-    shell.expects("up")
-    time.sleep(0.5)
+    shell.types(f"{RUN} -- sh -c 'echo up $$.; {waits}; echo slept; read x; echo got $x'\n")
+    command = shell.begins()
     shell.types("\x1a")
     shell.expects("Stopped")
     shell.types("bg\n")
@@ -412,17 +427,16 @@ def test_control_z_stops_both_and_fg_continues_both(shell: Shell, tmp_path: Path
     shell.expects("\nslept")
     stopped(shell)
     shell.types("fg\n")
-    time.sleep(0.5)
+    shell.gives(command)
     shell.types("more\n")
     shell.expects("got more")
 
 
 def test_a_command_that_does_not_heed_control_z_goes_on(shell: Shell) -> None:
-    shell.types(f"{RUN} -- sh -c 'trap \"\" TSTP; echo up; read x; echo got $x'; echo over $?\n")
-    shell.expects("up")
-    time.sleep(0.5)
+    shell.types(f"{RUN} -- sh -c 'trap \"\" TSTP; echo up $$.; read x; echo got $x'; echo over $?\n")
+    shell.begins()
     shell.types("\x1a")
-    time.sleep(0.5)
+    time.sleep(0.5)  # (in which nothing happens)
     shell.types("word\n")
     shell.expects("got word")
     shell.expects("over 0")
@@ -445,7 +459,7 @@ def test_control_z_while_the_rest_of_an_attempt_is_ended(shell: Shell) -> None:
     found = shell.expects(r"pids (\d+) (\d+)\.")
     group, left = os.getpgid(int(found[1])), int(found[2])
     # (the command is over once hikebox has the terminal again)
-    until = time.monotonic() + 40
+    until = time.monotonic() + PATIENCE
     while os.tcgetpgrp(shell.file) != group:
         assert time.monotonic() < until
         time.sleep(0.01)
@@ -461,16 +475,14 @@ def test_control_z_while_the_rest_of_an_attempt_is_ended(shell: Shell) -> None:
 
 def test_a_pager_beside_it_keeps_the_terminal(shell: Shell) -> None:
     pager = f"{sys.executable} -c \"import sys; print('asks', flush=True); print('key', open('/dev/tty').readline())\""
-    shell.types(f"{RUN} --policy 'recurs(0)' -- sh -c 'sleep 2; echo out' | {pager}; echo over\n")
-    shell.expects("asks")
-    time.sleep(0.5)
+    shell.types(f"{RUN} --policy 'recurs(0)' -- sh -c 'echo begun >&2; sleep 2; echo out' | {pager}; echo over\n")
+    shell.expects("(?s)begun.*asks|asks.*begun")
     shell.types("q\n")
     shell.expects("key q")
     shell.expects("over")
     # a command that reads in a pipe is put in the foreground once it does
     shell.types(f"{RUN} -- sh -c 'echo asks >&2; read x; echo got $x' | cat; echo over\n")
     shell.expects("asks")
-    time.sleep(0.5)
     shell.types("b\n")
     shell.expects("got b")
     shell.expects("over")
@@ -478,10 +490,11 @@ def test_a_pager_beside_it_keeps_the_terminal(shell: Shell) -> None:
 
 def test_control_c_in_a_script_ends_the_script(shell: Shell, tmp_path: Path) -> None:
     script = tmp_path / "script"
-    script.write_text(f"trap 'echo script heard; exit 9' INT\n{RUN} -- sh -c 'echo up; exec sleep 60'\necho went on\n")
+    script.write_text(
+        f"trap 'echo script heard; exit 9' INT\n{RUN} -- sh -c 'echo up $$.; exec sleep 60'\necho went on\n"
+    )
     shell.types(f"bash {script}; echo over $?\n")
-    shell.expects("up")
-    time.sleep(0.5)
+    shell.begins()
     shell.types("\x03")
     shell.expects("script heard")
     shell.expects("over 9\r")
@@ -509,7 +522,7 @@ def test_a_hikebox_that_is_killed_leaves_the_terminal(shell: Shell) -> None:
     assert len(started) == 2
     os.kill(hikebox_id, signal.SIGKILL)
     shell.expects("over 137\r")
-    until = time.monotonic() + 40
+    until = time.monotonic() + PATIENCE
     while any(is_alive(process) for process in started) and time.monotonic() < until:
         time.sleep(0.02)
     assert not any(is_alive(process) for process in started)
@@ -536,41 +549,42 @@ def test_who_started_it_keeps_the_terminal_where_it_goes_on(shell: Shell, tmp_pa
     file.touch()
     for line in ("slept", "over"):
         shell.expects(line)
+    file.unlink()
     script.write_text(
-        f"import subprocess, time\nstarted = subprocess.Popen({[*PROGRAM, 'run', '--', 'sleep', '1']!r})\n"
-        "time.sleep(0.7)\nprint('asks', flush=True)\nprint('got', input())\nprint('ended', started.wait())\n"
+        f"import subprocess\nstarted = subprocess.Popen({[*PROGRAM, 'run', '--', 'sh', '-c', waits]!r})\n"
+        "print('got', input(), flush=True)\nprint('ended', started.wait())\n"
     )
     shell.types(f"{sys.executable} {script}\n")
-    shell.expects("asks")
+    shell.expects("up")
     shell.types("word\n")
     shell.expects("got word")
+    file.touch()
     shell.expects("ended 0")
     # one that waits does not
-    shell.types(f"sh -c '{RUN} -- sh -c \"read x; echo got \\$x\"; echo over'\n")
-    time.sleep(0.7)
+    shell.types(f"sh -c '{RUN} -- sh -c \"echo asks; read x; echo got \\$x\"; echo over'\n")
+    shell.expects("asks")
     shell.types("line\n")
     shell.expects("got line")
 
 
 def test_two_in_a_pipe_and_one_in_the_other(shell: Shell) -> None:
-    shell.types(f"{RUN} -- sh -c 'read x; echo first $x' | {RUN} -- sed s/first/second/; echo over $?\n")
-    time.sleep(0.5)
+    shell.types(f"{RUN} -- sh -c 'echo asks >&2; read x; echo first $x' | {RUN} -- sed s/first/second/; echo over $?\n")
+    shell.expects("asks")
     shell.types("word\n")
     shell.expects("second word")
-    shell.types(f"{RUN} -- {RUN} -- sh -c 'echo up; read x; echo got $x; exec sleep 60'; echo over $?\n")
-    shell.expects("up")
+    shell.types(f"{RUN} -- {RUN} -- sh -c 'echo up $$.; read x; echo got $x; exec sleep 60'; echo over $?\n")
+    command = shell.begins()
     shell.types("word\n")
     shell.expects("got word")
-    time.sleep(0.5)
+    shell.gives(command)
     shell.types("\x03")
     shell.expects("over 130\r")
-    shell.types(f"{RUN} -- {RUN} -- sh -c 'echo up; read x; echo got $x'; echo over $?\n")
-    shell.expects("up")
-    time.sleep(0.5)
+    shell.types(f"{RUN} -- {RUN} -- sh -c 'echo up $$.; read x; echo got $x'; echo over $?\n")
+    command = shell.begins()
     shell.types("\x1a")
     shell.expects("Stopped")
     shell.types("fg\n")
     shell.expects("run")
-    time.sleep(0.5)
+    shell.gives(command)
     shell.types("more\n")
     shell.expects("got more")

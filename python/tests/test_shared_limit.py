@@ -110,6 +110,27 @@ def test_a_breaker_over_two_processes(tmp_path: Path) -> None:
     assert one.request().admit() is None
 
 
+@pytest.mark.parametrize("turns", [1, 2, 999])
+def test_a_breaker_on_a_machine_that_runs_for_years(turns: int, tmp_path: Path) -> None:
+    # 2^37 ms are four years and four months
+    limit = SharedLimit(FileStore(tmp_path), "a", Breaker(1, spaced(30), probe_deadline=60))
+    limit.clock = now = VirtualClock(2.0**37 / 1000 * turns - 10)
+    admitted(limit).failed()
+    assert reason(limit.request().admit()) is RefusalReason.BREAKER_OPEN
+    now.advance(10)
+    admitted(limit).failed()  # (it began anew)
+    refusal = limit.request().admit()
+    assert refusal is not None and refusal.again_at == pytest.approx(now() + 30, abs=0.001)
+    now.advance(30)
+    probe = admitted(limit)
+    assert reason(limit.request().admit()) is RefusalReason.PROBING
+    probe.succeeded()
+    waits = admitted(limit)
+    waits.failed()
+    waits.cancelled()
+    assert reason(limit.request().admit()) is RefusalReason.BREAKER_OPEN
+
+
 def test_other_terms_and_names_have_counts_of_their_own(tmp_path: Path) -> None:
     store = FileStore(tmp_path)
     first = SharedLimit(store, "a", Bucket(1, cost=1))

@@ -1,46 +1,29 @@
-//! Retries by schedules and shared budgets.
+#![doc = include_str!("../README.md")]
 //!
-//! A [`Schedule`] says when to call again and when to stop. A [`Policy`] is a schedule that the engine has built and
-//! accepted. A [`Budget`] is a number of retries that all threads of a program share. A [`Quota`] is a number of
-//! retries in each window of time, which grows with the requests made. A [`CallLimit`] is a limit of another system, such
-//! as a circuit breaker. [`retry()`] runs a call by a policy and such a limit. It returns the first success, or the last
-//! error with the reason why it was the last:
+//! ## Where to look
 //!
-//! ```
-//! use hikebox::{retry, Budget, Policy, Schedule};
-//! use std::time::Duration;
-//!
-//! let back_off = Schedule::exponential(Duration::from_millis(100), 2).cap(Duration::from_secs(1));
-//! let policy = Policy::new(&(Schedule::recurs(5) & back_off.jittered(0.8..1.2)))?;
-//! let budget = Budget::new(1_000)?;
-//! let text = retry(&policy, &budget, || std::fs::read_to_string("Cargo.toml"))?;
-//! # assert!(text.contains("hikebox"));
-//! # Ok::<(), Box<dyn std::error::Error>>(())
-//! ```
-//!
-//! - [`Retrying`] adds which errors are retried, the numbers by which the schedule tests them, a deadline for the call
-//!   with all its runs, and a function that is called before each retry.
-//! - You can also retry a call by a method on it: see [`BlockingRetryable`] and [`Retryable`].
-//! - A [`Pace`] tells each call when it may begin, so that a peer gets so many in a time, and so many at once. With the
-//!   feature `tower`, `PaceLayer` is a layer by which requests wait for that.
-//! - A [`PerKey`] has a limit for each key, such as a host or a tenant.
+//! - [`retry()`], or [`Retrying`] with options: which errors are retried, the numbers by which the schedule tests them,
+//!   a deadline for the call with all its runs, and a function that is called before each retry.
+//! - [`BlockingRetryable`] and [`Retryable`] retry a call by a method on it.
 //! - [`repeat`] runs a call again after each success, and [`poll_until`] until you accept its value. [`Repeating`] adds
 //!   a deadline, and a clock and a sleep of your own.
-//! - With the feature `tokio`, `retry_async` retries futures. [`Retrying::sleep`] takes the sleep of any runtime.
 //! - [`Retrying::attempt_timeout`] ends a run of a future that takes too long, and [`Retrying::hedge_after`] has another
-//!   one begin beside it.
-//! - With the feature `tower`, `RetryLayer` is a layer that retries a service's requests, under any limit.
-//! - With the feature `leased`, all processes of a machine can share a `Leased` or a `LeasedQuota`, which count in a
-//!   folder. A store of your own implements [`Tickets`].
-//! - With the feature `serde`, a configuration can contain a policy and a quota.
-//! - With the feature `tracing`, each call is a span, with events for its retries and its end; with the feature
-//!   `prometheus`, `register_metrics` counts them. [`Retrying`] then has `named`.
-//! - [`Machine`] is a retry that you step yourself, by a clock of your own.
+//!   one begin beside it. [`Retrying::sleep`] takes the sleep of any runtime.
+//! - [`Machine`] is a retry that you step yourself, by a clock of your own. A store of your own implements [`Tickets`].
 //! - [`Storm`] shows what a policy does to a peer that fails for a while, when thousands of calls fail together, also
 //!   beside another [`Population`] of clients; a [`Sweep`] plays storms along a parameter.
 //!
-//! The engine is proved to do what its definitions say; this crate, which calls it, is tested. The guide is
-//! `docs/RUST.md` of the repository.
+//! ## Features
+//!
+//! None is on by default.
+//!
+//! - `tokio`: `retry_async` retries futures, by tokio's timer.
+//! - `tower`: `RetryLayer` is a layer that retries a service's requests, under any limit, and `PaceLayer` one by which
+//!   they wait for a [`Pace`].
+//! - `leased`: all processes of a machine can share a `Leased` or a `LeasedQuota`, which count in a folder.
+//! - `serde`: a configuration can contain a policy and a quota.
+//! - `tracing`: each call is a span, with events for its retries and its end. `prometheus`: `register_metrics` counts
+//!   calls. [`Retrying`] then has `named`.
 
 #![deny(unsafe_code)]
 
@@ -74,9 +57,6 @@ pub use storms::*;
 
 #[cfg(doctest)]
 mod pages {
-    #[doc = include_str!("../README.md")]
-    struct Readme;
-
     #[cfg(all(hikebox_pages, feature = "leased", feature = "prometheus", feature = "tokio", hikebox_async_closures))]
     #[doc = include_str!("../../docs/RUST.md")]
     struct Guide;

@@ -1,10 +1,13 @@
 //! Calls that ask a limit before their first run: by everything that retries, with threads, panics and futures that are
 //! dropped.
 
+mod common;
+
+use common::{fails, policy};
 use hikebox::RefusalReason::{BreakerOpen, LevelLow, Probing, RetriesFull};
 use hikebox::{
-    repeat, retry, BlockingRetryable, Breaker, Bucket, CallLimit, InFlight, Policy, RefusalReason, Refused,
-    RepeatError, RetryError, Retrying, SharedRetrying,
+    repeat, retry, BlockingRetryable, Breaker, Bucket, CallLimit, InFlight, RefusalReason, Refused, RepeatError,
+    RetryError, Retrying, SharedRetrying,
 };
 use std::cell::Cell;
 use std::panic::{catch_unwind, AssertUnwindSafe};
@@ -13,10 +16,6 @@ use std::thread;
 use std::time::{Duration, Instant};
 
 type Answer<T> = Result<T, RetryError<&'static str, Refused>>;
-
-fn policy(json: &str) -> Policy {
-    json.parse().unwrap()
-}
 
 /// A breaker that opens after this many failures, for as long as the policy says.
 fn breaker(failures: u32, open_for: &str) -> CallLimit {
@@ -31,18 +30,6 @@ fn tokens(capacity: f64) -> CallLimit {
 /// One retry for every two calls in flight.
 fn halves() -> CallLimit {
     CallLimit::new(InFlight { least: 0, share: 0.5, most: None }).unwrap()
-}
-
-/// A call that fails so often, and then says how often it failed.
-fn fails(mut times: u32) -> impl FnMut() -> Result<u32, &'static str> {
-    let failures = times;
-    move || match times.checked_sub(1) {
-        Some(left) => {
-            times = left;
-            Err("busy")
-        }
-        None => Ok(failures),
-    }
 }
 
 /// Why the first run was refused.
@@ -543,30 +530,5 @@ mod layers {
             assert_eq!((began.elapsed().as_millis(), quota.seen().asked), (100, request));
         }
         assert_eq!(quota.granted(), 2);
-    }
-
-    // Eight threads make 100 calls each that always fail, on a bucket of 300.
-    #[test]
-    fn eight_threads_draw_each_token_once() {
-        let runs = Arc::new(AtomicU64::new(0));
-        let retries = RetryLayer::new(policy(r#"{"recurs":9}"#), tokens(300.0));
-        let counted = runs.clone();
-        let service = ServiceBuilder::new().layer(retries).service(service_fn(move |_: u8| {
-            counted.fetch_add(1, Ordering::SeqCst);
-            ready(Err::<u32, _>("busy"))
-        }));
-        let calls = |mut service: hikebox::RetryService<_, _>| async move {
-            for _ in 0..100 {
-                let _: Result<u32, BoxError> = ServiceExt::<u8>::ready(&mut service).await.unwrap().call(1).await;
-            }
-        };
-        thread::scope(|scope| {
-            for _ in 0..8 {
-                let service = service.clone();
-                let run = || tokio::runtime::Builder::new_current_thread().enable_time().build().unwrap();
-                scope.spawn(move || run().block_on(calls(service)));
-            }
-        });
-        assert_eq!(runs.load(Ordering::SeqCst), 800 + 300);
     }
 }

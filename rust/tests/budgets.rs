@@ -26,13 +26,6 @@ fn two_passes_share_two_tickets() {
 }
 
 #[test]
-fn an_empty_budget_has_no_ticket() {
-    let budget = Budget::new(0).unwrap();
-    assert_eq!(ticket(budget.pass().unwrap().draw()), None);
-    assert_eq!(budget.close().unwrap(), 0);
-}
-
-#[test]
 fn limits_end_at_two_to_the_thirty_second() {
     assert!(Budget::new(4_294_967_296).is_ok());
     assert_eq!(Budget::new(4_294_967_297).unwrap_err(), LimitError::LimitTooLarge);

@@ -3,8 +3,8 @@
 
 mod common;
 
-use common::retried_once;
-use hikebox::{Policy, Quota};
+use common::fails;
+use hikebox::{retry, Policy, Quota};
 use serde_json::{from_str, json, to_string};
 use std::time::Duration;
 
@@ -33,9 +33,9 @@ fn a_quota_is_read_of_a_configuration() {
     quota.deposit_of(4);
     assert_eq!((quota.seen().left, quota.seen().next), (5, Duration::from_secs(3600)));
     let policy: Policy = r#"{"recurs":3}"#.parse().unwrap();
-    let answer = retried_once(&policy, &quota);
+    let answer = retry(&policy, &quota, fails(1));
     // the call counted where it succeeded, and its ticket came back
-    assert_eq!((answer, quota.seen().asked, quota.granted()), (Ok(2), 5, 0));
+    assert_eq!((answer, quota.seen().asked, quota.granted()), (Ok(1), 5, 0));
     let carrying: Quota = serde_json::from_str(r#"{"reserve":0,"share":1,"per":0.1,"carries":true}"#).unwrap();
     carrying.deposit_of_at(Duration::from_millis(50), 4);
     assert_eq!(carrying.seen_at(Duration::from_millis(150)).left, 4);

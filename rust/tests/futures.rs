@@ -1,29 +1,19 @@
 //! Retries of futures and of tower's requests.
 #![cfg(all(feature = "tokio", feature = "tower"))]
 
-use hikebox::{
-    retry_async, BlockingRetryable, Budget, Policy, Quota, RetryError, RetryLayer, Retryable, Retrying, Unlimited,
-    Usage,
-};
+mod common;
+
+use common::{at_once, policy, told};
+use hikebox::{retry_async, BlockingRetryable, Budget, Quota, RetryError, RetryLayer, Retryable, Retrying, Unlimited};
 use std::cell::RefCell;
 use std::future::{ready, Future};
 use std::pin::Pin;
 use std::rc::Rc;
 use std::sync::atomic::{AtomicU32, Ordering};
 use std::sync::Arc;
-use std::task::{Context, Poll, Wake, Waker};
 use std::time::Duration;
 use tokio::time::{timeout, Instant};
 use tower::{service_fn, BoxError, Layer, Service, ServiceBuilder, ServiceExt};
-
-fn policy(json: &str) -> Policy {
-    json.parse().unwrap()
-}
-
-/// The window, what was asked and given in it, and what is left.
-fn told(usage: Usage) -> [u64; 4] {
-    [usage.window, usage.asked, usage.given, usage.left]
-}
 
 #[tokio::test(start_paused = true)]
 async fn a_future_waits_as_planned() {
@@ -47,25 +37,6 @@ async fn a_dropped_future_keeps_its_tickets_counted() {
     let retry = retry_async(&forever, &budget, || async { Err::<(), _>(()) });
     assert!(timeout(Duration::from_millis(150), retry).await.is_err());
     assert_eq!(budget.close().unwrap(), 3);
-}
-
-#[tokio::test(start_paused = true)]
-async fn a_service_is_retried_under_the_budget() {
-    let budget = Budget::new(4).unwrap();
-    let calls = Arc::new(AtomicU32::new(0));
-    let counted = calls.clone();
-    let layer = RetryLayer::new(policy(r#"{"meet":[{"recurs":3},{"spaced":100}]}"#), budget.clone());
-    let mut service = ServiceBuilder::new().layer(layer).service(service_fn(move |code: u64| {
-        counted.fetch_add(1, Ordering::SeqCst);
-        async move { Err::<(), u64>(code) }
-    }));
-    let began = Instant::now();
-    assert_eq!(service.ready().await.unwrap().call(5).await, Err(5));
-    assert_eq!((calls.load(Ordering::SeqCst), began.elapsed().as_millis()), (4, 300));
-    assert_eq!(service.ready().await.unwrap().call(6).await, Err(6));
-    assert_eq!(calls.load(Ordering::SeqCst), 6);
-    drop(service);
-    assert_eq!(budget.granted(), 4);
 }
 
 #[tokio::test(start_paused = true)]
@@ -108,16 +79,6 @@ async fn a_future_draws_on_a_quota_by_tokios_clock() {
 }
 
 #[tokio::test(start_paused = true)]
-async fn a_future_that_is_dropped_gives_its_quotas_pass_back() {
-    let quota = Quota::new_at(Instant::now().into_std(), 100, 0.0, Duration::from_secs(60)).unwrap();
-    let forever = policy(r#"{"spaced":60}"#);
-    let retry = retry_async(&forever, &quota, || async { Err::<(), _>(()) });
-    assert!(timeout(Duration::from_millis(150), retry).await.is_err());
-    // runs at 0, 60 and 120: the ticket of the one at 180, which never began, came back
-    assert_eq!(quota.close().unwrap(), 2);
-}
-
-#[tokio::test(start_paused = true)]
 async fn a_service_is_retried_on_a_quota_and_each_request_counts() {
     let quota = Quota::new_at(Instant::now().into_std(), 1, 0.5, Duration::from_secs(60)).unwrap();
     let layer = RetryLayer::new(policy(r#"{"recurs":9}"#), quota.clone());
@@ -142,19 +103,6 @@ async fn a_service_is_retried_on_a_quota_and_each_request_counts() {
     assert_eq!(others.ready().await.unwrap().call(7).await, Err(7));
     drop(service);
     assert_eq!(quota.granted(), 3);
-}
-
-/// The value of a future that is ready at each poll: no runtime is there.
-fn at_once<T>(future: impl Future<Output = T>) -> T {
-    struct Nobody;
-    impl Wake for Nobody {
-        fn wake(self: Arc<Self>) {}
-    }
-    let mut future: Pin<Box<dyn Future<Output = T> + '_>> = Box::pin(future);
-    match future.as_mut().poll(&mut Context::from_waker(&Waker::from(Arc::new(Nobody)))) {
-        Poll::Ready(value) => value,
-        Poll::Pending => panic!("it waits"),
-    }
 }
 
 #[test]

@@ -2,6 +2,9 @@
 //! clock is tokio's, which stands still but for sleeps.
 #![cfg(feature = "tokio")]
 
+mod common;
+
+use common::{at_once, policy, polled};
 use hikebox::{
     AttemptTimeout, Breaker, Bucket, Budget, CallLimit, Grants, InFlight, NoTicket, Policy, Quota, RefusalReason,
     Refused, RetryError, Retryable, Retrying, SharedRetrying, Ticket, Tickets, Timed, Unlimited,
@@ -12,7 +15,7 @@ use std::io;
 use std::pin::Pin;
 use std::sync::atomic::{AtomicU32, AtomicU64, Ordering};
 use std::sync::{Arc, Mutex};
-use std::task::{Context, Poll, Wake, Waker};
+use std::task::{Context, Poll};
 use std::time::Duration;
 use tokio::time::{sleep, timeout, Instant};
 
@@ -100,10 +103,6 @@ impl Peer {
     fn runs(&self) -> Vec<u64> {
         self.runs.lock().unwrap().clone()
     }
-}
-
-fn policy(json: &str) -> Policy {
-    json.parse().unwrap()
 }
 
 /// Two retries, each after this wait.
@@ -207,22 +206,6 @@ fn late(after: u64) -> AttemptTimeout {
         Err(RetryError::ScheduleDone(Told(timeout))) => timeout,
         _ => panic!("it is over"),
     }
-}
-
-/// The value of a future that is ready at its first poll: no runtime is there.
-fn at_once<T>(future: impl Future<Output = T>) -> T {
-    match polled(&mut Box::pin(future)) {
-        Poll::Ready(value) => value,
-        Poll::Pending => panic!("it waits"),
-    }
-}
-
-fn polled<F: Future>(future: &mut Pin<Box<F>>) -> Poll<F::Output> {
-    struct Nobody;
-    impl Wake for Nobody {
-        fn wake(self: Arc<Self>) {}
-    }
-    future.as_mut().poll(&mut Context::from_waker(&Waker::from(Arc::new(Nobody))))
 }
 
 // An error that is not retried is an answer: it ends the call at once, also of a run that was late before.

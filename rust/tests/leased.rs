@@ -4,7 +4,7 @@
 #[macro_use]
 mod common;
 
-use common::{comes_to, counts, is_locked, is_open, keeper_of, number, number_in_the_end, retried_once, Scratch};
+use common::{comes_to, counts, fails, is_locked, is_open, keeper_of, number, number_in_the_end, Scratch};
 use hikebox::{
     retry, Leased, LeasedQuota, LimitError, Machine, NoTicket, Policy, Report, RetryError, Step, StoreError, Ticket,
 };
@@ -371,7 +371,7 @@ fn a_leased_ticket_that_comes_back_is_drawn_by_this_process_again() {
     let (folder, policy) = (Scratch::new("back"), r#"{"spaced":1}"#.parse::<Policy>().unwrap());
     let quota = long_quota(&folder.0, 3, 0.0).lease(2).returning_tickets();
     for _ in 0..20 {
-        assert_eq!(retried_once(&policy, &quota), Ok(2));
+        assert_eq!(retry(&policy, &quota, fails(1)), Ok(1));
     }
     // all of them by the first ticket of one lease
     assert_eq!(asked_and_given(&quota), (20, 2));

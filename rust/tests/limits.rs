@@ -1,23 +1,15 @@
 //! Limits of other systems: rows worked by hand, calls under each limit, two at once, and eight threads that count.
 
+mod common;
+
+use common::{admitted, fails, policy};
 use hikebox::RefusalReason::{BreakerOpen, LevelLow, OutOfTurn, Probing, RetriesFull, Throttled};
 use hikebox::{
-    both, retry, Breaker, Bucket, CallLimit, InFlight, LimitError, Policy, RefusalReason, Request, RetryError, Terms,
-    Throttle,
+    both, retry, Breaker, Bucket, CallLimit, InFlight, LimitError, RefusalReason, Request, RetryError, Terms, Throttle,
 };
 use std::sync::atomic::{AtomicU64, Ordering};
 use std::thread;
 use std::time::Duration;
-
-fn policy(json: &str) -> Policy {
-    json.parse().unwrap()
-}
-
-fn admitted(limit: &CallLimit) -> Request {
-    let mut request = limit.request().unwrap();
-    request.admit().unwrap();
-    request
-}
 
 fn refused(request: &mut Request) -> Option<RefusalReason> {
     request.draw().err().map(|refused| refused.reason())
@@ -239,40 +231,11 @@ fn a_breaker_that_would_never_open_is_refused() {
 
 #[test]
 fn a_retry_that_succeeds_gives_back() {
-    let bucket = CallLimit::new(Bucket { capacity: 2.0, debit: 1.0, credit: 1.0, ..Bucket::default() }).unwrap();
-    let mut runs = 0;
-    let answer = retry(&policy(r#"{"recurs":9}"#), &bucket, || {
-        runs += 1;
-        if runs < 3 {
-            Err("not yet")
-        } else {
-            Ok(runs)
-        }
-    });
-    assert_eq!(answer, Ok(3));
+    let bucket =
+        CallLimit::new(Bucket { capacity: 2.0, debit: 1.0, credit: 1.0, cost: 0.0, ..Bucket::default() }).unwrap();
+    assert_eq!(retry(&policy(r#"{"recurs":9}"#), &bucket, fails(2)), Ok(2));
     assert_eq!(admitted(&bucket).draw_at(1).err(), None);
     assert_eq!(admitted(&bucket).draw_at(1).unwrap_err().reason(), LevelLow);
-}
-
-// A future that is dropped while it waits gives its slot and its token back.
-#[cfg(feature = "tokio")]
-#[tokio::test(start_paused = true)]
-async fn futures_are_asked_too() {
-    use hikebox::retry_async;
-
-    let bucket = CallLimit::new(Bucket { capacity: 1.0, cost: 1.0, ..Bucket::default() }).unwrap();
-    let flights = CallLimit::new(InFlight { least: 1, share: 0.0, most: None }).unwrap();
-    let limit = both(&bucket, &flights).unwrap();
-    let waits = policy(r#"{"spaced":60000}"#);
-    let call = retry_async(&waits, &limit, || async { Err::<(), _>("busy") });
-    assert!(tokio::time::timeout(Duration::from_secs(1), call).await.is_err());
-    let mut runs = 0;
-    let answer = retry_async(&waits, &limit, || {
-        runs += 1;
-        let run = runs;
-        async move { Err::<(), _>(run) }
-    });
-    assert_eq!(answer.await, Err(RetryError::LimitRefused(2)));
 }
 
 /// How many draws are granted, where each of eight threads makes so many calls, and each draws once.
@@ -345,12 +308,17 @@ fn terms_out_of_range() {
     is_refused(Bucket { capacity: 1.0, floor: 2.0, ..Bucket::default() }, &of_capacity("floor"));
     is_refused(Bucket { capacity: -1.0, ..Bucket::default() }, capacity);
     is_refused(Bucket { capacity: 1_099_511_627.777, ..Bucket::default() }, capacity);
-    is_refused(Bucket { cost: f64::NAN, ..Bucket::aws() }, &of_capacity("cost"));
+    for cost in [f64::NAN, 0.0004] {
+        is_refused(Bucket { cost, ..Bucket::aws() }, &of_capacity("cost"));
+    }
     is_refused(Bucket { debit: 500.001, ..Bucket::aws() }, &of_capacity("debit"));
     is_refused(Bucket { credit: 501.0, ..Bucket::aws() }, &of_capacity("credit"));
     is_refused(Bucket { capacity: 4.0, ..Bucket::aws() }, &of_capacity("cost")); // a retry takes five tokens
-    is_refused(InFlight { least: 0, share: 1.5, most: None }, "share: expected 0, or from 0.001 to 1");
-    is_refused(InFlight { least: 0, share: 1.0001, most: None }, "share: expected 0, or from 0.001 to 1");
+                                                                                 // a retry takes a token, and there is none
+    is_refused(Bucket::default(), &of_capacity("cost"));
+    for share in [1.5, 1.0001, 0.0004] {
+        is_refused(InFlight { least: 0, share, most: None }, "share: expected 0, or from 0.001 to 1");
+    }
     is_refused(Breaker::consecutive(0, policy("\"forever\"")), "failures: expected 1 to 4294967295");
     let never = policy(r#"{"recurs":0}"#);
     is_refused(Breaker::consecutive(1, never), "open_for: expected a policy that goes on at least once");
@@ -363,20 +331,9 @@ fn terms_out_of_range() {
     let still = Throttle { period: Duration::from_micros(999), ..Throttle::google() };
     is_refused(still, "period: expected at least a millisecond");
     assert!(CallLimit::new(Bucket { capacity: 1_099_511_627.776, ..Bucket::default() }).is_ok());
+    assert!(CallLimit::new(Bucket { cost: 0.001, ..Bucket::aws() }).is_ok());
+    assert!(CallLimit::new(InFlight { least: 0, share: 0.001, most: None }).is_ok());
     assert!(CallLimit::new(Throttle { ratio: 4_294_967.295, period: Duration::MAX }).is_ok());
     let breaker = Breaker { probes: 15, ..Breaker::consecutive(u32::MAX, policy(r#"{"spaced":1}"#)) };
     assert!(CallLimit::new(Breaker { probe_deadline: Duration::MAX, ..breaker }).is_ok());
-}
-
-// It would be 0 in thousandths: a bucket that is never filled again, or retries that take nothing.
-#[test]
-fn terms_between_zero_and_a_thousandth() {
-    let out = |terms: Terms| {
-        assert!(matches!(CallLimit::new(terms).unwrap_err(), LimitError::OutOfRange { .. }));
-    };
-    out(Bucket { cost: 0.0004, ..Bucket::aws() }.into());
-    out(Bucket { debit: 0.0004, ..Bucket::aws() }.into());
-    out(InFlight { least: 0, share: 0.0004, most: None }.into());
-    assert!(CallLimit::new(Bucket { cost: 0.001, ..Bucket::aws() }).is_ok());
-    assert!(CallLimit::new(InFlight { least: 0, share: 0.001, most: None }).is_ok());
 }

@@ -1,25 +1,11 @@
 //! Policies step as `zsched plan` says, on random ones and at the limits.
 
+mod common;
+
+use common::zsched;
 use hikebox::{Fold, Policy, PolicyFault, Schedule, Test};
 use std::collections::HashSet;
-use std::io::Write;
-use std::process::{Command, Stdio};
 use std::time::Duration;
-
-/// What the program prints that the engine's crates build: the one that `HIKEBOX_ZSCHED` names, or that of `dist/`.
-fn zsched(json: &str) -> String {
-    let of_dist = concat!(env!("CARGO_MANIFEST_DIR"), "/../dist/zsched");
-    let mut child = Command::new(std::env::var_os("HIKEBOX_ZSCHED").unwrap_or_else(|| of_dist.into()))
-        .args(["plan", "--steps", "12"])
-        .stdin(Stdio::piped())
-        .stdout(Stdio::piped())
-        .spawn()
-        .unwrap();
-    child.stdin.take().unwrap().write_all(json.as_bytes()).unwrap();
-    let output = child.wait_with_output().unwrap();
-    assert!(output.status.success(), "{json}");
-    String::from_utf8(output.stdout).unwrap()
-}
 
 /// Numbers by a linear congruence, the same in each run.
 struct Numbers(u64);
@@ -107,7 +93,7 @@ fn three_hundred_random_policies_step_as_zsched_says() {
         let schedule = numbers.schedule(5);
         let policy = Policy::new(&schedule).unwrap();
         let lines: String = policy.preview(12).unwrap().iter().map(|line| format!("{line}\n")).collect();
-        assert_eq!(lines, zsched(schedule.as_json()), "{schedule}");
+        assert_eq!((Some(0), lines), zsched(["plan", "--steps", "12"], schedule.as_json()), "{schedule}");
         // built by its nodes it is what its text spells, and the engine writes that text
         assert_eq!(policy.as_json(), schedule.as_json());
         assert_eq!(schedule.as_json().parse(), Ok(policy));

@@ -2,34 +2,17 @@
 
 mod common;
 
-use common::ticket;
-use hikebox::{
-    retry, Budget, Ending, Grants, LimitError, Machine, Policy, Quota, QuotaPass, Report, RetryError, Retrying, Step,
-    Unlimited, Usage,
-};
+use common::{at, policy, ticket, told};
+use hikebox::{retry, Ending, LimitError, Machine, Quota, QuotaPass, Report, RetryError, Retrying, Step, Usage};
 use std::cell::Cell;
-use std::convert::Infallible;
 use std::sync::Barrier;
 use std::thread;
 use std::time::{Duration, Instant};
 
 const WINDOW: u64 = 1 << 32;
 
-fn policy(json: &str) -> Policy {
-    json.parse().unwrap()
-}
-
-fn at(millis: u64) -> Duration {
-    Duration::from_millis(millis)
-}
-
 fn quota(reserve: u64, share: f64, millis: u64) -> Quota {
     Quota::new(reserve, share, Duration::from_millis(millis)).unwrap()
-}
-
-/// The window, what was asked and given in it, and what is left.
-fn told(usage: Usage) -> [u64; 4] {
-    [usage.window, usage.asked, usage.given, usage.left]
 }
 
 #[test]
@@ -66,16 +49,6 @@ fn worked_windows() {
     let quota = quota.close().unwrap_err();
     drop(second);
     assert_eq!(quota.close().unwrap(), 7);
-}
-
-#[test]
-fn an_idle_week_gives_one_reserve() {
-    let quota = quota(10, 0.0, 1000);
-    let mut pass = quota.pass().unwrap();
-    let week = at(7 * 86_400_000);
-    assert_eq!((0..200).filter(|_| pass.draw_at(week).is_ok()).count(), 10);
-    drop(pass);
-    assert_eq!(quota.close().unwrap(), 10);
 }
 
 #[test]
@@ -127,8 +100,8 @@ fn terms_out_of_their_ranges_are_refused() {
 }
 
 /// A retry by hand on the quota whose runs all fail, from this moment on: how it ended, and when it ran.
-fn all_lost(json: &str, budget: &impl Grants<Refusal = Infallible>, start: u64) -> (Ending, Vec<u64>, u64) {
-    let mut machine = Machine::new(&policy(json), budget).unwrap();
+fn all_lost(json: &str, quota: &Quota, start: u64) -> (Ending, Vec<u64>, u64) {
+    let mut machine = Machine::new(&policy(json), quota).unwrap();
     let (mut now, mut report, mut runs) = (start, None, Vec::new());
     loop {
         match machine.step(at(now), report.take()) {
@@ -152,30 +125,6 @@ fn a_retry_draws_at_the_moment_of_the_failure() {
     assert_eq!(all_lost("\"forever\"", &quota, 6900), (Ending::LimitRefused, vec![6900, 6900], 1));
     assert_eq!(all_lost("\"forever\"", &quota, 8300), (Ending::LimitRefused, vec![8300; 3], 2));
     assert_eq!(quota.close().unwrap(), 6);
-}
-
-#[test]
-fn a_retry_on_nothing_ends_by_its_schedule() {
-    assert_eq!(all_lost(r#"{"recurs":4}"#, &Unlimited, 7), (Ending::ScheduleDone, vec![7; 5], 4));
-    let mut calls = 0;
-    let result = retry(&policy(r#"{"recurs":4}"#), &Unlimited, || {
-        calls += 1;
-        if calls == 3 {
-            Ok(calls)
-        } else {
-            Err(())
-        }
-    });
-    assert_eq!(result, Ok(3));
-}
-
-#[test]
-fn a_retry_draws_of_a_rising_budget() {
-    let budget = Budget::rising(2).unwrap();
-    assert_eq!(all_lost("\"forever\"", &budget, 0), (Ending::LimitRefused, vec![0; 3], 2));
-    assert_eq!(budget.raise(3), Ok(3));
-    assert_eq!(all_lost("\"forever\"", &budget, 0), (Ending::LimitRefused, vec![0; 2], 1));
-    assert_eq!(budget.close().unwrap(), 3);
 }
 
 #[test]
@@ -328,18 +277,6 @@ fn a_clone_keeps_a_quota_open() {
 }
 
 #[test]
-fn values_go_to_other_threads() {
-    fn sends<T: Send>() {}
-    fn shares<T: Sync>() {}
-    sends::<Quota>();
-    shares::<Quota>();
-    sends::<QuotaPass>();
-    shares::<Usage>();
-    shares::<Unlimited>();
-    sends::<Machine>();
-}
-
-#[test]
 fn the_time_of_the_first_run_counts() {
     // by windows of a second: the first run begins 0.9 s after the quota and fails at 1.5, the second one fails at 2.1
     let now = Cell::new(Instant::now());
@@ -417,18 +354,6 @@ fn what_a_window_leaves_of_its_share_is_drawn_once_in_the_next() {
 }
 
 #[test]
-fn what_was_carried_is_not_carried_on() {
-    let quota = carrying();
-    let mut pass = quota.pass().unwrap();
-    pass.deposit_of_at(at(10), 5);
-    assert_eq!(ticket(pass.draw_at(at(100))), Some(WINDOW - 5));
-    pass.deposit_of_at(at(150), 2);
-    // window 2 has the two requests of window 1, and nothing of the four tickets that were left there of window 0
-    assert_eq!(all_drawn(&mut pass, 200), [2 * WINDOW - 2, 2 * WINDOW - 1]);
-    assert_eq!(pass.count(), 3);
-}
-
-#[test]
 fn nothing_is_carried_by_other_quotas_nor_past_an_idle_window() {
     let plain = Quota::new(0, 1.0, at(100)).unwrap();
     for (quota, moment, left) in [(plain, 100, 0), (carrying(), 199, 3), (carrying(), 200, 0)] {
@@ -437,20 +362,6 @@ fn nothing_is_carried_by_other_quotas_nor_past_an_idle_window() {
         assert_eq!([ticket(pass.draw_at(at(10))), ticket(pass.draw_at(at(10)))], [Some(0), Some(1)]);
         assert_eq!(all_drawn(&mut pass, moment).len(), left);
     }
-}
-
-#[test]
-fn a_reserve_is_not_carried() {
-    let quota = Quota::carrying(3, 0.5, at(100)).unwrap();
-    let mut pass = quota.pass().unwrap();
-    pass.deposit_of_at(at(10), 4);
-    assert_eq!(told(pass.seen_at(at(10))), [0, 4, 0, 5]);
-    assert_eq!(told(pass.seen_at(at(100))), [1, 0, 0, 5]);
-    assert_eq!([0; 3].map(|_| ticket(pass.draw_at(at(100)))), [WINDOW - 2, WINDOW - 1, WINDOW].map(Some));
-    // the two of window 1 that are left are of its reserve
-    assert_eq!(all_drawn(&mut pass, 200), [2 * WINDOW, 2 * WINDOW + 1, 2 * WINDOW + 2]);
-    // a window has half of its numbers for its own tickets
-    assert_eq!(Quota::carrying(1 << 32, 0.0, at(100)).unwrap().seen_at(at(0)).left, 1 << 31);
 }
 
 #[test]

@@ -1,16 +1,12 @@
 //! Repeats, and polls until an answer is there.
 
-use hikebox::{poll_until, repeat, Policy, RepeatError, Repeating};
-use std::cell::{Cell, RefCell};
-use std::future::{ready, Future};
-use std::pin::Pin;
-use std::sync::Arc;
-use std::task::{Context, Poll, Wake, Waker};
-use std::time::{Duration, Instant};
+mod common;
 
-fn policy(json: &str) -> Policy {
-    json.parse().unwrap()
-}
+use common::{at_once, policy};
+use hikebox::{poll_until, repeat, RepeatError, Repeating};
+use std::cell::{Cell, RefCell};
+use std::future::ready;
+use std::time::{Duration, Instant};
 
 #[test]
 fn a_repeat_runs_again_after_each_success_and_not_after_a_failure() {
@@ -122,13 +118,6 @@ fn a_poll_of_futures_runs_on_any_runtime() {
         ready(())
     });
     let polled = polling.until_async(|answer| *answer == 4, || ready(answers.next().ok_or("none")));
-    let mut polled: Pin<Box<dyn Future<Output = _> + '_>> = Box::pin(polled);
-    struct Nobody;
-    impl Wake for Nobody {
-        fn wake(self: Arc<Self>) {}
-    }
-    let ended = polled.as_mut().poll(&mut Context::from_waker(&Waker::from(Arc::new(Nobody))));
-    assert_eq!(ended, Poll::Ready(Ok(4)));
-    drop(polled);
+    assert_eq!(at_once(polled), Ok(4));
     assert_eq!(*waits.borrow(), [100; 3]);
 }

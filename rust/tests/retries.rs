@@ -338,29 +338,6 @@ fn a_clock_that_goes_back_breaks_a_retry() {
     assert_eq!(machine.step(at(9), Some(Report::Lost(1))), Step::Over(Ending::Broken(Cause::Backwards)));
 }
 
-#[test]
-fn a_budget_serves_more_retries_than_passes() {
-    let (policy, budget) = (policy(r#"{"recurs":1}"#), Budget::new(4_000_000_000).unwrap());
-    for _ in 0..100_000 {
-        assert_eq!(retry(&policy, &budget, || Err::<(), _>(())), Err(RetryError::ScheduleDone(())));
-    }
-    assert_eq!(budget.granted(), 100_000);
-    assert_eq!(budget.close().unwrap(), 100_000);
-}
-
-#[test]
-fn a_budget_bounds_the_retries_past_its_passes_too() {
-    let (policy, budget) = (policy(r#"{"recurs":1}"#), Budget::new(70_000).unwrap());
-    for _ in 0..70_000 {
-        assert_eq!(retry(&policy, &budget, || Err::<(), _>(())), Err(RetryError::ScheduleDone(())));
-    }
-    for _ in 0..10 {
-        assert_eq!(retry(&policy, &budget, || Err::<(), _>(())), Err(RetryError::LimitRefused(())));
-    }
-    assert_eq!(retry(&policy, &budget, || Ok::<_, ()>(1)), Ok(1));
-    assert_eq!(budget.close().unwrap(), 70_000);
-}
-
 /// How a retry ends whose runs end so, and how often it looked at its clock.
 fn looks(script: &[Result<u8, u8>], budget: &Budget) -> (Result<u8, RetryError<u8>>, u64) {
     let (policy, now, looks) = (policy(r#"{"recurs":9}"#), Instant::now(), Cell::new(0));
@@ -479,6 +456,11 @@ fn values_go_to_other_threads() {
     shares::<Policy>();
     sends::<Budget>();
     shares::<Budget>();
+    sends::<hikebox::Quota>();
+    shares::<hikebox::Quota>();
+    sends::<hikebox::QuotaPass>();
+    shares::<hikebox::Usage>();
+    shares::<Unlimited>();
     sends::<Machine>();
     sends::<hikebox::Pass>();
     sends::<Retrying<'_, io::Error>>();

@@ -2,10 +2,10 @@
 
 mod common;
 
-use common::ticket;
+use common::{at, fails, policy, ticket};
 use hikebox::{
-    retry, Budget, Ending, LimitError, Machine, NoTicket, Policy, Quota, Report, RetryError, Retrying, Step, Ticket,
-    Tickets, Unlimited, Usage,
+    retry, Budget, Ending, LimitError, Machine, NoTicket, Quota, Report, RetryError, Retrying, Step, Ticket, Tickets,
+    Unlimited, Usage,
 };
 use std::cell::Cell;
 use std::panic::{catch_unwind, AssertUnwindSafe};
@@ -15,14 +15,6 @@ use std::time::{Duration, Instant};
 
 const WINDOW: u64 = 1 << 32;
 
-fn policy(json: &str) -> Policy {
-    json.parse().unwrap()
-}
-
-fn at(millis: u64) -> Duration {
-    Duration::from_millis(millis)
-}
-
 /// A quota with a window that no test sees the end of.
 fn quota(reserve: u64, share: f64) -> Quota {
     Quota::new(reserve, share, Duration::from_secs(1_000_000)).unwrap()
@@ -31,18 +23,6 @@ fn quota(reserve: u64, share: f64) -> Quota {
 /// What was asked, what was given and what is left.
 fn told(usage: Usage) -> [u64; 3] {
     [usage.asked, usage.given, usage.left]
-}
-
-/// A call that fails so often and then succeeds.
-fn fails(times: u32) -> impl FnMut() -> Result<u32, &'static str> {
-    let mut left = times;
-    move || match left {
-        0 => Ok(times),
-        _ => {
-            left -= 1;
-            Err("busy")
-        }
-    }
 }
 
 #[test]

@@ -49,43 +49,24 @@ fn each_expression_builds_its_policy() {
         ((Schedule::forever() & Schedule::elapsed()).second(), r#"{"second":{"meet":["forever","elapsed"]}}"#),
         (Schedule::recurs(0).nothing(), r#"{"nothing":{"recurs":0}}"#),
         (Schedule::recurs(0), r#"{"recurs":0}"#),
-        (Schedule::recurs(1), r#"{"recurs":1}"#),
         (Schedule::spaced(Duration::from_millis(5)), r#"{"spaced":5}"#),
-        (Schedule::spaced(Duration::from_millis(7)), r#"{"spaced":7}"#),
-        (Schedule::fixed(Duration::from_millis(65616)), r#"{"fixed":65616}"#),
-        (Schedule::fixed(Duration::from_millis(100)), r#"{"fixed":100}"#),
-        (Schedule::windowed(Duration::from_millis(60)), r#"{"windowed":60}"#),
-        (Schedule::windowed(Duration::from_millis(4611686018427387902)), r#"{"windowed":4611686018427387902}"#),
-        (Schedule::linear(Duration::from_millis(4611686018427387902)), r#"{"linear":4611686018427387902}"#),
-        (Schedule::linear(Duration::from_millis(7)), r#"{"linear":7}"#),
-        (Schedule::exponential(Duration::from_millis(1), 2), r#"{"exponential":[1,2]}"#),
-        (Schedule::exponential(Duration::from_millis(1), 3), r#"{"exponential":[1,3]}"#),
-        (Schedule::exponential_milli(Duration::from_secs(1), 1500), r#"{"exponential_milli":[1000,1500]}"#),
-        (Schedule::exponential_milli(Duration::from_millis(7), 1), r#"{"exponential_milli":[7,1]}"#),
-        (Schedule::fibonacci(Duration::from_millis(4611686018427387902)), r#"{"fibonacci":4611686018427387902}"#),
-        (Schedule::decorrelated_milli(2, Duration::from_millis(60), 1000, Duration::from_millis(999)), r#"{"decorrelated":[2,60,1000,999]}"#),
-        (Schedule::decorrelated(Duration::from_millis(7), 1, Duration::from_millis(10)), r#"{"decorrelated":[0,7,1000,10]}"#),
-        (Schedule::unfold(60000, 3, 1), r#"{"unfold":[60000,3,1]}"#),
-        (Schedule::unfold(0, 1, 0), r#"{"unfold":[0,1,0]}"#),
-        (Schedule::from_duration(Duration::from_millis(55731)), r#"{"lone":55731}"#),
-        (Schedule::from_duration(Duration::from_millis(76962)), r#"{"lone":76962}"#),
-        (Schedule::forever().while_input(Test::Equal(4611686018427387903)), r#"{"gate":["input",true,"equal",4611686018427387903,"forever"]}"#),
-        (Schedule::forever().until_input(Test::Below(3)), r#"{"gate":["input",false,"below",3,"forever"]}"#),
-        (Schedule::forever().gather(Fold::Sum), r#"{"gather":["sum","forever"]}"#),
+        (Schedule::fixed(Duration::from_millis(3)), r#"{"fixed":3}"#),
+        (Schedule::windowed(Duration::from_millis(65616)), r#"{"windowed":65616}"#),
+        (Schedule::linear(Duration::from_millis(10)), r#"{"linear":10}"#),
+        (Schedule::exponential(Duration::from_millis(999), 10), r#"{"exponential":[999,10]}"#),
+        (Schedule::exponential_milli(Duration::from_millis(3), 1100), r#"{"exponential_milli":[3,1100]}"#),
+        (Schedule::fibonacci(Duration::from_millis(1)), r#"{"fibonacci":1}"#),
+        (Schedule::decorrelated_milli(1, Duration::from_millis(1), 3000, Duration::from_secs(1)), r#"{"decorrelated":[1,1,3000,1000]}"#),
+        (Schedule::unfold(7, 0, 7), r#"{"unfold":[7,0,7]}"#),
+        (Schedule::from_duration(Duration::from_secs(60)), r#"{"lone":60000}"#),
+        (Schedule::forever().until_output(Test::Below(60)), r#"{"gate":["output",false,"below",60,"forever"]}"#),
         (Schedule::forever().add_delay(Duration::from_millis(0)), r#"{"add":[0,"forever"]}"#),
-        (Schedule::forever().add_delay(Duration::from_millis(3)), r#"{"add":[3,"forever"]}"#),
-        (Schedule::forever().set_delay(Duration::from_millis(0)), r#"{"set":[0,"forever"]}"#),
-        (Schedule::forever().set_delay(Duration::from_millis(100)), r#"{"set":[100,"forever"]}"#),
-        (Schedule::forever().cap(Duration::from_millis(60)), r#"{"cap":[60,"forever"]}"#),
-        (Schedule::forever().cap(Duration::from_millis(4611686018427387902)), r#"{"cap":[4611686018427387902,"forever"]}"#),
-        (Schedule::forever().jittered(0.0..2.0), r#"{"jitter":[0,0,2000,"forever"]}"#),
-        (Schedule::forever().jitter(2, 900, 1100), r#"{"jitter":[2,900,1100,"forever"]}"#),
-        (Schedule::forever().up_to(Duration::from_millis(0)), r#"{"within":[0,"forever"]}"#),
-        (Schedule::forever().up_to(Duration::from_millis(100)), r#"{"within":[100,"forever"]}"#),
-        (Schedule::forever().ends_by(Duration::from_millis(60)), r#"{"ends_by":[60,"forever"]}"#),
-        (Schedule::forever().ends_by(Duration::from_millis(10)), r#"{"ends_by":[10,"forever"]}"#),
-        (Schedule::forever().renew(Duration::from_millis(100)), r#"{"renew":[100,"forever"]}"#),
-        (Schedule::forever().renew_idle(Duration::from_millis(1)), r#"{"renew_idle":[1,"forever"]}"#),
+        (Schedule::forever().set_delay(Duration::from_millis(60)), r#"{"set":[60,"forever"]}"#),
+        (Schedule::forever().jitter(1, 500, 1000), r#"{"jitter":[1,500,1000,"forever"]}"#),
+        (Schedule::forever().up_to(Duration::from_millis(10)), r#"{"within":[10,"forever"]}"#),
+        (Schedule::forever().ends_by(Duration::from_secs(60)), r#"{"ends_by":[60000,"forever"]}"#),
+        (Schedule::forever().renew(Duration::from_millis(60)), r#"{"renew":[60,"forever"]}"#),
+        (Schedule::forever().renew_idle(Duration::from_millis(5)), r#"{"renew_idle":[5,"forever"]}"#),
         (Schedule::forever().second(), r#"{"second":"forever"}"#),
         (Schedule::forever().nothing(), r#"{"nothing":"forever"}"#),
         (Schedule::forever() & Schedule::forever(), r#"{"meet":["forever","forever"]}"#),
@@ -165,20 +146,99 @@ fn each_program_plays_its_storm() {
 }
 
 #[test]
-fn the_lines_of_each_limit_run() {
-    advised_0::main().unwrap();
-    advised_1::main().unwrap();
-    advised_2::main().unwrap();
-    advised_3::main().unwrap();
-    advised_4::main().unwrap();
-    advised_5::main().unwrap();
-    advised_6::main().unwrap();
-    advised_7::main().unwrap();
-    advised_8::main().unwrap();
-    advised_9::main().unwrap();
-    advised_10::main().unwrap();
-    advised_11::main().unwrap();
-    advised_12::main().unwrap();
+fn the_lines_of_each_limit_run() -> Result<(), Box<dyn std::error::Error>> {
+    {
+        use hikebox::{Policy, Schedule, Unlimited};
+        use std::time::Duration;
+        let policy = Policy::new(&(Schedule::recurs(8) & Schedule::exponential(Duration::from_millis(100), 2).cap(Duration::from_secs(10)).jittered(0.0..1.0)))?;
+        let limit = Unlimited;
+        assert_eq!(hikebox::retry(&policy, &limit, || Ok::<_, std::io::Error>(7))?, 7);
+    }
+    {
+        use hikebox::{Policy, Quota, Schedule};
+        use std::time::Duration;
+        let policy = Policy::new(&(Schedule::recurs(8) & Schedule::exponential(Duration::from_millis(100), 2).cap(Duration::from_secs(10)).jittered(0.0..1.0)))?;
+        let limit = Quota::new(1, 0.01, Duration::from_secs(1))?;
+        assert_eq!(hikebox::retry(&policy, &limit, || Ok::<_, std::io::Error>(7))?, 7);
+    }
+    {
+        use hikebox::{Policy, Quota, Schedule};
+        use std::time::Duration;
+        let policy = Policy::new(&(Schedule::recurs(8) & Schedule::exponential(Duration::from_millis(100), 2).cap(Duration::from_secs(10)).jittered(0.0..1.0)))?;
+        let limit = Quota::new(100, 0.2, Duration::from_secs(10))?;
+        assert_eq!(hikebox::retry(&policy, &limit, || Ok::<_, std::io::Error>(7))?, 7);
+    }
+    {
+        use hikebox::{Bucket, CallLimit, Policy, Schedule};
+        use std::time::Duration;
+        let policy = Policy::new(&(Schedule::recurs(8) & Schedule::exponential(Duration::from_millis(100), 2).cap(Duration::from_secs(10)).jittered(0.0..1.0)))?;
+        let limit = CallLimit::new(Bucket::aws())?;
+        assert_eq!(hikebox::retry(&policy, &limit, || Ok::<_, std::io::Error>(7))?, 7);
+    }
+    {
+        use hikebox::{Bucket, CallLimit, Policy, Schedule};
+        use std::time::Duration;
+        let policy = Policy::new(&(Schedule::recurs(8) & Schedule::exponential(Duration::from_millis(100), 2).cap(Duration::from_secs(10)).jittered(0.0..1.0)))?;
+        let limit = CallLimit::new(Bucket::grpc(1000, 0.1)?)?;
+        assert_eq!(hikebox::retry(&policy, &limit, || Ok::<_, std::io::Error>(7))?, 7);
+    }
+    {
+        use hikebox::{CallLimit, InFlight, Policy, Schedule};
+        use std::time::Duration;
+        let policy = Policy::new(&(Schedule::recurs(8) & Schedule::exponential(Duration::from_millis(100), 2).cap(Duration::from_secs(10)).jittered(0.0..1.0)))?;
+        let limit = CallLimit::new(InFlight { least: 1, share: 0.05, most: None })?;
+        assert_eq!(hikebox::retry(&policy, &limit, || Ok::<_, std::io::Error>(7))?, 7);
+    }
+    {
+        use hikebox::{CallLimit, InFlight, Policy, Schedule};
+        use std::time::Duration;
+        let policy = Policy::new(&(Schedule::recurs(8) & Schedule::exponential(Duration::from_millis(100), 2).cap(Duration::from_secs(10)).jittered(0.0..1.0)))?;
+        let limit = CallLimit::new(InFlight::bulkhead(1000))?;
+        assert_eq!(hikebox::retry(&policy, &limit, || Ok::<_, std::io::Error>(7))?, 7);
+    }
+    {
+        use hikebox::{Breaker, CallLimit, Policy, Schedule};
+        use std::time::Duration;
+        let policy = Policy::new(&(Schedule::recurs(8) & Schedule::exponential(Duration::from_millis(100), 2).cap(Duration::from_secs(10)).jittered(0.0..1.0)))?;
+        let limit = CallLimit::new(Breaker { failures: 5, results: None, open_for: Policy::new(&Schedule::spaced(Duration::from_secs(1)))?, probes: 1, probe_deadline: Duration::from_secs(1) })?;
+        assert_eq!(hikebox::retry(&policy, &limit, || Ok::<_, std::io::Error>(7))?, 7);
+    }
+    {
+        use hikebox::{Breaker, CallLimit, Policy, Schedule};
+        use std::time::Duration;
+        let policy = Policy::new(&(Schedule::recurs(8) & Schedule::exponential(Duration::from_millis(100), 2).cap(Duration::from_secs(10)).jittered(0.0..1.0)))?;
+        let limit = CallLimit::new(Breaker { failures: 16, results: Some(32), open_for: Policy::new(&Schedule::spaced(Duration::from_secs(30)))?, probes: 1, probe_deadline: Duration::from_secs(1) })?;
+        assert_eq!(hikebox::retry(&policy, &limit, || Ok::<_, std::io::Error>(7))?, 7);
+    }
+    {
+        use hikebox::{CallLimit, Policy, Schedule, Throttle};
+        use std::time::Duration;
+        let policy = Policy::new(&(Schedule::recurs(8) & Schedule::exponential(Duration::from_millis(100), 2).cap(Duration::from_secs(10)).jittered(0.0..1.0)))?;
+        let limit = CallLimit::new(Throttle { ratio: 1.1, period: Duration::from_secs(5) })?;
+        assert_eq!(hikebox::retry(&policy, &limit, || Ok::<_, std::io::Error>(7))?, 7);
+    }
+    {
+        use hikebox::{CallLimit, Policy, Schedule, Throttle};
+        use std::time::Duration;
+        let policy = Policy::new(&(Schedule::recurs(8) & Schedule::exponential(Duration::from_millis(100), 2).cap(Duration::from_secs(10)).jittered(0.0..1.0)))?;
+        let limit = CallLimit::new(Throttle { ratio: 2.0, period: Duration::from_secs(60) })?;
+        assert_eq!(hikebox::retry(&policy, &limit, || Ok::<_, std::io::Error>(7))?, 7);
+    }
+    {
+        use hikebox::{Adaptive, CallLimit, Policy, Schedule};
+        use std::time::Duration;
+        let policy = Policy::new(&(Schedule::recurs(8) & Schedule::exponential(Duration::from_millis(100), 2).cap(Duration::from_secs(10)).jittered(0.0..1.0)))?;
+        let limit = CallLimit::new(Adaptive { least: 1, most: 200, first: 20, backoff: 0.5 })?;
+        assert_eq!(hikebox::retry(&policy, &limit, || Ok::<_, std::io::Error>(7))?, 7);
+    }
+    {
+        use hikebox::{Adaptive, CallLimit, Policy, Schedule};
+        use std::time::Duration;
+        let policy = Policy::new(&(Schedule::recurs(8) & Schedule::exponential(Duration::from_millis(100), 2).cap(Duration::from_secs(10)).jittered(0.0..1.0)))?;
+        let limit = CallLimit::new(Adaptive { least: 1, most: 10000, first: 20, backoff: 0.9 })?;
+        assert_eq!(hikebox::retry(&policy, &limit, || Ok::<_, std::io::Error>(7))?, 7);
+    }
+    Ok(())
 }
 
 mod storm_0 {
@@ -278,149 +338,6 @@ mod storm_4 {
             .beside(Population::new(20, &fourth).limited(true))
             .play()?;
         println!("{report}");
-        Ok(())
-    }
-}
-
-mod advised_0 {
-    pub fn main() -> Result<(), Box<dyn std::error::Error>> {
-        use hikebox::{Policy, Schedule, Unlimited};
-        use std::time::Duration;
-        let policy = Policy::new(&(Schedule::recurs(8) & Schedule::exponential(Duration::from_millis(100), 2).cap(Duration::from_secs(10)).jittered(0.0..1.0)))?;
-        let limit = Unlimited;
-        assert_eq!(hikebox::retry(&policy, &limit, || Ok::<_, std::io::Error>(7))?, 7);
-        Ok(())
-    }
-}
-
-mod advised_1 {
-    pub fn main() -> Result<(), Box<dyn std::error::Error>> {
-        use hikebox::{Policy, Quota, Schedule};
-        use std::time::Duration;
-        let policy = Policy::new(&(Schedule::recurs(8) & Schedule::exponential(Duration::from_millis(100), 2).cap(Duration::from_secs(10)).jittered(0.0..1.0)))?;
-        let limit = Quota::new(1, 0.01, Duration::from_secs(1))?;
-        assert_eq!(hikebox::retry(&policy, &limit, || Ok::<_, std::io::Error>(7))?, 7);
-        Ok(())
-    }
-}
-
-mod advised_2 {
-    pub fn main() -> Result<(), Box<dyn std::error::Error>> {
-        use hikebox::{Policy, Quota, Schedule};
-        use std::time::Duration;
-        let policy = Policy::new(&(Schedule::recurs(8) & Schedule::exponential(Duration::from_millis(100), 2).cap(Duration::from_secs(10)).jittered(0.0..1.0)))?;
-        let limit = Quota::new(100, 0.2, Duration::from_secs(10))?;
-        assert_eq!(hikebox::retry(&policy, &limit, || Ok::<_, std::io::Error>(7))?, 7);
-        Ok(())
-    }
-}
-
-mod advised_3 {
-    pub fn main() -> Result<(), Box<dyn std::error::Error>> {
-        use hikebox::{Bucket, CallLimit, Policy, Schedule};
-        use std::time::Duration;
-        let policy = Policy::new(&(Schedule::recurs(8) & Schedule::exponential(Duration::from_millis(100), 2).cap(Duration::from_secs(10)).jittered(0.0..1.0)))?;
-        let limit = CallLimit::new(Bucket::aws())?;
-        assert_eq!(hikebox::retry(&policy, &limit, || Ok::<_, std::io::Error>(7))?, 7);
-        Ok(())
-    }
-}
-
-mod advised_4 {
-    pub fn main() -> Result<(), Box<dyn std::error::Error>> {
-        use hikebox::{Bucket, CallLimit, Policy, Schedule};
-        use std::time::Duration;
-        let policy = Policy::new(&(Schedule::recurs(8) & Schedule::exponential(Duration::from_millis(100), 2).cap(Duration::from_secs(10)).jittered(0.0..1.0)))?;
-        let limit = CallLimit::new(Bucket::grpc(1000, 0.1)?)?;
-        assert_eq!(hikebox::retry(&policy, &limit, || Ok::<_, std::io::Error>(7))?, 7);
-        Ok(())
-    }
-}
-
-mod advised_5 {
-    pub fn main() -> Result<(), Box<dyn std::error::Error>> {
-        use hikebox::{CallLimit, InFlight, Policy, Schedule};
-        use std::time::Duration;
-        let policy = Policy::new(&(Schedule::recurs(8) & Schedule::exponential(Duration::from_millis(100), 2).cap(Duration::from_secs(10)).jittered(0.0..1.0)))?;
-        let limit = CallLimit::new(InFlight { least: 1, share: 0.05, most: None })?;
-        assert_eq!(hikebox::retry(&policy, &limit, || Ok::<_, std::io::Error>(7))?, 7);
-        Ok(())
-    }
-}
-
-mod advised_6 {
-    pub fn main() -> Result<(), Box<dyn std::error::Error>> {
-        use hikebox::{CallLimit, InFlight, Policy, Schedule};
-        use std::time::Duration;
-        let policy = Policy::new(&(Schedule::recurs(8) & Schedule::exponential(Duration::from_millis(100), 2).cap(Duration::from_secs(10)).jittered(0.0..1.0)))?;
-        let limit = CallLimit::new(InFlight::bulkhead(1000))?;
-        assert_eq!(hikebox::retry(&policy, &limit, || Ok::<_, std::io::Error>(7))?, 7);
-        Ok(())
-    }
-}
-
-mod advised_7 {
-    pub fn main() -> Result<(), Box<dyn std::error::Error>> {
-        use hikebox::{Breaker, CallLimit, Policy, Schedule};
-        use std::time::Duration;
-        let policy = Policy::new(&(Schedule::recurs(8) & Schedule::exponential(Duration::from_millis(100), 2).cap(Duration::from_secs(10)).jittered(0.0..1.0)))?;
-        let limit = CallLimit::new(Breaker { failures: 5, results: None, open_for: Policy::new(&Schedule::spaced(Duration::from_secs(1)))?, probes: 1, probe_deadline: Duration::from_secs(1) })?;
-        assert_eq!(hikebox::retry(&policy, &limit, || Ok::<_, std::io::Error>(7))?, 7);
-        Ok(())
-    }
-}
-
-mod advised_8 {
-    pub fn main() -> Result<(), Box<dyn std::error::Error>> {
-        use hikebox::{Breaker, CallLimit, Policy, Schedule};
-        use std::time::Duration;
-        let policy = Policy::new(&(Schedule::recurs(8) & Schedule::exponential(Duration::from_millis(100), 2).cap(Duration::from_secs(10)).jittered(0.0..1.0)))?;
-        let limit = CallLimit::new(Breaker { failures: 16, results: Some(32), open_for: Policy::new(&Schedule::spaced(Duration::from_secs(30)))?, probes: 1, probe_deadline: Duration::from_secs(1) })?;
-        assert_eq!(hikebox::retry(&policy, &limit, || Ok::<_, std::io::Error>(7))?, 7);
-        Ok(())
-    }
-}
-
-mod advised_9 {
-    pub fn main() -> Result<(), Box<dyn std::error::Error>> {
-        use hikebox::{CallLimit, Policy, Schedule, Throttle};
-        use std::time::Duration;
-        let policy = Policy::new(&(Schedule::recurs(8) & Schedule::exponential(Duration::from_millis(100), 2).cap(Duration::from_secs(10)).jittered(0.0..1.0)))?;
-        let limit = CallLimit::new(Throttle { ratio: 1.1, period: Duration::from_secs(5) })?;
-        assert_eq!(hikebox::retry(&policy, &limit, || Ok::<_, std::io::Error>(7))?, 7);
-        Ok(())
-    }
-}
-
-mod advised_10 {
-    pub fn main() -> Result<(), Box<dyn std::error::Error>> {
-        use hikebox::{CallLimit, Policy, Schedule, Throttle};
-        use std::time::Duration;
-        let policy = Policy::new(&(Schedule::recurs(8) & Schedule::exponential(Duration::from_millis(100), 2).cap(Duration::from_secs(10)).jittered(0.0..1.0)))?;
-        let limit = CallLimit::new(Throttle { ratio: 2.0, period: Duration::from_secs(60) })?;
-        assert_eq!(hikebox::retry(&policy, &limit, || Ok::<_, std::io::Error>(7))?, 7);
-        Ok(())
-    }
-}
-
-mod advised_11 {
-    pub fn main() -> Result<(), Box<dyn std::error::Error>> {
-        use hikebox::{Adaptive, CallLimit, Policy, Schedule};
-        use std::time::Duration;
-        let policy = Policy::new(&(Schedule::recurs(8) & Schedule::exponential(Duration::from_millis(100), 2).cap(Duration::from_secs(10)).jittered(0.0..1.0)))?;
-        let limit = CallLimit::new(Adaptive { least: 1, most: 200, first: 20, backoff: 0.5 })?;
-        assert_eq!(hikebox::retry(&policy, &limit, || Ok::<_, std::io::Error>(7))?, 7);
-        Ok(())
-    }
-}
-
-mod advised_12 {
-    pub fn main() -> Result<(), Box<dyn std::error::Error>> {
-        use hikebox::{Adaptive, CallLimit, Policy, Schedule};
-        use std::time::Duration;
-        let policy = Policy::new(&(Schedule::recurs(8) & Schedule::exponential(Duration::from_millis(100), 2).cap(Duration::from_secs(10)).jittered(0.0..1.0)))?;
-        let limit = CallLimit::new(Adaptive { least: 1, most: 10000, first: 20, backoff: 0.9 })?;
-        assert_eq!(hikebox::retry(&policy, &limit, || Ok::<_, std::io::Error>(7))?, 7);
         Ok(())
     }
 }

@@ -1,25 +1,18 @@
 //! Bulkheads, breakers by their last results and adaptive limits: rows worked by hand; and what a limit lets see.
 
+mod common;
+
+use common::{admitted, policy};
 use hikebox::RefusalReason::{BreakerOpen, RequestsFull};
 use hikebox::{
-    both, Adaptive, Breaker, BreakerState, Bucket, CallLimit, InFlight, LimitError, LimitState, Policy, Request,
-    RetryError, Retrying, Throttle,
+    both, Adaptive, Breaker, BreakerState, Bucket, CallLimit, InFlight, LimitError, LimitState, Request, RetryError,
+    Retrying, Throttle,
 };
 use std::cell::Cell;
 use std::panic::{catch_unwind, AssertUnwindSafe};
 use std::sync::{Arc, Mutex};
 use std::thread;
 use std::time::{Duration, Instant};
-
-fn policy(json: &str) -> Policy {
-    json.parse().unwrap()
-}
-
-fn admitted(limit: &CallLimit) -> Request {
-    let mut request = limit.request().unwrap();
-    request.admit().unwrap();
-    request
-}
 
 fn one(limit: &CallLimit) -> LimitState {
     let [state]: [LimitState; 1] = limit.seen().try_into().expect("one limit");

@@ -1,11 +1,11 @@
 //! Storms: that they are those of `zsched storm`, their numbers, and what is refused.
 
+mod common;
+
 use hikebox::{Axis, Breaker, Bucket, InFlight, Measure, Sweep, Terms, Throttle};
 use hikebox::{LimitError, Policy, Population, PopulationReport, Schedule, Storm, StormError, StormReport};
 use std::error::Error;
-use std::io::Write;
 use std::path::Path;
-use std::process::{Command, Stdio};
 use std::sync::atomic::{AtomicU64, Ordering};
 use std::time::Duration;
 
@@ -31,7 +31,7 @@ fn full() -> Policy {
     policy(Schedule::recurs(8) & back_off().jittered(0.0..1.0))
 }
 
-/// What the program prints that the engine's crates build: the one that `HIKEBOX_ZSCHED` names, or that of `dist/`.
+/// What `zsched storm` prints.
 fn zsched(form: &str, options: &str, policy: &Policy) -> String {
     zsched_beside(form, options, policy, &[])
 }
@@ -46,21 +46,11 @@ fn zsched_beside(form: &str, options: &str, policy: &Policy, others: &[(&str, &P
         std::fs::write(&path, policy.as_json()).unwrap();
         ["--beside".to_owned(), format!("{words}={}", path.to_str().unwrap())]
     };
-    let of_dist = concat!(env!("CARGO_MANIFEST_DIR"), "/../dist/zsched");
-    let mut child = Command::new(std::env::var_os("HIKEBOX_ZSCHED").unwrap_or_else(|| of_dist.into()))
-        .args(["storm", form])
-        .args(options.split_whitespace())
-        .args(others.iter().flat_map(beside))
-        .arg("-")
-        .stdin(Stdio::piped())
-        .stdout(Stdio::piped())
-        .stderr(Stdio::null())
-        .spawn()
-        .unwrap();
-    child.stdin.take().unwrap().write_all(policy.as_json().as_bytes()).unwrap();
-    let output = child.wait_with_output().unwrap();
-    assert!(matches!(output.status.code(), Some(0 | 6)), "{options}");
-    String::from_utf8(output.stdout).unwrap()
+    let arguments = ["storm", form].into_iter().chain(options.split_whitespace()).map(str::to_owned);
+    let arguments = arguments.chain(others.iter().flat_map(beside)).chain(["-".to_owned()]);
+    let (status, text) = common::zsched(arguments, policy.as_json());
+    assert!(matches!(status, Some(0 | 6)), "{options}");
+    text
 }
 
 #[test]
@@ -68,8 +58,9 @@ fn zsched_beside(form: &str, options: &str, policy: &Policy, others: &[(&str, &P
 fn a_storm_is_what_the_program_prints() {
     let three = policy(Schedule::recurs(3));
     let spaced = policy(Schedule::recurs(2) & Schedule::spaced(millis(10)));
-    let cases: [(Storm, &Policy, &str); 11] = [
+    let cases: [(Storm, &Policy, &str); 12] = [
         (Storm::new(&three).seconds(15), &three, "--seconds 15"),
+        (Storm::brown_out(&three).seconds(12), &three, "--seconds 12 --outage 0..0 --slow 10000..20000@50"),
         (Storm::new(&full()).rate(90).seconds(12).seed(7), &full(), "--rate 90 --seconds 12 --words 7"),
         (
             Storm::new(&three).seconds(1).budget(5).outage(SECOND / 10..SECOND),
@@ -153,19 +144,6 @@ fn a_storm_of_several_populations_is_what_the_program_prints() {
         assert_eq!(report.to_json() + "\n", zsched_beside("--json", &options, &full, &others), "{options} {others:?}");
         assert_eq!(report.to_csv(), zsched_beside("--csv", &options, &full, &others), "{options} {others:?}");
     }
-}
-
-#[test]
-fn the_storm_that_never_ends_and_the_one_that_a_quota_ends() {
-    let never = Storm::new(&full()).play().unwrap().totals;
-    assert_eq!((never.calls_per_request(), never.recovered, never.cut), (7.62, None, false));
-    let ends = Storm::new(&full()).quota(10, 0.1, SECOND).play().unwrap().totals;
-    assert_eq!((ends.hundredths, ends.recovered), (102, Some(seconds(20))));
-    assert_eq!(ends.requests, ends.won + ends.lost + ends.denied + ends.open);
-    assert_eq!(ends.tickets, ends.calls - ends.requests);
-    let three = policy(Schedule::recurs(3));
-    assert_eq!(Storm::new(&three).play().unwrap().totals.hundredths, 150);
-    assert_eq!(Storm::brown_out(&three).play().unwrap().totals.recovered, None);
 }
 
 #[test]

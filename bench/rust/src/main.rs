@@ -1,7 +1,7 @@
-//! Retries by the crate `hikebox` beside the crates `retry` and `backoff`, and draws of a budget and of a quota beside
-//! tower's budget: the least nanoseconds of many rounds, which take turns. No run waits.
+//! Retries by the crate `hikebox` beside the crates `retry` and `backoff`, draws of a budget and of a quota beside tower's
+//! budget, and a draw that leases in a folder: the least nanoseconds of many rounds, which take turns. No run waits.
 
-use hikebox::{Breaker, Budget, CallLimit, Policy, Quota};
+use hikebox::{Breaker, Budget, CallLimit, Leased, Policy, Quota};
 use std::hint::black_box;
 use std::sync::Barrier;
 use std::thread;
@@ -17,6 +17,7 @@ fn main() {
         retries(failures);
     }
     draws();
+    leases();
     for threads in [1, 2, 4] {
         successes(threads);
     }
@@ -95,6 +96,15 @@ fn draws() {
         "a request counted and a retry drawn for it: hikebox's quota {deposit_and_draw:.1} ns, tower's budget \
          {deposit_and_withdraw:.1} ns"
     );
+}
+
+/// Draws of a budget in a folder, each of which leases one ticket.
+fn leases() {
+    let folder = std::env::temp_dir().join(format!("hikebox-bench-{}", std::process::id()));
+    let leased = Leased::new(&folder, "bench", MAX_TICKETS).expect("a limit").in_each(WINDOW).lease(1);
+    let [draw] = least([&mut || leased.draw().is_ok()]);
+    println!("a draw that leases one ticket in a folder: {draw:.0} ns");
+    std::fs::remove_dir_all(&folder).expect("the folder");
 }
 
 /// A call that fails so many times and then succeeds.

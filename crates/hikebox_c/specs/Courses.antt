@@ -1,5 +1,5 @@
 -- What C gives of a course, and what it is told.
-use Rattle.std.specs.Prelude.{◌≡◌, ◌⊎◌, ℕ, ◌+◌, ◌<◌, ◌≤◌, List, [], ◌∷◌, map, flat_map, length, true, false, Option}
+use Rattle.std.specs.Prelude.{◌≡◌, ◌≢◌, ℕ, ◌+◌, ◌<◌, ◌≤◌, List, [], ◌∷◌, map, flat_map, length, true, false, Option}
 use Rattle.std.specs.Prelude.{Some, Result, Ok, Err, string_bytes}
 use Rattle.std.specs.List.{All}
 use Rattle.sched_time.specs.declared.numbers.TheConstants.{FAR}
@@ -15,12 +15,13 @@ use Rattle.sched_handle.specs.Status.{code_of}
 use Rattle.sched_handle.specs.declared.held.Held.{Held}
 use Rattle.sched_handle.specs.declared.held.Held.TheVariants.{Policy}
 use Rattle.sched_handle.specs.declared.status.Status.{Status}
-use Rattle.sched_handle.specs.declared.status.Status.TheVariants.{OutOfRange, NoRoom}
-use Rattle.hikebox_c.specs.Texts.{IsWritten}
+use Rattle.sched_handle.specs.declared.status.Status.TheVariants.{WrongSize, OutOfRange}
+use Rattle.hikebox_c.specs.Texts.{Writes}
 use Rattle.hikebox_c.specs.declared.courses.CourseGiven.{CourseGiven}
 use Rattle.hikebox_c.specs.declared.courses.CourseTold.{CourseTold}
 use Rattle.hikebox_c.specs.declared.courses.EventGiven.{EventGiven}
 use Rattle.hikebox_c.specs.declared.courses.LineTold.{LineTold}
+use Rattle.hikebox_c.specs.declared.courses.SizedCourse.{SizedCourse}
 
 abbrev pub InputIsInRange : EventGiven → Type 0
 InputIsInRange e = e.input ≤ FAR
@@ -66,31 +67,23 @@ pub record AreTold (ls : List Line) (told : CourseTold) : Type 0 where
   pub lines : told.lines.items ≡ lines_told 0 ls
   pub text : string_bytes told.text ≡ outputs_text ls
 
--- the course of the policy that a handle holds, or none: no course is given, or else there is no policy, or no memory
-abbrev pub StepsPolicy : CourseGiven → List EventGiven → Option Held → Result CourseTold Status → Type 0
-StepsPolicy g es u (Ok told) =
-    IsGiven g es × ((s : Schedule) × (u ≡ Some (Policy s)) × AreTold (course_lines s (course_given g es)) told)
-StepsPolicy g es u (Err OutOfRange) = ¬ IsGiven g es
-StepsPolicy g es u (Err s) = IsGiven g es × HasNoPolicy u s
+-- the course of the policy that a handle holds, or none: the struct has another size, or no course is given, or else
+-- there is no policy, or no memory
+abbrev pub StepsPolicy : SizedCourse → List EventGiven → Option Held → Result CourseTold Status → Type 0
+StepsPolicy c es u (Ok told) = (c.size ≡ 32) × IsGiven c.course es
+    × ((s : Schedule) × (u ≡ Some (Policy s)) × AreTold (course_lines s (course_given c.course es)) told)
+StepsPolicy c es u (Err WrongSize) = c.size ≢ 32
+StepsPolicy c es u (Err OutOfRange) = (c.size ≡ 32) × ¬ IsGiven c.course es
+StepsPolicy c es u (Err s) = (c.size ≡ 32) × IsGiven c.course es × HasNoPolicy u s
 
--- what C gives room for: lines, how many there are, the bytes of a text, and how many there are of these
-pub record Room : Type 0 where
-  pub lines : List LineTold
-  pub count : ℕ
-  pub text : List ℕ
-  pub length : ℕ
+-- the lines are written where there is room for them, and how many there are in any case; a reason is told by its
+-- number
+abbrev pub TellsLines : ℕ → List LineTold → List LineTold → ℕ → ℕ → Result CourseTold Status → Type 0
+TellsLines code old new had has (Ok told) = (has ≡ length told.lines.items) × Writes told.lines.items code old new
+TellsLines code old new had has (Err s) = (code ≡ code_of s) × (new ≡ old) × (has ≡ had)
 
--- there is room for the lines and the text
-pub record HasRoom (room : Room) (told : CourseTold) : Type 0 where
-  pub lines : length told.lines.items ≤ length room.lines
-  pub text : length (string_bytes told.text) ≤ length room.text
-
--- the lines and the text are written where there is room for both, and how many there are in any case; a reason is told
--- by its number, and the room is as it was
-abbrev pub TellsCourse : Room → ℕ → Room → Result CourseTold Status → Type 0
-TellsCourse old code new (Ok told) =
-    (new.count ≡ length told.lines.items) × (new.length ≡ length (string_bytes told.text))
-    × (((code ≡ 0) × HasRoom old told × IsWritten told.lines.items old.lines new.lines
-    × IsWritten (string_bytes told.text) old.text new.text)
-    ⊎ ((code ≡ code_of NoRoom) × (¬ HasRoom old told) × (new.lines ≡ old.lines) × (new.text ≡ old.text)))
-TellsCourse old code new (Err s) = (code ≡ code_of s) × (new ≡ old)
+-- the same of the text of all outputs
+abbrev pub TellsOutputs : ℕ → List ℕ → List ℕ → ℕ → ℕ → Result CourseTold Status → Type 0
+TellsOutputs code old new had has (Ok told) =
+    (has ≡ length (string_bytes told.text)) × Writes (string_bytes told.text) code old new
+TellsOutputs code old new had has (Err s) = (code ≡ code_of s) × (new ≡ old) × (has ≡ had)

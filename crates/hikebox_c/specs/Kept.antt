@@ -1,5 +1,6 @@
 -- What a step makes of a word that a store keeps, and of what its request holds, as C keeps them.
-use Rattle.std.specs.Prelude.{◌≡◌, ◌⊎◌, ℕ, ◌==◌, nat_lt, true, if◌then◌else◌, Option, Some, None, Result, Ok, Err}
+use Rattle.std.specs.Prelude.{◌≡◌, ◌⊎◌, ℕ, ◌==◌, nat_lt, true, if◌then◌else◌, List, length}
+use Rattle.std.specs.Prelude.{Option, Some, None, Result, Ok, Err}
 use Rattle.sched_limit.specs.declared.breaker.Breaker.{Breaker}
 use Rattle.sched_limit.specs.declared.breaker_machine.TheConstants.{LAST_MOMENT}
 use Rattle.sched_limit.specs.Step.{Rules, step}
@@ -11,7 +12,7 @@ use Rattle.sched_limit_handle.specs.Status.{code_of}
 use Rattle.sched_limit_handle.specs.declared.status.Status.{Status}
 use Rattle.sched_limit_handle.specs.declared.status.Status.TheVariants.{OutOfRange, TooLarge}
 use Rattle.hikebox_c.specs.Limits.{TellsRefusal}
-use Rattle.hikebox_c.specs.LimitTerms.{IsBreakerOf}
+use Rattle.hikebox_c.specs.LimitTerms.{IsBreakerGiven, IsBreakerOf}
 use Rattle.hikebox_c.specs.declared.limits.BreakerGiven.{BreakerGiven}
 use Rattle.hikebox_c.specs.declared.kept.HeldGiven.{HeldGiven}
 use Rattle.hikebox_c.specs.declared.kept.KeptGiven.{KeptGiven}
@@ -65,8 +66,8 @@ abbrev pub Does : Rules → ℕ → Result Told Status → ℕ → Found → Fou
 Does m first (Ok told) code found left = Steps m first told code found left
 Does m first (Err why) code found left = IsUnmoved why code found left
 
--- A breaker with so many open times, whose clock begins at 0, does so, if there is one.
-abbrev pub BreakerDoes : BreakerGiven → ℕ → ToldGiven → ℕ → Found → Found → Type 0
-BreakerDoes b count told code found left =
-    ((c : Breaker) × IsBreakerOf 0 b count c × Does (breaker_rules c) 0 (told_of LAST_MOMENT told) code found left)
-    ⊎ IsUnmoved OutOfRange code found left
+-- A breaker with these open times, whose clock begins at 0, does so, if there is one.
+abbrev pub BreakerDoes : BreakerGiven → List ℕ → ToldGiven → ℕ → Found → Found → Type 0
+BreakerDoes b times told code found left =
+    ((c : Breaker) × IsBreakerOf 0 b times c × Does (breaker_rules c) 0 (told_of LAST_MOMENT told) code found left)
+    ⊎ ((IsBreakerGiven b (length times) → ⊥) × IsUnmoved OutOfRange code found left)

@@ -12,16 +12,16 @@ use Rattle.sched_handle.specs.declared.status.Status.TheVariants.{NoMemory, NoRo
 abbrev pub IsWritten : {A : Type 0} → List A → List A → List A → Type 0
 IsWritten items old new = new ≡ items ++ drop (length items) old
 
--- these bytes are written where there is room for them
-abbrev pub WritesBytes : List ℕ → ℕ → List ℕ → List ℕ → Type 0
-WritesBytes bytes code old new =
-    ((code ≡ 0) × (length bytes ≤ length old) × IsWritten bytes old new)
-    ⊎ ((code ≡ code_of NoRoom) × (length old < length bytes) × (new ≡ old))
+-- these are written where there is room for them
+abbrev pub Writes : {A : Type 0} → List A → ℕ → List A → List A → Type 0
+Writes items code old new =
+    ((code ≡ 0) × (length items ≤ length old) × IsWritten items old new)
+    ⊎ ((code ≡ code_of NoRoom) × (length old < length items) × (new ≡ old))
 
 -- a text is written where there is room for it, and its length in any case; a reason is told by its number
 abbrev pub TellsText : ℕ → List ℕ → List ℕ → ℕ → ℕ → Result (String Global) Status → Type 0
 TellsText code old new had has (Ok text) =
-    (has ≡ length (string_bytes text)) × WritesBytes (string_bytes text) code old new
+    (has ≡ length (string_bytes text)) × Writes (string_bytes text) code old new
 TellsText code old new had has (Err s) = (code ≡ code_of s) × (new ≡ old) × (has ≡ had)
 
 -- the text of a fault, and an empty one of none

@@ -1,13 +1,13 @@
 //! What a policy does along a course.
-ghost use Rattle.std.specs.Prelude.{◌≡◌, ◌≢◌, ◌↔◌, map, IsTrue, IfOk, Err};
+ghost use Rattle.std.specs.Prelude.{◌≡◌, ◌↔◌, map, IsTrue, IfOk};
 ghost use Rattle.std.specs.List.{All};
 ghost use Rattle.sched_plan_course.specs.Course.{course_of};
 ghost use Rattle.sched_plan_course.specs.Lines.{course_lines as lines_of_course};
-ghost use Rattle.sched_handle.specs.declared.status.Status.TheVariants as status;
 ghost use Rattle.hikebox_c.specs.Calls.{Comes};
 ghost use Rattle.hikebox_c.specs.Courses.{IsGiven, InputIsInRange, course_given, told_by, AreTold, StepsPolicy};
-ghost use Rattle.hikebox_c.specs.Courses.{TellsCourse};
+ghost use Rattle.hikebox_c.specs.Courses.{TellsLines, TellsOutputs};
 
+use crate::texts::tell_text;
 use sched_handle::{Handle, Status};
 use sched_plan::Plan;
 use sched_plan_course::{Line, MAX_STEPS, PlanCourse, course_lines};
@@ -69,75 +69,56 @@ pub extern "C" fn hikebox_policy_course(
     events: &[EventGiven],
     lines: &mut [LineTold],
     count: &mut usize,
-    text: &mut [u8],
-    length: &mut usize,
 ) -> u32
     ensures kept { policy.new.held ≡ policy.old.held }
-    ensures course { course.now.size ≡ 32 →
-        Comes (StepsPolicy course.now.course events.now policy.old.held) (TellsCourse
-        (record { lines = lines.old; count = count.old; text = text.old; length = length.old }) result
-        (record { lines = lines.new; count = count.new; text = text.new; length = length.new })) }
-    ensures wrong_size { course.now.size ≢ 32 → TellsCourse
-        (record { lines = lines.old; count = count.old; text = text.old; length = length.old }) result
-        (record { lines = lines.new; count = count.new; text = text.new; length = length.new })
-        (Err status.WrongSize) }
-{
-    if course.size != COURSE_SIZE {
-        return Status::WrongSize.code();
-    }
-    tell_course(
-        alloc,
-        policy,
-        &course.course,
-        events,
-        lines,
-        count,
-        text,
-        length,
-    )
-}
-
-// Writes the lines of the course, and their outputs.
-fn tell_course(
-    alloc: Global,
-    policy: &mut Handle,
-    course: &CourseGiven,
-    events: &[EventGiven],
-    lines: &mut [LineTold],
-    count: &mut usize,
-    text: &mut [u8],
-    length: &mut usize,
-) -> u32
-    ensures kept { policy.new.held ≡ policy.old.held }
-    ensures course { Comes (StepsPolicy course.now events.now policy.old.held) (TellsCourse
-        (record { lines = lines.old; count = count.old; text = text.old; length = length.old }) result
-        (record { lines = lines.new; count = count.new; text = text.new; length = length.new })) }
+    ensures course { Comes (StepsPolicy course.now events.now policy.old.held)
+        (TellsLines result lines.old lines.new count.old count.new) }
 {
     let told = match course_told(alloc, policy, course, events) {
         Ok(told) => told,
         Err(status) => return status.code(),
     };
-    let bytes = told.text.as_bytes();
     *count = told.lines.len();
-    *length = bytes.len();
-    if lines.len() < told.lines.len() || text.len() < bytes.len() {
+    if lines.len() < told.lines.len() {
         return Status::NoRoom.code();
     }
     lines[..told.lines.len()].copy_from_slice(&told.lines);
-    text[..bytes.len()].copy_from_slice(bytes);
     0
+}
+
+#[unsafe(no_mangle)]
+pub extern "C" fn hikebox_policy_outputs(
+    alloc: Global,
+    policy: &mut Handle,
+    course: &SizedCourse,
+    events: &[EventGiven],
+    text: &mut [u8],
+    length: &mut usize,
+) -> u32
+    ensures kept { policy.new.held ≡ policy.old.held }
+    ensures course { Comes (StepsPolicy course.now events.now policy.old.held)
+        (TellsOutputs result text.old text.new length.old length.new) }
+{
+    match course_told(alloc, policy, course, events) {
+        Ok(told) => tell_text(Ok(told.text), text, length),
+        Err(status) => status.code(),
+    }
 }
 
 // What the policy that a handle holds does along the course with these events.
 fn course_told(
     alloc: Global,
     policy: &mut Handle,
-    course: &CourseGiven,
+    course: &SizedCourse,
     events: &[EventGiven],
 ) -> Result<CourseTold, Status>
     ensures kept { policy.new.held ≡ policy.old.held }
     ensures course { StepsPolicy course.now events.now policy.old.held result }
 {
+    if course.size != COURSE_SIZE {
+        return Err(Status::WrongSize);
+    }
+    let course = &course.course;
     if !course.is_given(events) {
         return Err(Status::OutOfRange);
     }

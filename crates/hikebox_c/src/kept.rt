@@ -5,7 +5,7 @@ ghost use Rattle.sched_limit.specs.Bucket.{AreTerms};
 ghost use Rattle.sched_limit.specs.Step.{rules};
 ghost use Rattle.sched_limit.specs.Kinds.{bucket_rules};
 ghost use Rattle.sched_limit_handle.specs.declared.status.Status.TheVariants as status;
-ghost use Rattle.hikebox_c.specs.LimitTerms.{bucket_of, IsBreakerOf};
+ghost use Rattle.hikebox_c.specs.LimitTerms.{bucket_of, IsBreakerGiven, IsBreakerOf};
 ghost use Rattle.hikebox_c.specs.Kept.{Steps, Does, BreakerDoes, IsUnmoved};
 ghost use Rattle.hikebox_c.specs.Kept.{told_of, told_by, request_of, drawn_of, word_in};
 
@@ -161,7 +161,7 @@ pub extern "C" fn hikebox_breaker_step(
 ) -> u32
     ensures wrong_size { terms.now.size ≢ 40 →
         IsUnmoved status.WrongSize result (kept.old, held.old, number.old) (kept.new, held.new, number.new) }
-    ensures does { terms.now.size ≡ 40 → BreakerDoes terms.now (length times.now) told.now result
+    ensures does { terms.now.size ≡ 40 → BreakerDoes terms.now times.now told.now result
         (kept.old, held.old, number.old) (kept.new, held.new, number.new) }
 {
     if terms.size != BREAKER_SIZE {
@@ -175,7 +175,8 @@ pub extern "C" fn hikebox_breaker_step(
 
 // A breaker of these terms whose clock begins at 0, if there is one.
 fn breaker_at_zero(terms: &BreakerGiven, times: &[u64]) -> Option<Breaker>
-    ensures { IfSome result (IsBreakerOf 0 terms.now (length times.now)) }
+    ensures some { IfSome result (IsBreakerOf 0 terms.now times.now) }
+    ensures none { IfNone result (IsBreakerGiven terms.now (length times.now) → ⊥) }
 {
     match Moment::new(0) {
         Some(start) => breaker_of(start, terms, times),

@@ -1,9 +1,9 @@
 //! Limits: what a request asks before each run, and tells after it.
-ghost use Rattle.std.specs.Prelude.{◌≡◌, ◌≢◌, ◌<◌, ◌≤◌, None, length, IfSome, IfNone};
+ghost use Rattle.std.specs.Prelude.{◌≡◌, ◌≢◌, ◌<◌, ◌≤◌, None, IfSome, IfNone, length};
 ghost use Rattle.sched_time.specs.declared.numbers.TheConstants.{FAR};
 ghost use Rattle.sched_limit.specs.Results.{IsByResults};
 ghost use Rattle.sched_limit.specs.declared.request.Told.TheVariants as told_as;
-ghost use Rattle.sched_limit_handle.specs.Held.{MakesBucket, MakesFlight, HeldTells};
+ghost use Rattle.sched_limit_handle.specs.Held.{MakesBucket, Makes, IsFlight, HeldTells};
 ghost use Rattle.sched_handle.specs.Fills.{Frees};
 ghost use Rattle.sched_handle.specs.Limits.{OnLimits};
 ghost use Rattle.sched_handle.specs.Status.{code_of};
@@ -13,7 +13,8 @@ ghost use Rattle.hikebox_c.specs.Calls.{OnHeld};
 ghost use Rattle.hikebox_c.specs.Limits.{MakesLimit, PutsLimits, PartsHeld, JoinsHeld, TellsRefusal, TellsAsked};
 ghost use Rattle.hikebox_c.specs.Limits.{TellsHeld};
 ghost use Rattle.hikebox_c.specs.LimitTerms.{bucket_of, flight_of, IsAdaptiveGiven, IsAdaptiveOf, AdaptiveMade};
-ghost use Rattle.hikebox_c.specs.LimitTerms.{IsBreakerOf, BreakerMade, ThrottleMade};
+ghost use Rattle.hikebox_c.specs.LimitTerms.{AreTimes, IsBreakerGiven, IsBreakerOf, BreakerMade};
+ghost use Rattle.hikebox_c.specs.LimitTerms.{IsThrottleGiven, IsThrottleOf, ThrottleMade};
 
 use sched_handle::{Handle, Held, Kind, Status};
 use sched_limit::{Adaptive, Breaker, Bucket, InFlight, MAX_TRIPS, Refusal, Throttle};
@@ -105,7 +106,7 @@ pub extern "C" fn hikebox_in_flight_new(
     most: u32,
     limit: &mut Handle,
 ) -> u32
-    ensures { MakesLimit (MakesFlight (flight_of least share most)) limit.old.held result limit.new.held }
+    ensures { MakesLimit (Makes (IsFlight (flight_of least share most))) limit.old.held result limit.new.held }
 {
     if limit.is_full() {
         return Status::Full.code();
@@ -174,7 +175,7 @@ pub extern "C" fn hikebox_breaker_new(
     limit: &mut Handle,
 ) -> u32
     ensures made { terms.now.size ≡ 40 → now ≤ FAR →
-        MakesLimit (BreakerMade now terms.now (length times.now)) limit.old.held result limit.new.held }
+        MakesLimit (BreakerMade now terms.now times.now) limit.old.held result limit.new.held }
     ensures wrong_size { terms.now.size ≢ 40 →
         (limit.new.held ≡ limit.old.held) × (result ≡ code_of status.WrongSize) }
     ensures too_large { terms.now.size ≡ 40 → FAR < now →
@@ -200,7 +201,7 @@ fn breaker(
     terms: &BreakerGiven,
     times: &[u64],
 ) -> Result<Box<Limits>, Reason>
-    ensures { BreakerMade now terms.now (length times.now) result }
+    ensures { BreakerMade now terms.now times.now result }
 {
     match breaker_of(now, terms, times) {
         Some(breaker) => Limits::breaker(alloc, breaker),
@@ -210,7 +211,8 @@ fn breaker(
 
 // The terms of a breaker and its open times, if there is such a breaker.
 pub(crate) fn breaker_of(now: Moment, terms: &BreakerGiven, times: &[u64]) -> Option<Breaker>
-    ensures { IfSome result (IsBreakerOf now terms.now (length times.now)) }
+    ensures some { IfSome result (IsBreakerOf now terms.now times.now) }
+    ensures none { IfNone result (IsBreakerGiven terms.now (length times.now) → ⊥) }
 {
     let Ok(failures) = u32::try_from(terms.failures) else {
         return None;
@@ -237,7 +239,8 @@ pub(crate) fn breaker_of(now: Moment, terms: &BreakerGiven, times: &[u64]) -> Op
 // The breaker by so many of its last results, or in a row where they are 0, if there is such a one.
 fn by_results(breaker: Breaker, results: u64) -> Option<Breaker>
     requires { breaker.results ≡ 0 }
-    ensures { IfSome result (IsByResults breaker results) }
+    ensures some { IfSome result (IsByResults breaker results) }
+    ensures none { IfNone result (((results ≤ 32) × (1 ≤ results → breaker.failures ≤ results)) → ⊥) }
 {
     if results == 0 {
         return Some(breaker);
@@ -250,7 +253,7 @@ fn by_results(breaker: Breaker, results: u64) -> Option<Breaker>
 
 // The first 64 open times, and 0 in the place of those that are not given.
 fn kept_of(times: &[u64]) -> [u64; 64]
-    ensures { length result ≡ 64 }
+    ensures { AreTimes times.now result }
 {
     let mut kept = [0; 64];
     for i in 0..times.len().min(64) {
@@ -285,13 +288,21 @@ pub extern "C" fn hikebox_throttle_new(
 fn throttle(alloc: Global, now: Moment, ratio: u32, period: u64) -> Result<Box<Limits>, Reason>
     ensures { ThrottleMade now ratio period result }
 {
-    let Some(period) = Millis::new(period) else {
-        return Err(Reason::OutOfRange);
-    };
-    match Throttle::new(now, ratio, period) {
+    match throttle_of(now, ratio, period) {
         Some(throttle) => Limits::throttle(alloc, throttle),
         None => Err(Reason::OutOfRange),
     }
+}
+
+// The throttle of these terms, if there is one.
+fn throttle_of(now: Moment, ratio: u32, period: u64) -> Option<Throttle>
+    ensures some { IfSome result (IsThrottleOf now ratio period) }
+    ensures none { IfNone result (IsThrottleGiven ratio period → ⊥) }
+{
+    let Some(period) = Millis::new(period) else {
+        return None;
+    };
+    Throttle::new(now, ratio, period)
 }
 
 #[unsafe(no_mangle)]

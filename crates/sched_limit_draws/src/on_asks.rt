@@ -1,5 +1,5 @@
 //! A limit that retries draw on.
-ghost use Rattle.std.specs.Prelude.{◌≡◌, IfOk, IfErr};
+ghost use Rattle.std.specs.Prelude.{◌≡◌, IfOk, IfErr, OnOk};
 ghost use Rattle.sched_limit_draws.specs.Limits.{Cancelled, fresh_on};
 
 use crate::costs::Costs;
@@ -70,11 +70,10 @@ impl<L: Asks, G: Rng + Drop> OnAsks<L, G> {
 
     /// What draws on the same limit at the same costs, for another thread's requests, with words of this generator.
     pub fn split(&mut self, words: G) -> Result<OnAsks<L, G>, SplitFault>
-        ensures limit { IfOk result (λ part. L.asked.splits self.old.limit part.limit self.new.limit) }
-        ensures spared { L.asked.spares self.old.limit self.new.limit }
+        ensures part { IfOk result (λ part. part ≡ fresh_on (L.asked.part self.old.limit) words self.old.costs) }
+        ensures left { OnOk result (self.new.limit ≡ L.asked.left self.old.limit) }
         ensures rest { self.new ≡ record self.old { limit = self.new.limit } }
-        ensures fresh { IfOk result (λ part. part ≡ fresh_on part.limit words self.old.costs) }
-        ensures unsplit { IfErr result (λ why. L.asked.unsplit self.old.limit why) }
+        ensures unsplit { IfErr result (λ why. L.asked.unsplit self.old.limit why self.new.limit) }
     {
         let limit = self.limit.split()?;
         Ok(OnAsks::new(limit, words, self.costs))

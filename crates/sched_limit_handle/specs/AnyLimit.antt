@@ -9,7 +9,7 @@ use Rattle.sched_limit.specs.declared.breaker.Breaker.{Breaker}
 use Rattle.sched_limit.specs.declared.request.Told.{Told}
 use Rattle.sched_limit_request.specs.Asks.{Asked}
 use Rattle.sched_limit_request.specs.declared.fault.SplitFault.{SplitFault}
-use Rattle.sched_limit_request.specs.Limits.{OfLimit, limit_asked}
+use Rattle.sched_limit_request.specs.Limits.{OfLimit, Unsplit, limit_asked}
 use Rattle.sched_limit_request.specs.Windows.{window_asked}
 use Rattle.sched_limit_handle.specs.declared.any_limit.AnyLimit.{AnyLimit}
 use Rattle.sched_limit_handle.specs.declared.any_limit.AnyLimit.TheVariants as any
@@ -27,8 +27,8 @@ on_adaptive = limit_asked adaptive_rules
 abbrev pub on_breaker : Asked (OfLimit Breaker)
 on_breaker = limit_asked breaker_rules
 
--- after a call the limit is of the same kind, and this is true of what it was and is
-abbrev pub Same : {D : Type 0} → (D → AnyLimit) → AnyLimit → (D → Type 0) → Type 0
+-- after a call a limit is of the same kind, or a handle of as many, and this is true of what it was and is
+abbrev pub Same : {D V : Type 0} → (D → V) → V → (D → Type 0) → Type 0
 Same {D} kind v P = (e : D) × (v ≡ kind e) × P e
 
 abbrev pub AnyTells : AnyLimit → Told → ℕ → Answer → AnyLimit → Type 0
@@ -39,26 +39,26 @@ AnyTells (any.Breaker d) told random r v = Same any.Breaker v (on_breaker.tells 
 AnyTells (any.Throttle d) told random r v = Same any.Throttle v (window_asked.tells d told random r)
 
 -- the part is of the same kind too
-abbrev pub AnySplits : AnyLimit → AnyLimit → AnyLimit → Type 0
-AnySplits (any.Bucket d) part v = Same any.Bucket part (λ p. Same any.Bucket v (on_bucket.splits d p))
-AnySplits (any.InFlight d) part v = Same any.InFlight part (λ p. Same any.InFlight v (on_flight.splits d p))
-AnySplits (any.Adaptive d) part v = Same any.Adaptive part (λ p. Same any.Adaptive v (on_adaptive.splits d p))
-AnySplits (any.Breaker d) part v = Same any.Breaker part (λ p. Same any.Breaker v (on_breaker.splits d p))
-AnySplits (any.Throttle d) part v = Same any.Throttle part (λ p. Same any.Throttle v (window_asked.splits d p))
+abbrev pub any_part : AnyLimit → AnyLimit
+any_part (any.Bucket d) = any.Bucket (on_bucket.part d)
+any_part (any.InFlight d) = any.InFlight (on_flight.part d)
+any_part (any.Adaptive d) = any.Adaptive (on_adaptive.part d)
+any_part (any.Breaker d) = any.Breaker (on_breaker.part d)
+any_part (any.Throttle d) = any.Throttle (window_asked.part d)
 
-abbrev pub AnySpares : AnyLimit → AnyLimit → Type 0
-AnySpares (any.Bucket d) v = Same any.Bucket v (on_bucket.spares d)
-AnySpares (any.InFlight d) v = Same any.InFlight v (on_flight.spares d)
-AnySpares (any.Adaptive d) v = Same any.Adaptive v (on_adaptive.spares d)
-AnySpares (any.Breaker d) v = Same any.Breaker v (on_breaker.spares d)
-AnySpares (any.Throttle d) v = Same any.Throttle v (window_asked.spares d)
+abbrev pub any_left : AnyLimit → AnyLimit
+any_left (any.Bucket d) = any.Bucket (on_bucket.left d)
+any_left (any.InFlight d) = any.InFlight (on_flight.left d)
+any_left (any.Adaptive d) = any.Adaptive (on_adaptive.left d)
+any_left (any.Breaker d) = any.Breaker (on_breaker.left d)
+any_left (any.Throttle d) = any.Throttle (window_asked.left d)
 
-abbrev pub AnyUnsplit : AnyLimit → SplitFault → Type 0
-AnyUnsplit (any.Bucket d) why = on_bucket.unsplit d why
-AnyUnsplit (any.InFlight d) why = on_flight.unsplit d why
-AnyUnsplit (any.Adaptive d) why = on_adaptive.unsplit d why
-AnyUnsplit (any.Breaker d) why = on_breaker.unsplit d why
-AnyUnsplit (any.Throttle d) why = window_asked.unsplit d why
+abbrev pub AnyUnsplit : AnyLimit → SplitFault → AnyLimit → Type 0
+AnyUnsplit (any.Bucket d) why v = (v ≡ any.Bucket d) × Unsplit d.pass why
+AnyUnsplit (any.InFlight d) why v = (v ≡ any.InFlight d) × Unsplit d.pass why
+AnyUnsplit (any.Adaptive d) why v = (v ≡ any.Adaptive d) × Unsplit d.pass why
+AnyUnsplit (any.Breaker d) why v = (v ≡ any.Breaker d) × Unsplit d.pass why
+AnyUnsplit (any.Throttle d) why v = Same any.Throttle v (window_asked.unsplit d why)
 
 abbrev pub any_asked : Asked AnyLimit
-any_asked = record { tells = AnyTells; splits = AnySplits; spares = AnySpares; unsplit = AnyUnsplit }
+any_asked = record { tells = AnyTells; part = any_part; left = any_left; unsplit = AnyUnsplit }

@@ -3,8 +3,7 @@ use Rattle.std.specs.Prelude.{◌≡◌, ◌||◌, Bool, true, false}
 use Rattle.sched_limit_request.specs.ByHand.{IsByHand}
 use Rattle.sched_limit_request.specs.declared.by_hand.Hand.{Hand}
 use Rattle.sched_limit_handle.specs.AnyLimit.{Same}
-use Rattle.sched_limit_handle.specs.Held.{AsMany}
-use Rattle.sched_limit_handle.specs.Looks.{AtTwo, AtThree, AtFour}
+use Rattle.sched_limit_handle.specs.Held.{AtTwo, AtThree, AtFour}
 use Rattle.sched_limit_handle.specs.declared.any_limit.AnyLimit.{AnyLimit}
 use Rattle.sched_limit_handle.specs.declared.any_limit.AnyLimit.TheVariants as any
 use Rattle.sched_limit_handle.specs.declared.held.Held.{Held}
@@ -16,11 +15,8 @@ is_breaker l = false
 
 -- a limit of another kind stays as it is
 abbrev pub AnyByHand : Hand → AnyLimit → AnyLimit → Type 0
-AnyByHand hand (any.Bucket d) v = v ≡ any.Bucket d
-AnyByHand hand (any.InFlight d) v = v ≡ any.InFlight d
-AnyByHand hand (any.Adaptive d) v = v ≡ any.Adaptive d
 AnyByHand hand (any.Breaker d) v = Same any.Breaker v (IsByHand hand d)
-AnyByHand hand (any.Throttle d) v = v ≡ any.Throttle d
+AnyByHand hand l v = v ≡ l
 
 abbrev pub TwoByHand : Hand → AtTwo → AtTwo → Type 0
 TwoByHand hand p q = AnyByHand hand p.first q.first × AnyByHand hand p.second q.second
@@ -34,10 +30,10 @@ FourByHand hand p q = ThreeByHand hand p.first q.first × AnyByHand hand p.secon
 -- each breaker of a handle
 abbrev pub HeldByHand : Hand → Held → Held → Type 0
 HeldByHand hand Unlimited v = v ≡ Unlimited
-HeldByHand hand (One d) v = AsMany One v (AnyByHand hand d)
-HeldByHand hand (Two d) v = AsMany Two v (TwoByHand hand d)
-HeldByHand hand (Three d) v = AsMany Three v (ThreeByHand hand d)
-HeldByHand hand (Four d) v = AsMany Four v (FourByHand hand d)
+HeldByHand hand (One d) v = Same One v (AnyByHand hand d)
+HeldByHand hand (Two d) v = Same Two v (TwoByHand hand d)
+HeldByHand hand (Three d) v = Same Three v (ThreeByHand hand d)
+HeldByHand hand (Four d) v = Same Four v (FourByHand hand d)
 
 abbrev pub two_has_breaker : AtTwo → Bool
 two_has_breaker p = is_breaker p.first || is_breaker p.second

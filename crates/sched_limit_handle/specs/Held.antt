@@ -13,11 +13,12 @@ use Rattle.sched_limit.specs.declared.request.Told.{Told}
 use Rattle.sched_limit.specs.Step.{Answer, nothing}
 use Rattle.sched_limit_word.specs.View.{first_view}
 use Rattle.sched_limit_request.specs.Asks.{Asked}
+use Rattle.sched_limit_request.specs.Limits.{OfLimit}
 use Rattle.sched_limit_request.specs.Pairs.{both_asked}
 use Rattle.sched_limit_request.specs.declared.fault.SplitFault.{SplitFault}
 use Rattle.sched_limit_request.specs.declared.fault.SplitFault.TheVariants as fault
 use Rattle.sched_limit_request.specs.declared.both.Both.{Both}
-use Rattle.sched_limit_handle.specs.AnyLimit.{any_asked}
+use Rattle.sched_limit_handle.specs.AnyLimit.{Same, any_asked}
 use Rattle.sched_limit_handle.specs.declared.any_limit.AnyLimit.{AnyLimit}
 use Rattle.sched_limit_handle.specs.declared.any_limit.AnyLimit.TheVariants as any
 use Rattle.sched_limit_handle.specs.declared.held.Held.{Held}
@@ -25,102 +26,95 @@ use Rattle.sched_limit_handle.specs.declared.held.Held.TheVariants.{Unlimited, O
 use Rattle.sched_limit_handle.specs.declared.status.Status.{Status}
 use Rattle.sched_limit_handle.specs.declared.status.Status.TheVariants.{NoMemory, OutOfRange, TooManyPasses}
 
-abbrev pub two_asked : Asked (Both AnyLimit AnyLimit)
+-- limits at once, each asked after those before it
+abbrev pub AtTwo : Type 0
+AtTwo = Both AnyLimit AnyLimit
+
+abbrev pub AtThree : Type 0
+AtThree = Both AtTwo AnyLimit
+
+abbrev pub AtFour : Type 0
+AtFour = Both AtThree AnyLimit
+
+abbrev pub two_asked : Asked AtTwo
 two_asked = both_asked any_asked any_asked
 
-abbrev pub three_asked : Asked (Both (Both AnyLimit AnyLimit) AnyLimit)
+abbrev pub three_asked : Asked AtThree
 three_asked = both_asked two_asked any_asked
 
-abbrev pub four_asked : Asked (Both (Both (Both AnyLimit AnyLimit) AnyLimit) AnyLimit)
+abbrev pub four_asked : Asked AtFour
 four_asked = both_asked three_asked any_asked
-
--- after a call it is as many limits as before, and this is true of what they were and are
-abbrev pub AsMany : {D : Type 0} → (D → Held) → Held → (D → Type 0) → Type 0
-AsMany {D} held v P = (e : D) × (v ≡ held e) × P e
 
 abbrev pub HeldTells : Held → Told → ℕ → Answer → Held → Type 0
 HeldTells Unlimited told random r v = (r ≡ Ok tt) × (v ≡ Unlimited)
-HeldTells (One d) told random r v = AsMany One v (any_asked.tells d told random r)
-HeldTells (Two d) told random r v = AsMany Two v (two_asked.tells d told random r)
-HeldTells (Three d) told random r v = AsMany Three v (three_asked.tells d told random r)
-HeldTells (Four d) told random r v = AsMany Four v (four_asked.tells d told random r)
+HeldTells (One d) told random r v = Same One v (any_asked.tells d told random r)
+HeldTells (Two d) told random r v = Same Two v (two_asked.tells d told random r)
+HeldTells (Three d) told random r v = Same Three v (three_asked.tells d told random r)
+HeldTells (Four d) told random r v = Same Four v (four_asked.tells d told random r)
 
-abbrev pub HeldSplits : Held → Held → Held → Type 0
-HeldSplits Unlimited part v = (part ≡ Unlimited) × (v ≡ Unlimited)
-HeldSplits (One d) part v = AsMany One part (λ p. AsMany One v (any_asked.splits d p))
-HeldSplits (Two d) part v = AsMany Two part (λ p. AsMany Two v (two_asked.splits d p))
-HeldSplits (Three d) part v = AsMany Three part (λ p. AsMany Three v (three_asked.splits d p))
-HeldSplits (Four d) part v = AsMany Four part (λ p. AsMany Four v (four_asked.splits d p))
+abbrev pub held_part : Held → Held
+held_part Unlimited = Unlimited
+held_part (One d) = One (any_asked.part d)
+held_part (Two d) = Two (two_asked.part d)
+held_part (Three d) = Three (three_asked.part d)
+held_part (Four d) = Four (four_asked.part d)
 
-abbrev pub HeldSpares : Held → Held → Type 0
-HeldSpares Unlimited v = v ≡ Unlimited
-HeldSpares (One d) v = AsMany One v (any_asked.spares d)
-HeldSpares (Two d) v = AsMany Two v (two_asked.spares d)
-HeldSpares (Three d) v = AsMany Three v (three_asked.spares d)
-HeldSpares (Four d) v = AsMany Four v (four_asked.spares d)
+abbrev pub held_left : Held → Held
+held_left Unlimited = Unlimited
+held_left (One d) = One (any_asked.left d)
+held_left (Two d) = Two (two_asked.left d)
+held_left (Three d) = Three (three_asked.left d)
+held_left (Four d) = Four (four_asked.left d)
 
-abbrev pub HeldUnsplit : Held → SplitFault → Type 0
-HeldUnsplit Unlimited why = ⊥
-HeldUnsplit (One d) why = any_asked.unsplit d why
-HeldUnsplit (Two d) why = two_asked.unsplit d why
-HeldUnsplit (Three d) why = three_asked.unsplit d why
-HeldUnsplit (Four d) why = four_asked.unsplit d why
+abbrev pub HeldUnsplit : Held → SplitFault → Held → Type 0
+HeldUnsplit Unlimited why v = ⊥
+HeldUnsplit (One d) why v = Same One v (any_asked.unsplit d why)
+HeldUnsplit (Two d) why v = Same Two v (two_asked.unsplit d why)
+HeldUnsplit (Three d) why v = Same Three v (three_asked.unsplit d why)
+HeldUnsplit (Four d) why v = Same Four v (four_asked.unsplit d why)
 
 abbrev pub held_asked : Asked Held
-held_asked = record { tells = HeldTells; splits = HeldSplits; spares = HeldSpares; unsplit = HeldUnsplit }
+held_asked = record { tells = HeldTells; part = held_part; left = held_left; unsplit = HeldUnsplit }
 
--- what is made is a new limit with these terms, which no request has asked; or there was no memory
-abbrev pub Makes : (AnyLimit → Type 0) → Result (Box Held Global) Status → Type 0
-Makes P (Ok b) = (l : AnyLimit) × (b.value ≡ One l) × P l
-Makes P (Err s) = s ≡ NoMemory
+-- a new limit with these terms and this word, which no request has asked
+abbrev pub IsNew : {M : Type 0} → M → ℕ → OfLimit M → Type 0
+IsNew terms word d = (d.limit.machine ≡ terms) × (d.pass.has ≡ first_view word) × (d.request ≡ nothing)
 
 abbrev pub IsBucket : Bucket → AnyLimit → Type 0
-IsBucket terms (any.Bucket d) =
-    (d.limit.machine ≡ terms) × (d.pass.has ≡ first_view terms.capacity) × (d.request ≡ nothing)
+IsBucket terms (any.Bucket d) = IsNew terms terms.capacity d
 IsBucket terms l = ⊥
 
-abbrev pub MakesBucket : Bucket → Result (Box Held Global) Status → Type 0
-MakesBucket terms r = (AreTerms terms × Makes (IsBucket terms) r) ⊎ ((¬ AreTerms terms) × (r ≡ Err OutOfRange))
-
 abbrev pub IsFlight : InFlight → AnyLimit → Type 0
-IsFlight terms (any.InFlight d) = (d.limit.machine ≡ terms) × (d.pass.has ≡ first_view 0) × (d.request ≡ nothing)
+IsFlight terms (any.InFlight d) = IsNew terms 0 d
 IsFlight terms l = ⊥
 
-abbrev pub MakesFlight : InFlight → Result (Box Held Global) Status → Type 0
-MakesFlight terms r = Makes (IsFlight terms) r
-
 abbrev pub IsAdaptive : Adaptive → AnyLimit → Type 0
-IsAdaptive terms (any.Adaptive d) =
-    (d.limit.machine ≡ terms) × (d.pass.has ≡ first_view (adaptive_first terms)) × (d.request ≡ nothing)
+IsAdaptive terms (any.Adaptive d) = IsNew terms (adaptive_first terms) d
 IsAdaptive terms l = ⊥
 
-abbrev pub MakesAdaptive : Adaptive → Result (Box Held Global) Status → Type 0
-MakesAdaptive terms r = Makes (IsAdaptive terms) r
-
 abbrev pub IsBreaker : Breaker → AnyLimit → Type 0
-IsBreaker terms (any.Breaker d) = (d.limit.machine ≡ terms) × (d.pass.has ≡ first_view 0) × (d.request ≡ nothing)
+IsBreaker terms (any.Breaker d) = IsNew terms 0 d
 IsBreaker terms l = ⊥
-
-abbrev pub MakesBreaker : Breaker → Result (Box Held Global) Status → Type 0
-MakesBreaker terms r = Makes (IsBreaker terms) r
 
 abbrev pub IsThrottle : Throttle → AnyLimit → Type 0
 IsThrottle terms (any.Throttle d) =
     (d.throttle ≡ terms) × (d.even.has ≡ first_view 0) × (d.odd.has ≡ first_view 0) × (d.counted ≡ false)
 IsThrottle terms l = ⊥
 
-abbrev pub MakesThrottle : Throttle → Result (Box Held Global) Status → Type 0
-MakesThrottle terms r = Makes (IsThrottle terms) r
+-- what is made is a new limit; or there was no memory
+abbrev pub Makes : (AnyLimit → Type 0) → Result (Box Held Global) Status → Type 0
+Makes P (Ok b) = (l : AnyLimit) × (b.value ≡ One l) × P l
+Makes P (Err s) = s ≡ NoMemory
 
--- a part is split off, in a block of its own; or there is none, for this reason
-abbrev pub PartsOff : Held → Result (Box Held Global) Status → Held → Type 0
-PartsOff u (Ok b) v = held_asked.splits u b.value v
-PartsOff u (Err s) v = (s ≡ NoMemory) ⊎ ((s ≡ TooManyPasses) × held_asked.unsplit u fault.TooManyPasses)
+abbrev pub MakesBucket : Bucket → Result (Box Held Global) Status → Type 0
+MakesBucket terms r = (AreTerms terms × Makes (IsBucket terms) r) ⊎ ((¬ AreTerms terms) × (r ≡ Err OutOfRange))
 
--- and in either case the limits and their requests are as they were
-pub record SplitsHeld (u : Held) (r : Result (Box Held Global) Status) (v : Held) : Type 0 where
-  pub part : PartsOff u r v
-  pub spared : HeldSpares u v
+-- a part is split off, in a block of its own; or there is no memory, for a part or for its block; or a pass has one
+-- part
+abbrev pub SplitsHeld : Held → Result (Box Held Global) Status → Held → Type 0
+SplitsHeld u (Ok b) v = (b.value ≡ held_part u) × (v ≡ held_left u)
+SplitsHeld u (Err s) v = ((s ≡ NoMemory) × ((v ≡ held_left u) ⊎ HeldUnsplit u fault.NoMemory v))
+    ⊎ ((s ≡ TooManyPasses) × HeldUnsplit u fault.TooManyPasses v)
 
 -- how many limits it is
 abbrev pub count : Held → ℕ
@@ -139,13 +133,13 @@ and_one (Three t) l = Four (record { first = t; second = l })
 and_one (Four f) l = Four f
 
 -- these limits and two more, or three, or four, which are asked after them in their order
-abbrev pub and_two : Held → Both AnyLimit AnyLimit → Held
+abbrev pub and_two : Held → AtTwo → Held
 and_two u two = and_one (and_one u two.first) two.second
 
-abbrev pub and_three : Held → Both (Both AnyLimit AnyLimit) AnyLimit → Held
+abbrev pub and_three : Held → AtThree → Held
 and_three u three = and_one (and_two u three.first) three.second
 
-abbrev pub and_four : Held → Both (Both (Both AnyLimit AnyLimit) AnyLimit) AnyLimit → Held
+abbrev pub and_four : Held → AtFour → Held
 and_four u four = and_one (and_three u four.first) four.second
 
 abbrev pub joined : Held → Held → Held

@@ -3,7 +3,7 @@ use Rattle.std.specs.Prelude.{ℕ, ◌&&◌, Bool, true, false, if◌then◌else
 use Rattle.sched_limit.specs.Quiet.{is_full, is_calm}
 use Rattle.sched_limit.specs.Word.{stamp_of}
 use Rattle.sched_limit_request.specs.Quiet.{looked, may_begin, begun}
-use Rattle.sched_limit_request.specs.declared.both.Both.{Both}
+use Rattle.sched_limit_handle.specs.Held.{AtTwo, AtThree, AtFour}
 use Rattle.sched_limit_handle.specs.declared.any_limit.AnyLimit.{AnyLimit}
 use Rattle.sched_limit_handle.specs.declared.any_limit.AnyLimit.TheVariants as any
 use Rattle.sched_limit_handle.specs.declared.held.Held.{Held}
@@ -13,34 +13,19 @@ use Rattle.sched_limit_handle.specs.declared.looks.Words.{Words}
 -- a bound on what is in flight, an adaptive limit and a throttle have no quiet word, and are not looked at
 abbrev pub any_looked : AnyLimit → ℕ → AnyLimit
 any_looked (any.Bucket d) word = any.Bucket (looked d word)
-any_looked (any.InFlight d) word = any.InFlight d
-any_looked (any.Adaptive d) word = any.Adaptive d
 any_looked (any.Breaker d) word = any.Breaker (looked d word)
-any_looked (any.Throttle d) word = any.Throttle d
+any_looked l word = l
 
 abbrev pub any_may_begin : AnyLimit → ℕ → Bool
 any_may_begin (any.Bucket d) word = may_begin is_full d word
-any_may_begin (any.InFlight d) word = false
-any_may_begin (any.Adaptive d) word = false
 any_may_begin (any.Breaker d) word = may_begin is_calm d word
-any_may_begin (any.Throttle d) word = false
+any_may_begin l word = false
 
 -- a request begins at this word, where it may
 abbrev pub any_begun : AnyLimit → ℕ → AnyLimit
 any_begun (any.Bucket d) word = any.Bucket (begun is_full (λ b word. 0) d word)
-any_begun (any.InFlight d) word = any.InFlight d
-any_begun (any.Adaptive d) word = any.Adaptive d
 any_begun (any.Breaker d) word = any.Breaker (begun is_calm (λ b word. stamp_of word) d word)
-any_begun (any.Throttle d) word = any.Throttle d
-
-abbrev pub AtTwo : Type 0
-AtTwo = Both AnyLimit AnyLimit
-
-abbrev pub AtThree : Type 0
-AtThree = Both AtTwo AnyLimit
-
-abbrev pub AtFour : Type 0
-AtFour = Both AtThree AnyLimit
+any_begun l word = l
 
 abbrev pub two_looked : AtTwo → Words → AtTwo
 two_looked p w = record { first = any_looked p.first w.first; second = any_looked p.second w.second }

@@ -4,8 +4,7 @@ use Rattle.sched_limit.specs.States.{bucket_seen, flight_seen, adaptive_seen, br
 use Rattle.sched_limit.specs.declared.seen.Seen.{Seen}
 use Rattle.sched_limit_request.specs.States.{IsSeen, IsThrottleSeen}
 use Rattle.sched_limit_handle.specs.AnyLimit.{Same}
-use Rattle.sched_limit_handle.specs.Held.{AsMany}
-use Rattle.sched_limit_handle.specs.Looks.{AtTwo, AtThree, AtFour}
+use Rattle.sched_limit_handle.specs.Held.{AtTwo, AtThree, AtFour}
 use Rattle.sched_limit_handle.specs.declared.any_limit.AnyLimit.{AnyLimit}
 use Rattle.sched_limit_handle.specs.declared.any_limit.AnyLimit.TheVariants as any
 use Rattle.sched_limit_handle.specs.declared.held.Held.{Held}
@@ -33,7 +32,7 @@ pub record FourSeen (which now : ℕ) (p : AtFour) (s : Seen) (q : AtFour) : Typ
 
 abbrev pub HeldSeen : ℕ → ℕ → Held → Seen → Held → Type 0
 HeldSeen which now Unlimited s v = ⊥
-HeldSeen which now (One d) s v = AsMany One v (AnySeen now d s)
-HeldSeen which now (Two d) s v = AsMany Two v (TwoSeen which now d s)
-HeldSeen which now (Three d) s v = AsMany Three v (ThreeSeen which now d s)
-HeldSeen which now (Four d) s v = AsMany Four v (FourSeen which now d s)
+HeldSeen which now (One d) s v = Same One v (AnySeen now d s)
+HeldSeen which now (Two d) s v = Same Two v (TwoSeen which now d s)
+HeldSeen which now (Three d) s v = Same Three v (ThreeSeen which now d s)
+HeldSeen which now (Four d) s v = Same Four v (FourSeen which now d s)

@@ -15,14 +15,11 @@ impl AnyLimit {
         ensures one { result ≡ is_breaker self.old }
     {
         match self {
-            AnyLimit::Bucket(_) => false,
-            AnyLimit::InFlight(_) => false,
-            AnyLimit::Adaptive(_) => false,
             AnyLimit::Breaker(limit) => {
                 limit.by_hand(hand);
                 true
             }
-            AnyLimit::Throttle(_) => false,
+            _ => false,
         }
     }
 }

@@ -1,6 +1,6 @@
 //! What a handle holds: one limit, or two to four at once.
 ghost use Rattle.std.specs.Prelude.{◌≡◌, ◌+◌, ◌≤◌, IfOk, IfErr};
-ghost use Rattle.sched_limit_handle.specs.Held.{MakesBucket, MakesFlight, MakesAdaptive, MakesBreaker, MakesThrottle};
+ghost use Rattle.sched_limit_handle.specs.Held.{MakesBucket, Makes, IsFlight, IsAdaptive, IsBreaker, IsThrottle};
 ghost use Rattle.sched_limit_handle.specs.Held.{SplitsHeld, count, joined, and_one, and_two, and_three};
 ghost use Rattle.sched_limit_handle.specs.declared.status.Status.TheVariants as status;
 
@@ -75,7 +75,7 @@ impl Held {
 
     /// A bound on what is in flight.
     pub fn in_flight(alloc: Global, terms: InFlight) -> Result<Box<Held>, Status>
-        ensures { MakesFlight terms result }
+        ensures { Makes (IsFlight terms) result }
     {
         match OnLimit::new(alloc, terms) {
             Ok(limit) => Held::One(AnyLimit::InFlight(limit)).boxed(alloc),
@@ -85,7 +85,7 @@ impl Held {
 
     /// An adaptive limit.
     pub fn adaptive(alloc: Global, terms: Adaptive) -> Result<Box<Held>, Status>
-        ensures { MakesAdaptive terms result }
+        ensures { Makes (IsAdaptive terms) result }
     {
         match OnLimit::new(alloc, terms) {
             Ok(limit) => Held::One(AnyLimit::Adaptive(limit)).boxed(alloc),
@@ -95,7 +95,7 @@ impl Held {
 
     /// A breaker.
     pub fn breaker(alloc: Global, terms: Breaker) -> Result<Box<Held>, Status>
-        ensures { MakesBreaker terms result }
+        ensures { Makes (IsBreaker terms) result }
     {
         match OnLimit::new(alloc, terms) {
             Ok(limit) => Held::One(AnyLimit::Breaker(limit)).boxed(alloc),
@@ -105,7 +105,7 @@ impl Held {
 
     /// A throttle.
     pub fn throttle(alloc: Global, terms: Throttle) -> Result<Box<Held>, Status>
-        ensures { MakesThrottle terms result }
+        ensures { Makes (IsThrottle terms) result }
     {
         match OnThrottle::new(alloc, terms) {
             Ok(limit) => Held::One(AnyLimit::Throttle(limit)).boxed(alloc),

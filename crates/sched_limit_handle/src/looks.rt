@@ -29,9 +29,7 @@ impl AnyLimit {
         match self {
             AnyLimit::Bucket(limit) => limit.look(word),
             AnyLimit::Breaker(limit) => limit.look(word),
-            AnyLimit::InFlight(_) => false,
-            AnyLimit::Adaptive(_) => false,
-            AnyLimit::Throttle(_) => false,
+            _ => false,
         }
     }
 
@@ -42,9 +40,7 @@ impl AnyLimit {
         match self {
             AnyLimit::Bucket(limit) => limit.may_begin(word),
             AnyLimit::Breaker(limit) => limit.may_begin(word),
-            AnyLimit::InFlight(_) => false,
-            AnyLimit::Adaptive(_) => false,
-            AnyLimit::Throttle(_) => false,
+            _ => false,
         }
     }
 
@@ -59,9 +55,7 @@ impl AnyLimit {
             AnyLimit::Breaker(limit) => {
                 let _ = limit.begin(word);
             }
-            AnyLimit::InFlight(_) => {}
-            AnyLimit::Adaptive(_) => {}
-            AnyLimit::Throttle(_) => {}
+            _ => {}
         }
     }
 }

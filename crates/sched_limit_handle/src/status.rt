@@ -90,11 +90,6 @@ pub fn number_of(why: &Refusal) -> u64
     match why {
         Refusal::LevelLow(level) => *level,
         Refusal::Open(until) => until.get(),
-        Refusal::TooMany => 0,
-        Refusal::Full => 0,
-        Refusal::Probing => 0,
-        Refusal::Throttled => 0,
-        Refusal::RacesLost => 0,
-        Refusal::OutOfTurn => 0,
+        _ => 0,
     }
 }

@@ -18,7 +18,7 @@ use Rattle.sched_limit.specs.declared.request.Told.TheVariants.{Admit, Succeeded
 use Rattle.sched_limit.proofs.Cases.{and_left, and_right}
 use Rattle.sched_limit.proofs.QuietWords.{full_is_quiet, calm_is_quiet}
 use Rattle.sched_limit_request.specs.Limits.{OfLimit}
-use Rattle.sched_limit_request.specs.Quiet.{QuietLooksAreRequests, QuietLooksBegin, looked, begun_at, may_begin}
+use Rattle.sched_limit_request.specs.Quiet.{QuietLooksAreRequests, looked, begun_at, may_begin}
 use Rattle.sched_limit_request.specs.Tells.{IsTold}
 
 module _ (m : Rules) (word : ℕ) (q : IsQuiet m.next m.refusal word) where
@@ -102,14 +102,6 @@ module _ {M : Type 0} (m : M → Rules) (is_quiet : M → ℕ → Bool)
   quiet_at d word may =
       quiet d.limit.machine word (and_left (is_quiet d.limit.machine word) (not d.request.counted) may)
 
-  begins : QuietLooksBegin is_quiet m
-  begins d word now random may = record {
-    limit = refl;
-    table = refl;
-    tells = admits (m d.limit.machine) word (quiet_at d word may) now random d.request d.pass.has
-        (free_of (is_quiet d.limit.machine word) d.request.counted may);
-  }
-
   requests : QuietLooksAreRequests is_quiet m
   requests d word now random later may =
       let q = quiet_at d word may in
@@ -117,10 +109,14 @@ module _ {M : Type 0} (m : M → Rules) (is_quiet : M → ℕ → Bool)
       let y : OfLimit M = looked x word in
       let z : OfLimit M = record (looked y word) { request = nothing } in
       record {
-        running = x;
         succeeded = y;
         over = z;
-        admits = begins d word now random may;
+        admits = record {
+          limit = refl;
+          table = refl;
+          tells = admits (m d.limit.machine) word q now random d.request d.pass.has
+              (free_of (is_quiet d.limit.machine word) d.request.counted may);
+        };
         succeeds = record {
           limit = refl;
           table = refl;
@@ -141,9 +137,3 @@ full_looks_are_requests = requests bucket_rules is_full full_is_quiet
 
 pub calm_looks_are_requests : QuietLooksAreRequests is_calm breaker_rules
 calm_looks_are_requests = requests breaker_rules is_calm calm_is_quiet
-
-pub full_looks_begin : QuietLooksBegin is_full bucket_rules
-full_looks_begin = begins bucket_rules is_full full_is_quiet
-
-pub calm_looks_begin : QuietLooksBegin is_calm breaker_rules
-calm_looks_begin = begins breaker_rules is_calm calm_is_quiet

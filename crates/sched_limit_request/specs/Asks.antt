@@ -8,12 +8,11 @@ use Rattle.sched_limit_request.specs.declared.fault.SplitFault.{SplitFault}
 pub record Asked (D : Type 0) : Type 1 where
   -- what a request asks or tells, with a random word, and what it is answered
   pub tells : D → Told → ℕ → Answer → D → Type 0
-  -- the part that is split off
-  pub splits : D → D → D → Type 0
-  -- a split, whether there is a part or not
-  pub spares : D → D → Type 0
-  -- why there is no part
-  pub unsplit : D → SplitFault → Type 0
+  -- the part that is split off, and what is left
+  pub part : D → D
+  pub left : D → D
+  -- why there is no part, and what is left then
+  pub unsplit : D → SplitFault → D → Type 0
 
 -- what is told needs no random word
 pub record Hears {D : Type 0} (asked : Asked D) (told : Told) (d e : D) : Type 0 where

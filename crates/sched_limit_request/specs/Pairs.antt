@@ -36,22 +36,16 @@ module _ {A B : Type 0} (a : Asked A) (b : Asked B) where
       (x : Answer) × a.tells d.first told random x e.first × b.tells d.second told random answer e.second
   BothTell (Some undo) d told random answer e = BothAsk d told undo random answer e
 
-  abbrev pub BothSplit : Both A B → Both A B → Both A B → Type 0
-  BothSplit d part e = a.splits d.first part.first e.first × b.splits d.second part.second e.second
-
-  -- where the first one is not split, the second is as it was
-  pub record BothSpared (d e : Both A B) : Type 0 where
-    pub first : a.spares d.first e.first
-    pub second : b.spares d.second e.second ⊎ (e.second ≡ d.second)
-
-  -- one of them is not split
-  abbrev pub BothUnsplit : Both A B → SplitFault → Type 0
-  BothUnsplit d why = a.unsplit d.first why ⊎ b.unsplit d.second why
+  -- the first one is not split, and the second is as it was; or the first one has given a part away, and the second is
+  -- not split
+  abbrev pub BothUnsplit : Both A B → SplitFault → Both A B → Type 0
+  BothUnsplit d why e = (a.unsplit d.first why e.first × (e.second ≡ d.second))
+      ⊎ ((e.first ≡ a.left d.first) × b.unsplit d.second why e.second)
 
   abbrev pub both_asked : Asked (Both A B)
   both_asked = record {
     tells = λ d told random answer e. BothTell (undo_of told) d told random answer e;
-    splits = BothSplit;
-    spares = BothSpared;
+    part = λ d. record { first = a.part d.first; second = b.part d.second };
+    left = λ d. record { first = a.left d.first; second = b.left d.second };
     unsplit = BothUnsplit;
   }

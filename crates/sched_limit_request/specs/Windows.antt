@@ -2,7 +2,6 @@
 use Rattle.std.specs.Prelude.{◌≡◌, ◌⊎◌, ℕ, zero, suc, ◌-◌, ◌<◌, ◌%◌, ◌==◌, ◌||◌, Bool, false, if◌then◌else◌}
 use Rattle.std.specs.Prelude.{Option, Some, None, is_ok}
 use Rattle.sched_limit_word.specs.Held.{Held}
-use Rattle.sched_limit_word.specs.View.{part_of, without_part}
 use Rattle.sched_limit_word.specs.Calls.{Called, LostRaces}
 use Rattle.sched_limit_word.specs.declared.call.Call.TheVariants as call
 use Rattle.sched_limit_word.specs.declared.view.View.{View}
@@ -16,7 +15,7 @@ use Rattle.sched_limit.specs.declared.throttle.Throttle.{Throttle}
 use Rattle.sched_limit.specs.declared.turns.Turn.{Turn}
 use Rattle.sched_limit.specs.declared.turns.Turn.TheVariants.{Done, Later}
 use Rattle.sched_limit_request.specs.Asks.{Asked}
-use Rattle.sched_limit_request.specs.Limits.{IsSpared, Unsplit}
+use Rattle.sched_limit_request.specs.Limits.{part_held, left_held, Unsplit}
 use Rattle.sched_limit_request.specs.declared.fault.SplitFault.{SplitFault}
 
 -- ---- one turn, on the pass of its window and that of the window before, the other one
@@ -121,29 +120,16 @@ WindowCounts (Some now) d told random answer e =
 abbrev pub WindowTells : OfThrottle → Told → ℕ → Answer → OfThrottle → Type 0
 WindowTells d told random answer e = WindowCounts (counts_at told d.counted) d told random answer e
 
+-- the pass of even windows is not split, or it has given a part away, and that of odd ones is not split
+abbrev pub WindowUnsplit : OfThrottle → SplitFault → OfThrottle → Type 0
+WindowUnsplit d why e = ((e ≡ d) × Unsplit d.even why)
+    ⊎ ((e ≡ record d { even = left_held d.even }) × Unsplit d.odd why)
+
 -- the part has no request
-pub record WindowSplits (d part e : OfThrottle) : Type 0 where
-  pub same : IsSame d part
-  pub counted : part.counted ≡ false
-  pub even : part.even.has ≡ part_of d.even.has
-  pub odd : part.odd.has ≡ part_of d.odd.has
-  pub even_left : e.even.has ≡ without_part d.even.has
-  pub odd_left : e.odd.has ≡ without_part d.odd.has
-
-pub record WindowSpares (d e : OfThrottle) : Type 0 where
-  pub throttle : e.throttle ≡ d.throttle
-  pub counted : e.counted ≡ d.counted
-  pub even : IsSpared d.even e.even
-  pub odd : IsSpared d.odd e.odd
-
--- one of the two passes is not split
-abbrev pub WindowUnsplit : OfThrottle → SplitFault → Type 0
-WindowUnsplit d why = Unsplit d.even why ⊎ Unsplit d.odd why
-
 abbrev pub window_asked : Asked OfThrottle
 window_asked = record {
   tells = WindowTells;
-  splits = WindowSplits;
-  spares = WindowSpares;
+  part = λ d. record d { even = part_held d.even; odd = part_held d.odd; counted = false };
+  left = λ d. record d { even = left_held d.even; odd = left_held d.odd };
   unsplit = WindowUnsplit;
 }

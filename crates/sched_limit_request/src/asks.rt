@@ -1,5 +1,5 @@
 //! What a request asks of a limit and tells it.
-ghost use Rattle.std.specs.Prelude.{IfOk, IfErr};
+ghost use Rattle.std.specs.Prelude.{◌≡◌, IfOk, IfErr};
 ghost use Rattle.sched_limit.specs.declared.request.Told.TheVariants as told_as;
 ghost use Rattle.sched_limit_request.specs.Asks.{Asked, Hears};
 
@@ -66,10 +66,9 @@ pub trait Asks: Drop {
         let _ = self.tell(&Told::Ended, 0);
     }
 
-    /// The same limit for another thread's requests. Where there is none, a part may have been given away.
-    /// `TooManyPasses` where a pass has one part, which it keeps.
+    /// The same limit for another thread's requests. `TooManyPasses` where a pass has one part, which it keeps. Where
+    /// one of several passes is not split, those before it have given a part away.
     fn split(&mut self) -> Result<Self, SplitFault>
-        ensures part { IfOk result (λ part. asked.splits self.old part self.new) }
-        ensures spared { asked.spares self.old self.new }
-        ensures unsplit { IfErr result (λ why. asked.unsplit self.old why) };
+        ensures part { IfOk result (λ part. (part ≡ asked.part self.old) × (self.new ≡ asked.left self.old)) }
+        ensures unsplit { IfErr result (λ why. asked.unsplit self.old why self.new) };
 }

@@ -2,8 +2,7 @@
 ghost use Rattle.sched_limit.specs.Kinds.{bucket_rules, breaker_rules};
 ghost use Rattle.sched_limit.specs.Quiet.{is_full, is_calm};
 ghost use Rattle.sched_limit_request.specs.Laws.{UndisturbedIsTurned};
-ghost use Rattle.sched_limit_request.specs.States.{LooksChangeNothing};
-ghost use Rattle.sched_limit_request.specs.Quiet.{QuietLooksAreRequests, QuietLooksBegin};
+ghost use Rattle.sched_limit_request.specs.Quiet.{QuietLooksAreRequests};
 
 /// A turn of which each call found the word that its pass had seen last is the one that the two words make where no
 /// other call is made: its answer, and what it leaves of both.
@@ -11,19 +10,8 @@ pub fn undisturbed_turns_are_steps()
     ensures { UndisturbedIsTurned }
 {}
 
-/// A look at a quiet word, of a limit without a request, is a request that is admitted, succeeds and ends.
+/// A look at a quiet word, of a limit without a request, is a request that begins by it, succeeds and ends.
 pub fn quiet_looks_are_requests()
     ensures buckets { QuietLooksAreRequests is_full bucket_rules }
     ensures breakers { QuietLooksAreRequests is_calm breaker_rules }
-{}
-
-/// What is seen of a limit is seen by a look, which changes nothing.
-pub fn looks_change_nothing()
-    ensures { LooksChangeNothing }
-{}
-
-/// A look at a quiet word and the request that begins by it are an admission.
-pub fn quiet_looks_begin()
-    ensures buckets { QuietLooksBegin is_full bucket_rules }
-    ensures breakers { QuietLooksBegin is_calm breaker_rules }
 {}

@@ -42,14 +42,12 @@ impl<M: Refuses> OnLimit<M> {
         ensures request { IfOk result (λ d. d.request ≡ nothing) }
     {
         let (limit, pass) = Limit::new(alloc, machine)?;
-        match Arc::new(alloc, limit) {
-            Ok(limit) => Ok(OnLimit {
-                pass,
-                limit,
-                hold: Hold::nothing(),
-            }),
-            Err(_) => Err(NoMemory),
-        }
+        let limit = Arc::new(alloc, limit)?;
+        Ok(OnLimit {
+            pass,
+            limit,
+            hold: Hold::nothing(),
+        })
     }
 
     /// What its request holds.

@@ -1,8 +1,8 @@
 //! A pass of the limit of a throttle's even windows, or of its odd ones.
-ghost use Rattle.std.specs.Prelude.{◌≡◌, IfOk, IfErr};
+ghost use Rattle.std.specs.Prelude.{◌≡◌, IfOk, IfErr, OnOk};
 ghost use Rattle.sched_limit_word.specs.Calls.{LostRaces};
-ghost use Rattle.sched_limit_word.specs.View.{first_view, part_of, with_look, without_part};
-ghost use Rattle.sched_limit_request.specs.Limits.{IsSpared, Unsplit};
+ghost use Rattle.sched_limit_word.specs.View.{first_view};
+ghost use Rattle.sched_limit_request.specs.Limits.{Unsplit, left_held, look_of, part_held};
 ghost use Rattle.sched_limit_request.specs.Sides.{IsSameSide};
 ghost use Rattle.sched_limit_request.specs.Windows.{Closes, TriesOn, Turns};
 
@@ -42,14 +42,12 @@ impl Side {
         ensures first { IfOk result (λ s. s.pass.has ≡ first_view 0) }
     {
         let (limit, pass) = Limit::new(alloc, throttle)?;
-        match Arc::new(alloc, limit) {
-            Ok(limit) => Ok(Side {
-                pass,
-                limit,
-                closed: None,
-            }),
-            Err(_) => Err(NoMemory),
-        }
+        let limit = Arc::new(alloc, limit)?;
+        Ok(Side {
+            pass,
+            limit,
+            closed: None,
+        })
     }
 
     /// The throttle.
@@ -111,9 +109,7 @@ impl Side {
 
     /// Reads the word of its windows, and makes no call.
     pub fn look(&mut self) -> u64
-        ensures limit { self.new.limit ≡ self.old.limit }
-        ensures table { self.new.pass.table ≡ self.old.pass.table }
-        ensures looked { self.new.pass.has ≡ with_look self.old.pass.has result }
+        ensures { self.new ≡ record self.old { pass = look_of self.old.pass result } }
     {
         self.closed = None;
         self.pass.look(&*self.limit)
@@ -121,12 +117,9 @@ impl Side {
 
     /// A pass of the same windows for another thread.
     pub fn split(&mut self) -> Result<Side, SplitFault>
-        ensures limit { self.new.limit ≡ self.old.limit }
-        ensures spared { IsSpared self.old.pass self.new.pass }
-        ensures same { IfOk result (λ part. IsSameSide self.old part) }
-        ensures part { IfOk result (λ part. part.pass.has ≡ part_of self.old.pass.has) }
-        ensures left { IfOk result (λ part. self.new.pass.has ≡ without_part self.old.pass.has) }
-        ensures unsplit { IfErr result (λ why. Unsplit self.old.pass why) }
+        ensures part { IfOk result (λ part. part ≡ record self.old { pass = part_held self.old.pass }) }
+        ensures left { OnOk result (self.new ≡ record self.old { pass = left_held self.old.pass }) }
+        ensures unsplit { IfErr result (λ why. (self.new ≡ self.old) × Unsplit self.old.pass why) }
     {
         let Ok(limit) = Arc::try_clone(&self.limit) else {
             return Err(SplitFault::NoMemory);

@@ -1,5 +1,6 @@
 -- What C gives of a storm, and what it is told.
 use Rattle.std.specs.Prelude.{◌≡◌, ℕ, ◌+◌, ◌-◌, ◌/◌, ◌≤◌, ◌==◌, if◌then◌else◌, Option, Some, None, is_some, unwrap_or}
+use Rattle.std.specs.Prelude.{length}
 use Rattle.sched_time.specs.declared.numbers.TheConstants.{FAR}
 use Rattle.sched_storm.specs.Parameters.{AreInRange}
 use Rattle.sched_storm_report.specs.declared.peer.BrownOut.{BrownOut}
@@ -14,7 +15,7 @@ use Rattle.sched_storm.specs.declared.parameters.Parameters.{Parameters}
 use Rattle.sched_storm.specs.declared.populations.Population.{Population}
 use Rattle.sched_storm.specs.declared.populations.Others.{Others}
 use Rattle.sched_storm_report.specs.declared.tally.Window.{Window}
-use Rattle.sched_storm_report.specs.declared.report.Totals.{Totals}
+use Rattle.sched_storm_report.specs.declared.report.Report.{Report}
 use Rattle.sched_storm_call.specs.declared.records.PopulationGiven.{PopulationGiven}
 use Rattle.sched_storm_call.specs.declared.records.StormGiven.{StormGiven}
 use Rattle.sched_storm_call.specs.declared.records.WindowTold.{WindowTold}
@@ -186,22 +187,23 @@ window_told w = record {
   waiting = w.waiting;
 }
 
-abbrev pub totals_told : Totals → TotalsTold
-totals_told t = record {
-  requests = t.counts.requests;
-  won = t.counts.won;
-  lost = t.lost;
-  denied = t.denied;
-  «open» = t.open;
-  calls = t.calls;
-  hundredths = t.hundredths;
-  most_calls = t.most_calls;
-  most_from = t.most_from;
-  tickets = t.tickets;
-  p50 = unwrap_or t.p50 0;
-  p99 = unwrap_or t.p99 0;
-  slowest = unwrap_or t.slowest 0;
-  recovered = unwrap_or t.recovered 0;
-  recovers = is_some t.recovered;
-  cut = t.is_cut;
+abbrev pub totals_told : Report → TotalsTold
+totals_told r = record {
+  windows = length r.windows.items;
+  requests = r.totals.counts.requests;
+  won = r.totals.counts.won;
+  lost = r.totals.lost;
+  denied = r.totals.denied;
+  «open» = r.totals.open;
+  calls = r.totals.calls;
+  hundredths = r.totals.hundredths;
+  most_calls = r.totals.most_calls;
+  most_from = r.totals.most_from;
+  tickets = r.totals.tickets;
+  p50 = unwrap_or r.totals.p50 0;
+  p99 = unwrap_or r.totals.p99 0;
+  slowest = unwrap_or r.totals.slowest 0;
+  recovered = unwrap_or r.totals.recovered 0;
+  recovers = is_some r.totals.recovered;
+  cut = r.totals.is_cut;
 }

@@ -6,5 +6,7 @@
 mod plays;
 mod records;
 
-pub use plays::{storm_play, storm_play_arrivals, storm_play_populations};
-pub use records::{PopulationGiven, SizedStorm, SizedTotals, StormGiven, TotalsTold, WindowTold};
+pub use plays::{storm_play, storm_play_populations};
+pub use records::{
+    Policies, PopulationGiven, SizedStorm, SizedTotals, StormGiven, TotalsTold, WindowTold,
+};

@@ -1,17 +1,15 @@
 //! Playing a storm.
-ghost use Rattle.std.specs.Prelude.{◌≡◌, ◌≢◌, ◌≤◌, map, None, IfOk, IfErr, Err, vec_len};
+ghost use Rattle.std.specs.Prelude.{◌≡◌, ◌≤◌, [], map, None, IfOk, IfErr, vec_len};
 ghost use Rattle.sched_storm.specs.Arrivals.{AreArrivals};
 ghost use Rattle.sched_storm.specs.Clients.{plan_at};
 ghost use Rattle.sched_storm.specs.Report.{AddsUp};
 ghost use Rattle.sched_storm.specs.Storms.{ReportsOn};
 ghost use Rattle.sched_storm_call.specs.Told.{room_of, window_told};
-ghost use Rattle.sched_handle.specs.declared.status.Status.TheVariants as status;
-ghost use Rattle.sched_storm_call.specs.Plays.{PlaysStorm, PlaysPopulations, PlaysArrivals, PlaysPlans};
-ghost use Rattle.sched_storm_call.specs.Plays.{Tells, HaveIts, HaveTheirs};
-ghost use Rattle.sched_storm_call.specs.Plays.{IsPlanOf, HasNoPlan, IsReason, plans_of};
+ghost use Rattle.sched_storm_call.specs.Plays.{PlaysStorm, PlaysPlans, HavePlans, IsPlanOf, HasNoPlan, IsReason};
+ghost use Rattle.sched_storm_call.specs.Plays.{alone, held_by, plans_of};
 
 use crate::records::{
-    STORM_SIZE, SizedStorm, SizedTotals, StormGiven, TOTALS_SIZE, TotalsTold, WindowTold, room_of,
+    Policies, SizedStorm, SizedTotals, TotalsTold, WindowTold, are_sized, room_of,
 };
 use sched_handle::{Handle, Status};
 use sched_plan::SharedPlan;
@@ -19,145 +17,46 @@ use sched_storm::{Plans, Report, Storm, Window, are_arrivals};
 use sched_time::NoMemory;
 use std::alloc::Global;
 
-/// Plays a storm of requests under the policy, and writes its windows, their number and its totals.
+/// Plays a storm of requests under the policy, and writes its windows and its totals.
 pub fn storm_play(
     alloc: Global,
     policy: &mut Handle,
     storm: &SizedStorm,
     windows: &mut [WindowTold],
-    count: &mut usize,
     totals: &mut SizedTotals,
 ) -> u32
     ensures kept { policy.new.held ≡ policy.old.held }
-    ensures played { storm.now.size ≡ 1176 → totals.old.size ≡ 128 →
-        PlaysStorm storm.now.storm policy.old.held
-        (record { windows = windows.old; count = count.old; totals = totals.old.totals }) result
-        (record { windows = windows.new; count = count.new; totals = totals.new.totals }) }
-    ensures wrong_storm { storm.now.size ≢ 1176 → Tells storm.now.storm
-        (record { windows = windows.old; count = count.old; totals = totals.old.totals }) (Err status.WrongSize) result
-        (record { windows = windows.new; count = count.new; totals = totals.new.totals }) }
-    ensures wrong_totals { totals.old.size ≢ 128 → Tells storm.now.storm
-        (record { windows = windows.old; count = count.old; totals = totals.old.totals }) (Err status.WrongSize) result
-        (record { windows = windows.new; count = count.new; totals = totals.new.totals }) }
-    ensures size { totals.new.size ≡ totals.old.size }
+    ensures played { PlaysStorm [] storm.now (alone policy.old.held)
+        (record { windows = windows.old; totals = totals.old }) result
+        (record { windows = windows.new; totals = totals.new }) }
 {
-    if storm.size != STORM_SIZE || totals.size != TOTALS_SIZE {
-        return Status::WrongSize.code();
-    }
     let plans = its_plans(policy);
-    tell_storm(
-        alloc,
-        plans,
-        &storm.storm,
-        &[],
-        windows,
-        count,
-        &mut totals.totals,
-    )
+    tell_storm(alloc, plans, storm, &[], windows, totals)
 }
 
-/// Plays a storm of requests of several populations, each under its policy, and writes its windows, their number and
-/// its totals.
+/// The same, of requests of several populations, each under its policy, which come at these moments, or by the rates
+/// where there are none.
 pub fn storm_play_populations(
     alloc: Global,
-    policy: &mut Handle,
-    second: &mut Handle,
-    third: &mut Handle,
-    fourth: &mut Handle,
-    storm: &SizedStorm,
-    windows: &mut [WindowTold],
-    count: &mut usize,
-    totals: &mut SizedTotals,
-) -> u32
-    ensures kept { policy.new.held ≡ policy.old.held }
-    ensures kept_second { second.new.held ≡ second.old.held }
-    ensures kept_third { third.new.held ≡ third.old.held }
-    ensures kept_fourth { fourth.new.held ≡ fourth.old.held }
-    ensures played { storm.now.size ≡ 1176 → totals.old.size ≡ 128 →
-        PlaysPopulations storm.now.storm (record {
-          first = policy.old.held;
-          second = second.old.held;
-          third = third.old.held;
-          fourth = fourth.old.held;
-        })
-        (record { windows = windows.old; count = count.old; totals = totals.old.totals }) result
-        (record { windows = windows.new; count = count.new; totals = totals.new.totals }) }
-    ensures wrong_storm { storm.now.size ≢ 1176 → Tells storm.now.storm
-        (record { windows = windows.old; count = count.old; totals = totals.old.totals }) (Err status.WrongSize) result
-        (record { windows = windows.new; count = count.new; totals = totals.new.totals }) }
-    ensures wrong_totals { totals.old.size ≢ 128 → Tells storm.now.storm
-        (record { windows = windows.old; count = count.old; totals = totals.old.totals }) (Err status.WrongSize) result
-        (record { windows = windows.new; count = count.new; totals = totals.new.totals }) }
-    ensures size { totals.new.size ≡ totals.old.size }
-{
-    if storm.size != STORM_SIZE || totals.size != TOTALS_SIZE {
-        return Status::WrongSize.code();
-    }
-    let plans = their_plans(policy, second, third, fourth);
-    tell_storm(
-        alloc,
-        plans,
-        &storm.storm,
-        &[],
-        windows,
-        count,
-        &mut totals.totals,
-    )
-}
-
-/// The same, of requests that come at these moments, or by the rates where there are none.
-pub fn storm_play_arrivals(
-    alloc: Global,
-    policy: &mut Handle,
-    second: &mut Handle,
-    third: &mut Handle,
-    fourth: &mut Handle,
+    policies: &mut Policies,
     storm: &SizedStorm,
     arrivals: &[u64],
     windows: &mut [WindowTold],
-    count: &mut usize,
     totals: &mut SizedTotals,
 ) -> u32
-    ensures kept { policy.new.held ≡ policy.old.held }
-    ensures kept_second { second.new.held ≡ second.old.held }
-    ensures kept_third { third.new.held ≡ third.old.held }
-    ensures kept_fourth { fourth.new.held ≡ fourth.old.held }
-    ensures played { storm.now.size ≡ 1176 → totals.old.size ≡ 128 →
-        PlaysArrivals arrivals.now storm.now.storm (record {
-          first = policy.old.held;
-          second = second.old.held;
-          third = third.old.held;
-          fourth = fourth.old.held;
-        })
-        (record { windows = windows.old; count = count.old; totals = totals.old.totals }) result
-        (record { windows = windows.new; count = count.new; totals = totals.new.totals }) }
-    ensures wrong_storm { storm.now.size ≢ 1176 → Tells storm.now.storm
-        (record { windows = windows.old; count = count.old; totals = totals.old.totals }) (Err status.WrongSize) result
-        (record { windows = windows.new; count = count.new; totals = totals.new.totals }) }
-    ensures wrong_totals { totals.old.size ≢ 128 → Tells storm.now.storm
-        (record { windows = windows.old; count = count.old; totals = totals.old.totals }) (Err status.WrongSize) result
-        (record { windows = windows.new; count = count.new; totals = totals.new.totals }) }
-    ensures size { totals.new.size ≡ totals.old.size }
+    ensures kept { held_by policies.new ≡ held_by policies.old }
+    ensures played { PlaysStorm arrivals.now storm.now (held_by policies.old)
+        (record { windows = windows.old; totals = totals.old }) result
+        (record { windows = windows.new; totals = totals.new }) }
 {
-    if storm.size != STORM_SIZE || totals.size != TOTALS_SIZE {
-        return Status::WrongSize.code();
-    }
-    let plans = their_plans(policy, second, third, fourth);
-    tell_storm(
-        alloc,
-        plans,
-        &storm.storm,
-        arrivals,
-        windows,
-        count,
-        &mut totals.totals,
-    )
+    let plans = their_plans(policies);
+    tell_storm(alloc, plans, storm, arrivals, windows, totals)
 }
 
 // The plans, where all populations have the policy that the handle holds.
 fn its_plans(policy: &mut Handle) -> Result<Plans, Status>
     ensures kept { policy.new.held ≡ policy.old.held }
-    ensures plans { HaveIts policy.old.held (plans_of result) }
+    ensures plans { HavePlans (alone policy.old.held) (plans_of result) }
     ensures reason { IfErr result IsReason }
 {
     let plan = policy.plan()?;
@@ -168,31 +67,17 @@ fn its_plans(policy: &mut Handle) -> Result<Plans, Status>
 }
 
 // The plans of the policies that the handles hold.
-fn their_plans(
-    first: &mut Handle,
-    second: &mut Handle,
-    third: &mut Handle,
-    fourth: &mut Handle,
-) -> Result<Plans, Status>
-    ensures kept { first.new.held ≡ first.old.held }
-    ensures kept_second { second.new.held ≡ second.old.held }
-    ensures kept_third { third.new.held ≡ third.old.held }
-    ensures kept_fourth { fourth.new.held ≡ fourth.old.held }
-    ensures plans { HaveTheirs (record {
-      first = first.old.held;
-      second = second.old.held;
-      third = third.old.held;
-      fourth = fourth.old.held;
-    })
-        (plans_of result) }
+fn their_plans(policies: &mut Policies) -> Result<Plans, Status>
+    ensures kept { held_by policies.new ≡ held_by policies.old }
+    ensures plans { HavePlans (held_by policies.old) (plans_of result) }
     ensures reason { IfErr result IsReason }
 {
-    let plan = first.plan()?;
-    let second = plan_or(second, &plan)?;
-    let third = plan_or(third, &plan)?;
-    let fourth = plan_or(fourth, &plan)?;
+    let first = policies.first.plan()?;
+    let second = plan_or(&mut policies.second, &first)?;
+    let third = plan_or(&mut policies.third, &first)?;
+    let fourth = plan_or(&mut policies.fourth, &first)?;
     Ok(Plans {
-        first: plan,
+        first,
         second,
         third,
         fourth,
@@ -219,17 +104,20 @@ fn plan_or(handle: &mut Handle, first: &SharedPlan) -> Result<SharedPlan, Status
 fn tell_storm(
     alloc: Global,
     plans: Result<Plans, Status>,
-    given: &StormGiven,
+    given: &SizedStorm,
     arrivals: &[u64],
     windows: &mut [WindowTold],
-    count: &mut usize,
-    totals: &mut TotalsTold,
+    totals: &mut SizedTotals,
 ) -> u32
     requires { IfErr plans IsReason }
     ensures { PlaysPlans arrivals.now given.now (plans_of plans)
-        (record { windows = windows.old; count = count.old; totals = totals.old }) result
-        (record { windows = windows.new; count = count.new; totals = totals.new }) }
+        (record { windows = windows.old; totals = totals.old }) result
+        (record { windows = windows.new; totals = totals.new }) }
 {
+    if !are_sized(given.size, totals.size) {
+        return Status::WrongSize.code();
+    }
+    let given = &given.storm;
     let Some(storm) = given.storm() else {
         return Status::OutOfRange.code();
     };
@@ -238,7 +126,7 @@ fn tell_storm(
     }
     let room = room_of(&storm);
     if windows.len() < room {
-        *count = room;
+        totals.totals.windows = room as u64;
         return Status::NoRoom.code();
     }
     let plans = match plans {
@@ -248,8 +136,7 @@ fn tell_storm(
     match play(alloc, plans, &storm, arrivals, given.of()) {
         Ok((report, told)) => {
             windows[..told.len()].copy_from_slice(&told);
-            *count = told.len();
-            *totals = TotalsTold::of(&report.totals);
+            totals.totals = TotalsTold::of(&report);
             0
         }
         Err(_) => Status::NoMemory.code(),

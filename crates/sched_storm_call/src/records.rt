@@ -5,10 +5,12 @@ ghost use Rattle.sched_storm_call.specs.Told.{IsThrottleGiven, AreDrawsGiven};
 ghost use Rattle.sched_storm_call.specs.Told.{ArePopulationsGiven, IsOnSome, AreDrawsOf, IsOf, down_of, slow_of};
 ghost use Rattle.sched_storm_call.specs.Told.{population_given, others_of, of_given, parameters_of, room_of};
 ghost use Rattle.sched_storm_call.specs.Told.{window_told, totals_told};
+ghost use Rattle.sched_storm_call.specs.Plays.{AreSized};
 
+use sched_handle::Handle;
 use sched_limit::{Adaptive, Breaker, Bucket, InFlight, Throttle};
 use sched_storm::{
-    BrownOut, Draws, Limit, Others, Parameters, Phase, Population, Rates, Span, Storm, Totals,
+    BrownOut, Draws, Limit, Others, Parameters, Phase, Population, Rates, Report, Span, Storm,
     Window,
 };
 use sched_ticket_quota::Terms;
@@ -21,6 +23,15 @@ pub struct PopulationGiven {
     pub share: u64,
     pub patience: u64,
     pub limited: u64,
+}
+
+/// The policies of a storm's populations: a further handle that is empty stands for the policy of the first.
+#[repr(C)]
+pub struct Policies {
+    pub first: Handle,
+    pub second: Handle,
+    pub third: Handle,
+    pub fourth: Handle,
 }
 
 /// The parameters of a storm.
@@ -83,8 +94,8 @@ pub struct SizedStorm {
     pub storm: StormGiven,
 }
 
-/// The size of it.
-pub(crate) const STORM_SIZE: usize = 1176;
+// The size of it.
+const STORM_SIZE: usize = 1176;
 
 /// A window of a storm.
 #[repr(C)]
@@ -101,10 +112,11 @@ pub struct WindowTold {
     pub waiting: u64,
 }
 
-/// What a storm comes to in all.
+/// What a storm comes to in all: of so many windows.
 #[repr(C)]
 #[derive(Clone, Copy)]
 pub struct TotalsTold {
+    pub windows: u64,
     pub requests: u64,
     pub won: u64,
     pub lost: u64,
@@ -131,8 +143,15 @@ pub struct SizedTotals {
     pub totals: TotalsTold,
 }
 
-/// The size of it.
-pub(crate) const TOTALS_SIZE: usize = 128;
+// The size of it.
+const TOTALS_SIZE: usize = 136;
+
+/// Whether the structs of a storm and of totals have their sizes.
+pub(crate) fn are_sized(storm: usize, totals: usize) -> bool
+    ensures { IsTrue result ↔ AreSized storm totals }
+{
+    storm == STORM_SIZE && totals == TOTALS_SIZE
+}
 
 impl PopulationGiven {
     // Whether it says if its retries draw on what those of the first population draw on.
@@ -412,12 +431,14 @@ impl WindowTold {
 }
 
 impl TotalsTold {
-    /// Totals, as C is told of them: 0 in the place of what there is none of.
-    pub(crate) fn of(totals: &Totals) -> TotalsTold
-        ensures { result ≡ totals_told totals.now }
+    /// Totals of a report, as C is told of them: 0 in the place of what there is none of.
+    pub(crate) fn of(report: &Report) -> TotalsTold
+        ensures { result ≡ totals_told report.now }
     {
+        let totals = &report.totals;
         let counts = totals.counts;
         TotalsTold {
+            windows: report.windows.len() as u64,
             requests: counts.requests,
             won: counts.won,
             lost: totals.lost,

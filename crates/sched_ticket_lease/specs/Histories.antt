@@ -95,8 +95,7 @@ DrawsWereGranted = (steps : List Step) → IsHistory steps → (q : ℕ → ℕ)
     drew_in q w steps + lent_in q w steps ≤ back_in q w steps + took_in q w steps
 
 -- whatever a store answers, and how often: a holder takes each number of a window once, and once more for each time
--- that it lent
--- it; so it draws it at most once more than it was handed back
+-- that it lent it; so it draws it at most once more than it was handed back
 abbrev pub NumbersAreTakenOnce : Type 0
 NumbersAreTakenOnce = (steps : List Step) → IsHistory steps → (w n : ℕ) →
     took_in (is n) w steps ≤ 1 + lent_in (is n) w steps
@@ -116,8 +115,7 @@ SharedNumbersStandOnce = (all : List (List Step)) → Each IsHistory all → (s 
     WereLeased all ts → (w n : ℕ) → total (drew_in (is n) w) all ≤ 1 + total (back_in (is n) w) all
 
 -- and where all who ask in a window name the same terms, they draw in it no more tickets than it may give for the
--- requests that
--- the store was told, and one for each that was handed back
+-- requests that the store was told, and one for each that was handed back
 abbrev pub SharedWindowsAreKept : Type 0
 SharedWindowsAreKept = (all : List (List Step)) → Each IsHistory all → (s : Stored) (ts : List Taken) → s.asked ≡ 0 →
     AreTaken s ts → WereLeased all ts → (g : Grants) (w : ℕ)
@@ -141,8 +139,7 @@ abbrev pub NoneIsDrawnLate : Type 0
 NoneIsDrawnLate = (steps : List Step) → IsHistory steps → AllEnd steps
 
 -- the requests that are told for windows that began at a moment or later are at most those that were counted from that
--- moment
--- on: none is told twice
+-- moment on: none is told twice
 abbrev pub counted_by : ℕ → Call → ℕ
 counted_by since (counted now n) = if nat_lt now since then 0 else n
 counted_by since _ = 0

@@ -14,8 +14,7 @@ use Rattle.sched_ticket_lease.specs.declared.ticket.NotBack.{NotBack}
 use Rattle.sched_ticket_lease.specs.declared.ticket.NotBack.TheVariants as not_back
 
 -- A holder has numbers of one window: those that it may draw until the window ends, and those that are out, which were
--- drawn
--- and may be handed back. Those below the floor that it has not are forgotten.
+-- drawn and may be handed back. Those below the floor that it has not are forgotten.
 pub record Holder : Type 0 where
   pub window : ℕ
   pub until : ℕ
@@ -43,8 +42,7 @@ pub record IsNew (h : Holder) : Type 0 where
   pub slices : h.requests.slices ≡ []
 
 -- what is out weighs so much, and nothing is forgotten; or it was too many spans, and the first of them is forgotten:
--- no range
--- that begins below its end is taken any more
+-- no range that begins below its end is taken any more
 abbrev pub Remembers : ((ℕ → ℕ) → ℕ) → ℕ → List Span → ℕ → Type 0
 Remembers weighs floor out after =
     (((q : ℕ → ℕ) → weight q out ≡ weighs q) × (after ≡ floor))
@@ -83,8 +81,7 @@ abbrev pub IsHeld : Holder → ℕ → ℕ → Type 0
 IsHeld h a b = (a < b) × ((a < h.floor) ⊎ HasSome h.at_hand a b ⊎ HasSome h.out a b)
 
 -- The numbers from a up to b, of the holder's window that ends then, come to what is at hand: none of them was held,
--- nor is below
--- the floor.
+-- nor is below the floor.
 pub record Adds (h : Holder) (a b until : ℕ) (at_hand out : List Span) (floor ends : ℕ) : Type 0 where
   pub at_hand_is : (q : ℕ → ℕ) → weight q at_hand ≡ weight q h.at_hand + between q a b
   pub out_is : out ≡ h.out

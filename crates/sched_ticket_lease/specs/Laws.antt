@@ -16,8 +16,7 @@ pub record Taken : Type 0 where
   pub lease : Lease
 
 -- A store keeps its numbers until the next lease: it may pass over tickets and lose requests, and it may come to a
--- later
--- window, of which it was told no request. It never goes back.
+-- later window, of which it was told no request. It never goes back.
 abbrev pub Keeps : Stored → Stored → Type 0
 Keeps s t =
     ((s.window ≡ t.window) × (s.given ≤ t.given) × (t.asked ≤ s.asked)) ⊎ ((s.window < t.window) × (t.asked ≡ 0))

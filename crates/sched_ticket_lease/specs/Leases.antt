@@ -9,8 +9,7 @@ use Rattle.sched_ticket_lease.specs.declared.lease.Ask.{Ask}
 use Rattle.sched_ticket_lease.specs.declared.lease.Lease.{Lease}
 
 -- the tickets that a window of so many requests may give: of a budget its limit, of a quota what its terms allow for
--- the
--- requests, of which 4294967296 count
+-- the requests, of which 4294967296 count
 abbrev pub allows : Grants → ℕ → ℕ
 allows (Budget limit) asked = limit
 allows (Quota k) asked = allowed k (min asked 4294967296)
@@ -27,8 +26,7 @@ abbrev pub count_of : Stored → ℕ → Stored
 count_of s w = record { window = w; given = given_of s w; asked = asked_of s w }
 
 -- A lease has the tickets that follow those given of its window, as many of those wanted as the window may yet give,
--- its
--- requests told. The store keeps both counts.
+-- its requests told. The store keeps both counts.
 pub record IsLease (s : Stored) (a : Ask) (l : Lease) : Type 0 where
   pub window : l.stored.window ≡ a.window
   pub told : l.stored.asked ≡ capped (asked_of s a.window + a.told)

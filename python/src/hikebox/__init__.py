@@ -17,7 +17,6 @@ from ._time import MAX_NUMBER, Duration, Milliseconds, milliseconds
 from .budget import Budget
 from .budgets.limit import Limit
 from .budgets.tickets import Refusal, RefusalReason, Ticket
-from .built import BuildInfo, build_info
 from .errors import (
     AttemptTimeout,
     LimitClosed,
@@ -37,21 +36,6 @@ from .errors import (
     TooSoon,
     TryAgain,
 )
-from .limits import (
-    Adaptive,
-    Breaker,
-    BreakerState,
-    Bucket,
-    CallLimit,
-    InFlight,
-    PerHost,
-    PerKey,
-    Request,
-    Throttle,
-    both,
-)
-from .log import after_log, before_log, before_sleep_log
-from .pace import Pace
 from .policy import Policy, Step
 from .policy.builders import (
     decorrelated,
@@ -73,27 +57,50 @@ from .policy.builders import (
 )
 from .quota import Quota, Usage
 from .retry.deadline import seconds_left
-from .retry.repeating import AsyncRepeating, Repeating, poll_until, repeat
 from .retry.state import Ending, Outcome, RetryState, Statistics, code_of, state_of
 from .retrying import AsyncRetrying, Attempt, Retrying, Tickets, retry
 from .version import VERSION
 
 if TYPE_CHECKING:
+    from .built import BuildInfo, build_info
+    from .limits import (
+        Adaptive,
+        Breaker,
+        BreakerState,
+        Bucket,
+        CallLimit,
+        InFlight,
+        PerHost,
+        PerKey,
+        Request,
+        Throttle,
+        both,
+    )
+    from .log import after_log, before_log, before_sleep_log
+    from .pace import Pace
+    from .retry.repeating import AsyncRepeating, Repeating, poll_until, repeat
     from .storms.storm import Population, PopulationReport, Storm, StormRow, StormTotals, storm
 
 __version__ = VERSION
 
-#: What is loaded when it is first asked for: a program that retries calls plays no storms.
-_OF_STORMS = ("Population", "PopulationReport", "Storm", "StormRow", "StormTotals", "storm")
+#: What is loaded when it is first asked for, and of which module: a program that retries calls may need none of it.
+_LATER = {
+    "built": "BuildInfo build_info",
+    "limits": "Adaptive Breaker BreakerState Bucket CallLimit InFlight PerHost PerKey Request Throttle both limits",
+    "log": "after_log before_log before_sleep_log",
+    "pace": "Pace pace",
+    "retry.repeating": "AsyncRepeating Repeating poll_until repeat",
+    "storms.storm": "Population PopulationReport Storm StormRow StormTotals storm",
+}
 
 
 def __getattr__(name: str) -> Any:
-    if name not in _OF_STORMS:
-        raise AttributeError(f"module {__name__!r} has no attribute {name!r}")
-    from .storms import storm as module
-
-    globals().update({each: getattr(module, each) for each in _OF_STORMS})
-    return globals()[name]
+    for path, names in _LATER.items():
+        if name in names.split():
+            module = __import__(f"{__name__}.{path}", fromlist=["__name__"])
+            found = globals()[name] = module if name == path else getattr(module, name)
+            return found
+    raise AttributeError(f"module {__name__!r} has no attribute {name!r}")
 
 
 def __dir__() -> List[str]:

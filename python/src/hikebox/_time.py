@@ -4,10 +4,17 @@ from __future__ import annotations
 
 import math
 import time
-from datetime import timedelta
-from typing import Callable, Union
+from typing import TYPE_CHECKING, Callable, Union
 
 from .errors import Fault, PolicyError, shown
+
+if TYPE_CHECKING:
+    from datetime import timedelta
+else:
+    try:
+        from _datetime import timedelta  # the same class: all of `datetime` takes a twenty-fifth of `import hikebox`
+    except ImportError:
+        from datetime import timedelta
 
 __all__ = [
     "FLOAT_ERROR",

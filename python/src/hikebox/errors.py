@@ -149,10 +149,10 @@ class NotAdmitted(HikeboxError):
 class TooSoon(LimitError):
     """A call would have to wait for its pace longer than it may, so it did not begin.
 
-    `wait` is for how many seconds, and `longest` how many it may wait: the pace's `longest`, or what its retry's
-    deadline leaves. `again_at` is the first moment, in seconds by the pace's clock, at which the pace grants it if no
-    other call comes before; None where the deadline is what it would pass. It is no failure of the peer: the `limit` of
-    a retry does not hear of it.
+    `wait` is the number of seconds that it would have to wait, and `longest` the number that it may: the pace's
+    `longest`, or what its retry's deadline leaves. `again_at` is the first moment, in seconds by the pace's clock, at
+    which the pace grants it if no other call comes before; None if it would pass the deadline. This is no failure of
+    the peer: the `limit` of a retry does not count it.
     """
 
     is_of_pace = True

@@ -2,7 +2,7 @@
 
 use super::sys::*;
 use super::{text, Handle, Kind, Status};
-use std::mem;
+use std::{iter, mem};
 
 /// The kind of a policy.
 #[derive(Debug)]
@@ -57,26 +57,16 @@ impl Handle<PolicyKind> {
 
     /// What it does along a course: its lines, and their outputs, one after another.
     pub(crate) fn course(&mut self, course: Course, events: &[Event]) -> Result<(Vec<Line>, String), Status> {
-        let (mut lines, mut count) = (vec![Line::default(); 16], 0);
-        let text = text(|text, room, length| {
-            lines.resize(lines.len().max(count), Line::default());
-            unsafe {
-                hikebox_policy_course(
-                    self.raw(),
-                    &course,
-                    events.as_ptr(),
-                    events.len(),
-                    lines.as_mut_ptr(),
-                    lines.len(),
-                    &mut count,
-                    text,
-                    room,
-                    length,
-                )
-            }
+        let (course, given, count) = (&course, events.as_ptr(), events.len());
+        let (mut lines, mut told) = (vec![Line::default(); course.steps as usize], 0);
+        Status::of(unsafe {
+            hikebox_policy_course(self.raw(), course, given, count, lines.as_mut_ptr(), lines.len(), &mut told)
         })?;
-        lines.truncate(count);
-        Ok((lines, text))
+        lines.truncate(told);
+        let outputs = text(|text, room, length| unsafe {
+            hikebox_policy_outputs(self.raw(), course, given, count, text, room, length)
+        })?;
+        Ok((lines, outputs))
     }
 
     /// Plays a storm under it, and under these policies of the populations beside the first one, of which there are three
@@ -90,26 +80,37 @@ impl Handle<PolicyKind> {
         room: usize,
     ) -> Result<(Vec<Window>, Totals), Status> {
         let mut totals = Totals { size: mem::size_of::<Totals>(), ..Totals::default() };
-        let (mut windows, mut count) = (vec![Window::default(); room], 0);
-        let [mut second, mut third, mut fourth] = [Raw::EMPTY; 3];
-        let mut others = others.iter_mut().map(Self::raw);
-        Status::of(unsafe {
-            hikebox_storm_play_arrivals(
-                self.raw(),
-                others.next().unwrap_or(&mut second),
-                others.next().unwrap_or(&mut third),
-                others.next().unwrap_or(&mut fourth),
+        let mut windows = vec![Window::default(); room];
+        let mut policies = [Raw::EMPTY; 4];
+        let mut exchange = |policies: &mut Policies| {
+            for (policy, held) in policies.iter_mut().zip(iter::once(&mut *self).chain(&mut *others)) {
+                mem::swap(policy, &mut held.raw);
+            }
+        };
+        exchange(&mut policies);
+        let status = unsafe {
+            hikebox_storm_play_populations(
+                &mut policies,
                 storm,
                 arrivals.as_ptr(),
                 arrivals.len(),
                 windows.as_mut_ptr(),
                 windows.len(),
-                &mut count,
                 &mut totals,
             )
-        })?;
-        windows.truncate(count);
+        };
+        exchange(&mut policies);
+        Status::of(status)?;
+        windows.truncate(totals.windows as usize);
         Ok((windows, totals))
+    }
+}
+
+impl Storm {
+    /// One whose numbers are all 0: it draws on nothing, and has no phase and no population beside the first one.
+    pub(crate) fn zeroed() -> Self {
+        // SAFETY: it is numbers alone.
+        unsafe { mem::zeroed() }
     }
 }
 

@@ -201,6 +201,9 @@ pub(crate) struct Population {
     pub(crate) limited: u64,
 }
 
+/// The policies of the populations of a storm, in their order.
+pub(super) type Policies = [Raw; 4];
+
 #[repr(C)]
 #[derive(Clone, Copy, Debug, PartialEq, Eq, Hash)]
 pub(crate) struct Storm {
@@ -271,6 +274,7 @@ pub(crate) struct Window {
 #[derive(Clone, Copy, Debug, Default)]
 pub(crate) struct Totals {
     pub(crate) size: usize,
+    pub(crate) windows: u64,
     pub(crate) requests: u64,
     pub(crate) won: u64,
     pub(crate) lost: u64,
@@ -417,6 +421,12 @@ extern "C" {
         lines: *mut Line,
         capacity: usize,
         count: *mut usize,
+    ) -> u32;
+    pub(super) fn hikebox_policy_outputs(
+        policy: *mut Raw,
+        course: *const Course,
+        events: *const Event,
+        given: usize,
         text: *mut u8,
         room: usize,
         length: *mut usize,
@@ -542,17 +552,13 @@ extern "C" {
     #[cfg(feature = "leased")]
     pub(super) fn hikebox_leased_free(leased: *mut Raw) -> u32;
 
-    pub(super) fn hikebox_storm_play_arrivals(
-        policy: *mut Raw,
-        second: *mut Raw,
-        third: *mut Raw,
-        fourth: *mut Raw,
+    pub(super) fn hikebox_storm_play_populations(
+        policies: *mut Policies,
         storm: *const Storm,
         arrivals: *const u64,
-        arrivals_count: usize,
+        given: usize,
         windows: *mut Window,
         capacity: usize,
-        count: *mut usize,
         totals: *mut Totals,
     ) -> u32;
 }

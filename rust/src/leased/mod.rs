@@ -7,7 +7,6 @@ mod uptime;
 
 pub use folder::StoreError;
 
-use crate::clock::Moment;
 use crate::engine::{lease_of_budget, lease_of_quota, Asking, Range, Stored, MAX_TICKETS};
 use crate::leased::folder::{Folder, Key, Known};
 use crate::leased::share::{Answer, Share, Tell, AGAIN_AFTER};
@@ -15,9 +14,8 @@ use crate::leased::uptime::Window;
 use crate::limits::error::LimitError;
 use crate::limits::grants::{Limit, Source, Tickets};
 use crate::limits::per_key::Counted;
-use crate::limits::quota::{thousandths, AtomicTerms, Terms, Usage};
+use crate::limits::quota::{share_of, AtomicTerms, QuotaTerms, Usage};
 use crate::limits::ticket::{NoTicket, Ticket};
-use crate::limits::uses::{options_of_uses, Uses};
 use std::path::Path;
 use std::sync::Arc;
 use std::time::Duration;
@@ -85,7 +83,8 @@ pub struct LeasedQuota {
     period: u64,
     lease: Option<u64>,
     again_after: Duration,
-    uses: Uses,
+    counts_successes: bool,
+    returns_tickets: bool,
     shared: Arc<Shared>,
 }
 
@@ -192,7 +191,7 @@ impl LeasedQuota {
         share: f64,
         per: Duration,
     ) -> Result<Self, LimitError> {
-        let terms = Terms::new(reserve, share, per)?.checked()?;
+        let terms = QuotaTerms::new(reserve, share, per)?.checked()?;
         let share = Share::new(Some(terms.period));
         Ok(Self {
             folder: Folder::new(path),
@@ -200,7 +199,8 @@ impl LeasedQuota {
             period: terms.period,
             lease: None,
             again_after: AGAIN_AFTER,
-            uses: Uses::default(),
+            counts_successes: false,
+            returns_tickets: false,
             shared: Arc::new(Shared { terms: AtomicTerms::new(terms.reserve, terms.share), share }),
         })
     }
@@ -221,17 +221,21 @@ impl LeasedQuota {
         self
     }
 
-    options_of_uses! {
-        /// Makes a call count as a request when it succeeds: [`Quota::counting_successes`].
-        ///
-        /// [`Quota::counting_successes`]: crate::Quota::counting_successes
-        counting_successes,
+    /// Makes a call count as a request when it succeeds, as
+    /// [`Quota::counting_successes`](crate::Quota::counting_successes).
+    #[must_use]
+    pub fn counting_successes(mut self) -> Self {
+        self.counts_successes = true;
+        self
+    }
 
-        /// Makes a call that succeeds after retries hand the ticket of its last retry back:
-        /// [`Quota::returning_tickets`]. Only this process draws a ticket again that came back, while its window lasts.
-        ///
-        /// [`Quota::returning_tickets`]: crate::Quota::returning_tickets
-        returning_tickets
+    /// Makes a call that succeeds after retries hand the ticket of its last retry back, as
+    /// [`Quota::returning_tickets`](crate::Quota::returning_tickets). Only this process draws a ticket again that came
+    /// back, while its window lasts.
+    #[must_use]
+    pub fn returning_tickets(mut self) -> Self {
+        self.returns_tickets = true;
+        self
     }
 
     /// Sets the reserve and the share that this process names to the store, from its next lease on.
@@ -240,15 +244,15 @@ impl LeasedQuota {
     ///
     /// [`LimitError`] says which argument is out of its range; then nothing changes.
     pub fn set_terms(&self, reserve: u64, share: f64) -> Result<(), LimitError> {
-        let terms = Terms { reserve, share: thousandths(share)?, period: self.period }.checked()?;
+        let terms = QuotaTerms { reserve, share: share_of(share)?, period: self.period }.checked()?;
         self.shared.terms.set(terms.reserve, terms.share);
         self.shared.share.may_ask();
         Ok(())
     }
 
-    fn terms(&self) -> Terms {
+    fn terms(&self) -> QuotaTerms {
         let (reserve, share) = self.shared.terms.get();
-        Terms { reserve, share, period: self.period }
+        QuotaTerms { reserve, share, period: self.period }
     }
 
     /// Counts a request. The store is not asked.
@@ -305,7 +309,13 @@ impl LeasedQuota {
 
     /// Tells the store the requests of the present window, and takes a range of its tickets where that is wanted.
     /// Requests that were told are not told again, also where that failed.
-    fn ask(&self, terms: Terms, wants_tickets: bool, known: &mut Known, tell: Tell<'_>) -> Result<Found, StoreError> {
+    fn ask(
+        &self,
+        terms: QuotaTerms,
+        wants_tickets: bool,
+        known: &mut Known,
+        tell: Tell<'_>,
+    ) -> Result<Found, StoreError> {
         let slot = self.folder.lock(&self.key)?;
         let window = Window::present(self.period, &mut known.boot).map_err(|error| slot.failed(error))?;
         let mut stored = slot.stored(Some(&window), known)?;
@@ -327,7 +337,7 @@ impl LeasedQuota {
     }
 }
 
-impl Terms {
+impl QuotaTerms {
     /// Takes a range of a window, and tells requests of it. `None` where the store counts a later one.
     fn lease(self, window: u64, told: u64, wanted: u64, stored: &mut Stored) -> Option<Range> {
         let asking = Asking { window, told, wanted };
@@ -359,25 +369,12 @@ impl Limit for LeasedQuota {
     fn store(&self) -> Option<&dyn Tickets> {
         Some(self)
     }
-
-    fn count_request(&self) -> bool {
-        Tickets::deposit(self);
-        false
-    }
-
-    fn hears_of_successes(&self) -> bool {
-        true
-    }
-
-    fn count_success(&self, last: Option<Ticket>, _clock: &dyn Fn() -> Moment) {
-        self.succeeded(last);
-    }
 }
 
 /// Each call that is retried counts as one request.
 impl Tickets for LeasedQuota {
     fn deposit(&self) {
-        if !self.uses.counts_successes {
+        if !self.counts_successes {
             Self::deposit(self);
         }
     }
@@ -392,10 +389,10 @@ impl Tickets for LeasedQuota {
     }
 
     fn succeeded(&self, last: Option<Ticket>) {
-        if self.uses.counts_successes {
+        if self.counts_successes {
             Self::deposit(self);
         }
-        if let (true, Some(ticket)) = (self.uses.returns_tickets, last) {
+        if let (true, Some(ticket)) = (self.returns_tickets, last) {
             Tickets::hand_back(self, ticket);
         }
     }

@@ -6,10 +6,10 @@ use crate::leased::folder::{Known, StoreError};
 use crate::leased::uptime::{now, Window};
 use crate::limits::error::LimitError;
 use crate::limits::ticket::{Drawer, NoTicket, StoreFailure, Ticket};
-use crate::system::PerProcess;
+use crate::system::{lock, PerProcess};
 use std::fmt;
 use std::path::PathBuf;
-use std::sync::{Mutex, MutexGuard, PoisonError};
+use std::sync::Mutex;
 use std::time::Duration;
 
 /// How long a store that failed, or that had nothing left, is left alone unless it is said.
@@ -32,6 +32,7 @@ struct Leases {
 }
 
 struct Held {
+    period: Option<u64>,
     pass: Handle<LeasedKind>,
     drawer: Drawer,
     /// Why the store is left alone, where it failed.
@@ -66,28 +67,29 @@ impl Share {
         ask: impl Fn(&mut Known, Tell<'_>) -> Result<Answer, StoreError>,
     ) -> Result<Ticket, NoTicket> {
         let leases = self.leases();
-        if let Some(drawn) = leases.draw(self.period) {
+        if let Some(drawn) = lock(&leases.held).draw() {
             return drawn;
         }
         let known = &mut *lock(&leases.asking);
         // (another thread may have had an answer meanwhile)
-        if let Some(drawn) = leases.draw(self.period) {
+        if let Some(drawn) = lock(&leases.held).draw() {
             return drawn;
         }
         // (a lease that is over when it comes is one of a window that is over: the next one is of a later window)
         for _ in 0..TRIES {
             let answer = match ask(known, &|window| leases.tell(window)) {
                 Ok(answer) => answer,
-                Err(error) => return Err(leases.failed(StoreFailure::new(error), again_after)),
+                Err(error) => return Err(lock(&leases.held).failed(StoreFailure::new(error), again_after)),
             };
-            if let Some(drawn) = leases.granted(self.period, &answer) {
+            // (before another thread can draw of it)
+            if let Some(drawn) = lock(&leases.held).granted(&answer) {
                 return drawn;
             }
             if answer.tickets == 0 {
                 break;
             }
         }
-        Err(leases.used_up(self.period, again_after))
+        Err(lock(&leases.held).used_up(again_after))
     }
 
     /// Asks the store, and takes no ticket of the window that it answers.
@@ -99,7 +101,7 @@ impl Share {
         let known = &mut *lock(&leases.asking);
         let answer = ask(known, &|window| leases.tell(window))?;
         let held = &mut *lock(&leases.held);
-        held.pass.granted(&Grant::none_of(&answer.0));
+        held.pass.granted(&grant_of(Some(answer.0), 0, 0));
         held.may_ask();
         Ok(answer)
     }
@@ -139,59 +141,51 @@ impl Leases {
         Self { held: Mutex::new(Held::new(period)), asking: Mutex::default() }
     }
 
-    /// A ticket at hand, or why there is none. `None` where the store may be asked.
-    fn draw(&self, period: Option<u64>) -> Option<Result<Ticket, NoTicket>> {
-        lock(&self.held).draw(period)
-    }
-
     /// The requests that were counted since the window began, and not told before.
     fn tell(&self, window: &Window) -> u64 {
         lock(&self.held).pass.tell(window.begins())
-    }
-
-    /// Takes a store's answer and draws of it, before another thread can.
-    fn granted(&self, period: Option<u64>, answer: &Answer) -> Option<Result<Ticket, NoTicket>> {
-        let held = &mut *lock(&self.held);
-        let until = answer.window.map_or(MAX_NUMBER, |window| window.ends().min(MAX_NUMBER));
-        let window = answer.window.map_or(0, |window| window.number);
-        let grant = Grant { window, first: answer.first, tickets: answer.tickets, until };
-        if held.pass.granted(&grant) == Taken::HeldAlready {
-            // (the store was taken away, and has begun anew: so does this process)
-            *held = Held::new(period);
-            held.pass.granted(&grant);
-        }
-        held.failure = None;
-        held.worth_asking = None;
-        if answer.tickets == 0 {
-            held.pass.leave_alone(later(answer.again_after).min(until));
-            held.worth_asking = answer.worth_asking;
-        }
-        held.draw(period)
-    }
-
-    /// Leaves a store alone of which no lease lasted until a ticket was drawn, or that had nothing left.
-    fn used_up(&self, period: Option<u64>, again_after: Duration) -> NoTicket {
-        lock(&self.held).pass.leave_alone(later(again_after));
-        NoTicket::UsedUp { next_in: period.map(|_| again_after) }
-    }
-
-    /// The store failed, and is left alone for so long.
-    fn failed(&self, failure: StoreFailure, again_after: Duration) -> NoTicket {
-        let held = &mut *lock(&self.held);
-        held.pass.leave_alone(later(again_after));
-        held.failure = Some(failure.clone());
-        held.worth_asking = None;
-        NoTicket::StoreFailed { failure, next_in: Some(again_after) }
     }
 }
 
 impl Held {
     fn new(period: Option<u64>) -> Self {
         let pass = Handle::leased(period).expect("memory for a leased pass");
-        Self { pass, drawer: Drawer::new(), failure: None, worth_asking: None }
+        Self { period, pass, drawer: Drawer::new(), failure: None, worth_asking: None }
     }
 
-    fn draw(&mut self, period: Option<u64>) -> Option<Result<Ticket, NoTicket>> {
+    /// Takes a store's answer, and draws of it.
+    fn granted(&mut self, answer: &Answer) -> Option<Result<Ticket, NoTicket>> {
+        let grant = grant_of(answer.window, answer.first, answer.tickets);
+        if self.pass.granted(&grant) == Taken::HeldAlready {
+            // (the store was taken away, and has begun anew: so does this process)
+            *self = Self::new(self.period);
+            self.pass.granted(&grant);
+        }
+        self.failure = None;
+        self.worth_asking = None;
+        if answer.tickets == 0 {
+            self.pass.leave_alone(later(answer.again_after).min(grant.until));
+            self.worth_asking = answer.worth_asking;
+        }
+        self.draw()
+    }
+
+    /// Leaves a store alone of which no lease lasted until a ticket was drawn, or that had nothing left.
+    fn used_up(&mut self, again_after: Duration) -> NoTicket {
+        self.pass.leave_alone(later(again_after));
+        NoTicket::UsedUp { next_in: self.period.map(|_| again_after) }
+    }
+
+    /// The store failed, and is left alone for so long.
+    fn failed(&mut self, failure: StoreFailure, again_after: Duration) -> NoTicket {
+        self.pass.leave_alone(later(again_after));
+        self.failure = Some(failure.clone());
+        self.worth_asking = None;
+        NoTicket::StoreFailed { failure, next_in: Some(again_after) }
+    }
+
+    /// A ticket at hand, or why there is none. `None` where the store may be asked.
+    fn draw(&mut self) -> Option<Result<Ticket, NoTicket>> {
         let now = match now() {
             Ok(now) => now,
             Err(error) => return Some(Err(NoTicket::failed(StoreError::Io(PathBuf::new(), error)))),
@@ -208,7 +202,7 @@ impl Held {
                 let next_in = Duration::from_millis(again.saturating_sub(now));
                 Some(Err(match self.failure.clone() {
                     Some(failure) => NoTicket::StoreFailed { failure, next_in: Some(next_in) },
-                    None => NoTicket::UsedUp { next_in: period.map(|_| next_in) },
+                    None => NoTicket::UsedUp { next_in: self.period.map(|_| next_in) },
                 }))
             }
         }
@@ -229,11 +223,10 @@ impl Held {
     }
 }
 
-impl Grant {
-    /// No ticket of a window, which is told by it.
-    fn none_of(window: &Window) -> Self {
-        Self { window: window.number, first: 0, tickets: 0, until: window.ends().min(MAX_NUMBER) }
-    }
+/// So many tickets of a window, or of a store without any.
+fn grant_of(window: Option<Window>, first: u64, tickets: u64) -> Grant {
+    let (window, until) = window.map_or((0, MAX_NUMBER), |window| (window.number, window.ends().min(MAX_NUMBER)));
+    Grant { window, first, tickets, until }
 }
 
 /// The moment after so long.
@@ -245,10 +238,6 @@ impl fmt::Debug for Share {
     fn fmt(&self, f: &mut fmt::Formatter<'_>) -> fmt::Result {
         f.debug_struct("Share").finish_non_exhaustive()
     }
-}
-
-fn lock<T>(shared: &Mutex<T>) -> MutexGuard<'_, T> {
-    shared.lock().unwrap_or_else(PoisonError::into_inner)
 }
 
 #[cfg(all(test, unix))]

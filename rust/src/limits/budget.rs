@@ -3,14 +3,13 @@
 use crate::engine::{Handle, PassKind, Status};
 use crate::limits::error::LimitError;
 use crate::limits::lender::{Begun, Lender};
-use crate::limits::part::{Part, Root};
+use crate::limits::part::{Part, Passes, Root};
 use crate::limits::per_key::Counted;
-use crate::limits::slots::Slots;
 use crate::limits::ticket::{NoTicket, Ticket};
 use crate::system::PerProcess;
 use std::fmt;
 use std::sync::atomic::{AtomicU64, Ordering};
-use std::sync::{Arc, Mutex, MutexGuard, PoisonError};
+use std::sync::{Arc, MutexGuard};
 
 /// A fixed number of tickets that all threads of a program share. Each retry takes one, and no ticket is drawn twice.
 /// It is cheap to clone; all clones are the same budget.
@@ -38,14 +37,8 @@ pub struct Budget {
 struct Shared {
     limit: AtomicU64,
     rises: bool,
-    passes: PerProcess<Passes>,
-}
-
-struct Passes {
-    /// The first pass, which others are split off and joined into.
-    root: Mutex<Lender>,
-    /// Those from which threads split the passes of their retries.
-    own: Slots<Lender>,
+    /// Threads split the passes of their retries off those that they have.
+    passes: PerProcess<Passes<Lender>>,
 }
 
 /// The right to draw tickets of a [`Budget`], for one thread at a time. A pass that is dropped adds its tickets to the
@@ -122,13 +115,11 @@ impl Budget {
     /// The budget itself, if something of it is alive.
     pub fn close(self) -> Result<u64, Self> {
         let Shared { limit, rises, passes } = Arc::try_unwrap(self.shared).map_err(|shared| Self { shared })?;
-        let Passes { root, own } = match passes.into_inner() {
-            Some(passes) => passes,
+        let mut root = match passes.into_inner() {
+            Some(passes) => passes.joined(Lender::into_pass),
             // (in a forked child that drew none)
             None => return Ok(0),
         };
-        let mut root = root.into_inner().unwrap_or_else(PoisonError::into_inner).into_pass();
-        own.into_values().for_each(|lender| root.join(lender.into_pass()));
         root.close().map_err(|_| Self::of(limit.into_inner(), rises, root))
     }
 
@@ -139,9 +130,9 @@ impl Budget {
     where
         C: Fn(&mut Lender, &mut Begun) -> Result<(), Status> + Copy,
     {
-        let own = |slot: &mut Option<Lender>| match slot {
+        let own = |shard: &mut Option<Lender>| match shard {
             Some(lender) => call(lender, retry),
-            None => self.lend_another(slot, retry, call),
+            None => self.lend_another(shard, retry, call),
         };
         match self.passes().own.own(own) {
             Some(Err(Status::TooManyPasses)) | None => self.lend_first(retry, call),
@@ -151,11 +142,11 @@ impl Budget {
 
     /// The same of one for this thread, which has none yet.
     #[cold]
-    fn lend_another<C>(&self, slot: &mut Option<Lender>, retry: &mut Begun, call: C) -> Result<(), Status>
+    fn lend_another<C>(&self, shard: &mut Option<Lender>, retry: &mut Begun, call: C) -> Result<(), Status>
     where
         C: Fn(&mut Lender, &mut Begun) -> Result<(), Status>,
     {
-        call(slot.insert(Lender::of(self.lock().pass.split()?)), retry)
+        call(shard.insert(Lender::of(self.lock().pass.split()?)), retry)
     }
 
     #[cold]
@@ -167,17 +158,16 @@ impl Budget {
     }
 
     fn lock(&self) -> MutexGuard<'_, Lender> {
-        self.passes().root.lock().unwrap_or_else(PoisonError::into_inner)
+        self.passes().root()
     }
 
-    /// The passes of this process.
     #[inline]
-    fn passes(&self) -> &Passes {
+    fn passes(&self) -> &Passes<Lender> {
         self.shared.passes.get(|| self.anew())
     }
 
     /// The passes of a forked child.
-    fn anew(&self) -> Passes {
+    fn anew(&self) -> Passes<Lender> {
         let Shared { limit, rises, .. } = &*self.shared;
         Passes::of(root_of(limit.load(Ordering::Relaxed), *rises).expect("memory for a budget"))
     }
@@ -190,12 +180,6 @@ impl Budget {
     fn of(limit: u64, rises: bool, root: Handle<PassKind>) -> Self {
         let passes = PerProcess::new(Passes::of(root));
         Self { shared: Arc::new(Shared { limit: AtomicU64::new(limit), rises, passes }) }
-    }
-}
-
-impl Passes {
-    fn of(root: Handle<PassKind>) -> Self {
-        Self { root: Mutex::new(Lender::of(root)), own: Slots::default() }
     }
 }
 

@@ -2,21 +2,21 @@
 
 use crate::clock::{beginning, whole_millis, Moment};
 use crate::engine::{Handle, LimitKind, Seen, MAX_NUMBER};
-use crate::limits::asked::Quiet;
 use crate::limits::changes::{self, BreakerState, Changes, OnChange};
 use crate::limits::error::LimitError;
 use crate::limits::grants::Tickets;
+use crate::limits::holding::Quiet;
 use crate::limits::per_key::Counted;
 use crate::limits::refused::{RefusalReason, Refused};
 use crate::limits::seen::LimitState;
-use crate::limits::slots::Slots;
+use crate::limits::shards::Shards;
 use crate::limits::terms::{fault, thousandths, Breaker, Terms};
 use crate::limits::ticket::{NoTicket, Ticket};
 use crate::random;
-use crate::system::{generation, is_generation, PerProcess};
+use crate::system::{generation, is_generation, lock, PerProcess};
 use std::fmt;
 use std::mem;
-use std::sync::{Arc, Mutex, MutexGuard, PoisonError};
+use std::sync::{Arc, Mutex};
 use std::time::Duration;
 
 /// A limit of another system: a [`Bucket`](crate::Bucket), a bound on what is [`InFlight`](crate::InFlight), a
@@ -88,7 +88,7 @@ enum Made {
 struct Handles {
     root: Mutex<Handle<LimitKind>>,
     idle: Mutex<Vec<Handle<LimitKind>>>,
-    looks: Slots<Handle<LimitKind>>,
+    looks: Shards<Handle<LimitKind>>,
     changes: Mutex<Changes>,
 }
 
@@ -278,10 +278,6 @@ impl CallLimit {
         }
     }
 
-    fn is(&self, other: &Self) -> bool {
-        Arc::ptr_eq(&self.shared, &other.shared)
-    }
-
     /// The limits that it asks, each of terms of its own.
     fn parts(&self) -> Vec<CallLimit> {
         match &self.shared.made {
@@ -295,15 +291,6 @@ impl CallLimit {
     fn moment(&self) -> u64 {
         match self.shared.reads.clock {
             true => moment_of(self.shared.began),
-            false => 0,
-        }
-    }
-
-    /// The present moment, where it reads that of a success: a throttle alone does, as it alone reads random words.
-    #[inline]
-    fn moment_of_success(&self) -> u64 {
-        match self.shared.reads.words {
-            true => self.moment(),
             false => 0,
         }
     }
@@ -345,8 +332,8 @@ fn moment_of(began: Moment) -> u64 {
 /// bucket than of another, and [`LimitError::NoMemory`].
 pub fn both(first: &CallLimit, second: &CallLimit) -> Result<CallLimit, LimitError> {
     let limits = [first.parts(), second.parts()].concat();
-    let is_known = |(place, limit): (usize, &CallLimit)| limits[..place].iter().any(|other| other.is(limit));
-    if limits.iter().enumerate().any(is_known) {
+    let is_one = |one: &CallLimit, other: &CallLimit| Arc::ptr_eq(&one.shared, &other.shared);
+    if (1..limits.len()).any(|place| limits[..place].iter().any(|one| is_one(one, &limits[place]))) {
         return Err(LimitError::SameLimit);
     }
     let mut buckets = limits.iter().filter(|limit| matches!(limit.shared.made, Made::Of(Terms::Bucket(_))));
@@ -402,7 +389,7 @@ impl Made {
 
 impl Handles {
     fn of(root: Handle<LimitKind>) -> Self {
-        Self { root: Mutex::new(root), idle: Mutex::default(), looks: Slots::default(), changes: Mutex::default() }
+        Self { root: Mutex::new(root), idle: Mutex::default(), looks: Shards::default(), changes: Mutex::default() }
     }
 
     /// A handle that looks, put here, unless there is no memory for one.
@@ -413,11 +400,33 @@ impl Handles {
     }
 }
 
-fn lock<T>(mutex: &Mutex<T>) -> MutexGuard<'_, T> {
-    mutex.lock().unwrap_or_else(PoisonError::into_inner)
-}
-
-/// One call under a [`CallLimit`], from its first run to its end. Dropped, it gives back what it holds.
+/// One call under a [`CallLimit`], from its first run to its end, for one that you retry by hand. Dropped, it gives
+/// back what it holds.
+///
+/// ```
+/// use hikebox::{Bucket, CallLimit};
+///
+/// let limit = CallLimit::new(Bucket::grpc(10, 0.1)?)?;
+/// let mut request = limit.request()?;
+/// request.admit()?;
+/// let mut answers = [Err("busy"), Ok("fetched")].into_iter();
+/// let answer = loop {
+///     match answers.next().expect("a run") {
+///         Ok(text) => {
+///             request.succeeded();
+///             break Ok(text);
+///         }
+///         Err(error) => {
+///             request.failed();
+///             if request.draw().is_err() {
+///                 break Err(error);
+///             }
+///         }
+///     }
+/// };
+/// assert_eq!(answer, Ok("fetched"));
+/// # Ok::<(), Box<dyn std::error::Error>>(())
+/// ```
 #[derive(Debug)]
 pub struct Request {
     limit: CallLimit,
@@ -498,7 +507,8 @@ impl Request {
 
     /// Tells that a run succeeded.
     pub fn succeeded(&mut self) {
-        let now = self.limit.moment_of_success();
+        // (a throttle alone heeds the moment of a success, as it alone reads random words)
+        let now = if self.limit.shared.reads.words { self.limit.moment() } else { 0 };
         self.handle().succeeded(now);
         self.limit.tell_changes();
     }

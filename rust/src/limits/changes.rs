@@ -1,9 +1,10 @@
 //! What a breaker was and what it is, told at each change.
 
 use crate::limits::seen::LimitState;
+use crate::system::lock;
 use std::collections::VecDeque;
 use std::mem;
-use std::sync::{Mutex, MutexGuard, PoisonError};
+use std::sync::Mutex;
 
 /// Whether a breaker is closed, open or half open.
 #[derive(Clone, Copy, Debug, Default, PartialEq, Eq, Hash)]
@@ -77,8 +78,4 @@ impl Drop for Panics<'_> {
     fn drop(&mut self) {
         lock(self.0).are_told = false;
     }
-}
-
-fn lock(changes: &Mutex<Changes>) -> MutexGuard<'_, Changes> {
-    changes.lock().unwrap_or_else(PoisonError::into_inner)
 }

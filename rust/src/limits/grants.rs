@@ -4,10 +4,11 @@ use crate::clock::Moment;
 use crate::engine::Status;
 #[cfg(feature = "leased")]
 use crate::leased::{Leased, LeasedQuota};
-use crate::limits::asked::{Asked, Quiet};
 use crate::limits::budget::Budget;
 use crate::limits::call_limit::{Admitted, CallLimit};
+use crate::limits::holding::{Holding, Quiet};
 use crate::limits::lender::{Begun, Lender};
+use crate::limits::per_key::{Counted, Keyed};
 use crate::limits::quota::Quota;
 use crate::limits::refused::Refused;
 use crate::limits::ticket::{NoTicket, Ticket};
@@ -66,21 +67,37 @@ impl Grants for Arc<dyn Tickets> {
     type Refusal = Infallible;
 }
 
-/// The limits that never refuse the first run.
-macro_rules! never_refuse {
+impl Grants for Unlimited {
+    type Refusal = Infallible;
+}
+
+impl Grants for AnyLimit {
+    type Refusal = Infallible;
+}
+
+/// The limits that never refuse the first run, of which an [`AnyLimit`] may be any.
+macro_rules! any_limit {
     ($($(#[$gate:meta])? $kind:ident),+) => {$(
         $(#[$gate])?
         impl Grants for $kind {
             type Refusal = Infallible;
         }
+
+        $(#[$gate])?
+        impl Keyed for $kind {}
+
+        $(#[$gate])?
+        impl From<$kind> for AnyLimit {
+            fn from(limit: $kind) -> Self {
+                Self::$kind(limit)
+            }
+        }
     )+};
 }
 
-never_refuse!(
+any_limit!(
     Budget,
     Quota,
-    Unlimited,
-    AnyLimit,
     #[cfg(feature = "leased")]
     Leased,
     #[cfg(feature = "leased")]
@@ -184,12 +201,14 @@ pub trait Tickets: Send + Sync {
 }
 
 mod sealed {
-    use super::{Admitted, Arc, Asked, Begun, CallLimit, Infallible, Lender, Moment, Policy, Quiet, Refused};
+    use super::{
+        Admitted, Arc, Begun, CallLimit, Counted, Holding, Infallible, Lender, Moment, Policy, Quiet, Refused,
+    };
     use super::{Source, Status, Ticket, Tickets};
     use std::error::Error;
 
     /// What a retry draws on, and by which clock.
-    pub trait Limit: Send + Sync + 'static {
+    pub trait Limit: Counted + Send + Sync + 'static {
         /// What a retry that has begun holds of it.
         fn source(&self) -> Source;
 
@@ -199,12 +218,17 @@ mod sealed {
         }
 
         /// The store that is asked for each retry, if it is one.
+        #[inline]
         fn store(&self) -> Option<&dyn Tickets> {
             None
         }
 
         /// A request is made, which a store counts. Whether it is counted at its moment, as by a quota.
+        #[inline]
         fn count_request(&self) -> bool {
+            if let Some(store) = self.store() {
+                store.deposit();
+            }
             false
         }
 
@@ -212,12 +236,17 @@ mod sealed {
         fn count_request_at(&self, _now: Moment) {}
 
         /// Whether it is told of successes.
+        #[inline]
         fn hears_of_successes(&self) -> bool {
-            false
+            self.store().is_some()
         }
 
         /// A request has succeeded, of a store with the ticket of its last retry: one that counts successes counts it.
-        fn count_success(&self, _last: Option<Ticket>, _clock: &dyn Fn() -> Moment) {}
+        fn count_success(&self, last: Option<Ticket>, _clock: &dyn Fn() -> Moment) {
+            if let Some(store) = self.store() {
+                store.succeeded(last);
+            }
+        }
 
         /// Moment 0 of a retry that began then, in milliseconds: of a quota it is the one on the quota's clock.
         fn origin(&self, _began: Moment) -> u64 {
@@ -296,12 +325,12 @@ mod sealed {
     }
 
     impl Admission for Refused {
-        type Held = Asked;
+        type Held = Holding;
 
         const HOLDS: bool = true;
 
         #[inline]
-        fn admit(limit: &dyn Limit, held: &mut Asked) -> Result<(), Self> {
+        fn admit(limit: &dyn Limit, held: &mut Holding) -> Result<(), Self> {
             match limit.call_limit() {
                 Some(limit) => held.ask(limit),
                 None => Ok(()),
@@ -378,17 +407,17 @@ impl Limit for Quota {
     }
 
     fn count_request_at(&self, now: Moment) {
-        if !self.counts_successes() {
+        if !self.counts_successes {
             self.deposit_by_clock(now);
         }
     }
 
     fn hears_of_successes(&self) -> bool {
-        self.counts_successes() || self.returns_tickets()
+        self.counts_successes || self.returns_tickets
     }
 
     fn count_success(&self, _last: Option<Ticket>, clock: &dyn Fn() -> Moment) {
-        if self.counts_successes() {
+        if self.counts_successes {
             self.deposit_by_clock(clock());
         }
     }
@@ -402,7 +431,7 @@ impl Limit for Quota {
     }
 
     fn end(&self, retry: &mut Begun, granted: u64, waits: bool, won: bool) {
-        match granted > 0 && (waits || (won && self.returns_tickets())) {
+        match granted > 0 && (waits || (won && self.returns_tickets)) {
             true => self.lock().end_returning(retry, granted),
             false => self.lock().end(retry, granted),
         }
@@ -420,39 +449,28 @@ impl Limit for CallLimit {
     }
 }
 
-/// How a store of one's own is used, behind an `Arc` of it or of any store.
-macro_rules! store {
-    ([$($of:tt)*] $store:ty) => {
-        impl<$($of)*> Limit for Arc<$store> {
-            fn source(&self) -> Source {
-                Source::Store(self.clone())
-            }
+impl<S: Tickets + 'static> Limit for Arc<S> {
+    fn source(&self) -> Source {
+        Source::Store(self.clone())
+    }
 
-            fn store(&self) -> Option<&dyn Tickets> {
-                Some(&**self)
-            }
-
-            fn count_request(&self) -> bool {
-                self.deposit();
-                false
-            }
-
-            fn hears_of_successes(&self) -> bool {
-                true
-            }
-
-            fn count_success(&self, last: Option<Ticket>, _clock: &dyn Fn() -> Moment) {
-                self.succeeded(last);
-            }
-        }
-    };
+    fn store(&self) -> Option<&dyn Tickets> {
+        Some(&**self)
+    }
 }
 
-store!([S: Tickets + 'static] S);
-store!([] dyn Tickets);
+impl Limit for Arc<dyn Tickets> {
+    fn source(&self) -> Source {
+        Source::Store(self.clone())
+    }
+
+    fn store(&self) -> Option<&dyn Tickets> {
+        Some(&**self)
+    }
+}
 
 impl AnyLimit {
-    fn get(&self) -> &dyn Limit {
+    pub(super) fn get(&self) -> &dyn Limit {
         match self {
             Self::Unlimited => &Unlimited,
             Self::Budget(budget) => budget,
@@ -502,27 +520,6 @@ impl Limit for AnyLimit {
         self.get().end(retry, granted, waits, won);
     }
 }
-
-/// The variant of each kind.
-macro_rules! any_limit {
-    ($($(#[$gate:meta])? $kind:ident),+) => {$(
-        $(#[$gate])?
-        impl From<$kind> for AnyLimit {
-            fn from(limit: $kind) -> Self {
-                Self::$kind(limit)
-            }
-        }
-    )+};
-}
-
-any_limit!(
-    Budget,
-    Quota,
-    #[cfg(feature = "leased")]
-    Leased,
-    #[cfg(feature = "leased")]
-    LeasedQuota
-);
 
 impl From<Unlimited> for AnyLimit {
     fn from(_: Unlimited) -> Self {

@@ -1,22 +1,20 @@
 //! Limits: what retries draw their tickets on.
 
-pub(crate) mod asked;
 pub(crate) mod budget;
 pub(crate) mod call_limit;
 mod changes;
-mod counters;
 pub(crate) mod error;
 pub(crate) mod grants;
+pub(crate) mod holding;
 pub(crate) mod lender;
 pub(crate) mod part;
 pub(crate) mod per_key;
 pub(crate) mod quota;
 pub(crate) mod refused;
 mod seen;
-mod slots;
+mod shards;
 pub(crate) mod terms;
 pub(crate) mod ticket;
-pub(crate) mod uses;
 
 pub use budget::{Budget, Pass};
 pub use call_limit::{both, CallLimit, Request};

@@ -1,9 +1,38 @@
-//! Passes that are split off a limit's first one.
+//! The passes of a budget or a quota: the first one, and those that are split off it.
 
 use crate::engine::{Handle, PassKind, Status};
 use crate::limits::error::LimitError;
+use crate::limits::lender::Lender;
+use crate::limits::shards::Shards;
 use crate::limits::ticket::Drawer;
-use crate::system::generation;
+use crate::system::{generation, lock};
+use std::sync::{Mutex, MutexGuard, PoisonError};
+
+/// The passes of a budget or a quota in one process.
+pub(crate) struct Passes<T> {
+    /// The first one, which others are split off and joined into.
+    root: Mutex<Lender>,
+    /// What threads have of it, each for some of them.
+    pub(crate) own: Shards<T>,
+}
+
+impl<T> Passes<T> {
+    pub(crate) fn of(root: Handle<PassKind>) -> Self {
+        Self { root: Mutex::new(Lender::of(root)), own: Shards::default() }
+    }
+
+    #[inline]
+    pub(crate) fn root(&self) -> MutexGuard<'_, Lender> {
+        lock(&self.root)
+    }
+
+    /// The first one, with all that threads have.
+    pub(crate) fn joined(self, pass_of: impl Fn(T) -> Handle<PassKind>) -> Handle<PassKind> {
+        let mut root = self.root.into_inner().unwrap_or_else(PoisonError::into_inner).into_pass();
+        self.own.into_values().for_each(|own| root.join(pass_of(own)));
+        root
+    }
+}
 
 /// A limit that has a first pass, which others are split off and joined into.
 pub(crate) trait Root {

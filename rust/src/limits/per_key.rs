@@ -1,19 +1,15 @@
 //! A limit for each key.
 
-#[cfg(feature = "leased")]
-use crate::leased::{Leased, LeasedQuota};
-use crate::limits::budget::Budget;
 use crate::limits::call_limit::CallLimit;
 use crate::limits::error::LimitError;
-use crate::limits::grants::{AnyLimit, Tickets};
-use crate::limits::quota::Quota;
+use crate::limits::grants::{AnyLimit, Tickets, Unlimited};
 use crate::paces::Pace;
-use crate::system::PerProcess;
+use crate::system::{lock, PerProcess};
 use std::borrow::Borrow;
 use std::collections::HashMap;
 use std::fmt;
 use std::hash::Hash;
-use std::sync::{Arc, Mutex, MutexGuard, PoisonError};
+use std::sync::{Arc, Mutex, MutexGuard};
 
 /// A limit for each key, such as a host, a tenant or an item. [`of`](PerKey::of) makes the limit of a key at first, and
 /// returns the same one from then on, in all threads.
@@ -32,7 +28,7 @@ use std::sync::{Arc, Mutex, MutexGuard, PoisonError};
 /// # Ok::<(), Box<dyn std::error::Error>>(())
 /// ```
 ///
-/// It keeps 10,000 limits; [`keeping`](PerKey::keeping) says how many. When there are more, those go that were asked for
+/// It keeps 10,000 limits; [`keeping`](PerKey::keeping) says how many. When there are more, those go that were used
 /// least recently, an eighth of them at once. A limit that is in use stays: while somebody has a clone of it, as a call
 /// has that is under way. A forked child begins with none.
 pub struct PerKey<K, L> {
@@ -43,8 +39,9 @@ pub struct PerKey<K, L> {
 
 type Make<K, L> = dyn Fn(&K) -> Result<L, LimitError> + Send + Sync;
 
-/// What a [`PerKey`] keeps: a [`Budget`], a [`Quota`], a [`CallLimit`], an [`AnyLimit`], an `Arc` of your own store of
-/// [`Tickets`], or a [`Pace`]; with the feature `leased` also `Leased` and `LeasedQuota`. The trait is sealed.
+/// What a [`PerKey`] keeps: a [`Budget`](crate::Budget), a [`Quota`](crate::Quota), a [`CallLimit`], an [`AnyLimit`],
+/// an `Arc` of your own store of [`Tickets`], or a [`Pace`]; with the feature `leased` also `Leased` and `LeasedQuota`.
+/// The trait is sealed.
 pub trait Keyed: Counted + Clone + Send + Sync {}
 
 mod sealed {
@@ -57,25 +54,9 @@ mod sealed {
 
 pub(crate) use sealed::Counted;
 
-macro_rules! keyed {
-    ($($(#[$gate:meta])? $kind:ident),+) => {$(
-        $(#[$gate])?
-        impl Keyed for $kind {}
-    )+};
-}
-
-keyed!(
-    Budget,
-    Quota,
-    CallLimit,
-    AnyLimit,
-    Pace,
-    #[cfg(feature = "leased")]
-    Leased,
-    #[cfg(feature = "leased")]
-    LeasedQuota
-);
-
+impl Keyed for CallLimit {}
+impl Keyed for AnyLimit {}
+impl Keyed for Pace {}
 impl<S: Tickets + ?Sized> Keyed for Arc<S> {}
 
 impl<S: ?Sized> Counted for Arc<S> {
@@ -86,15 +67,13 @@ impl<S: ?Sized> Counted for Arc<S> {
 
 impl Counted for AnyLimit {
     fn clones(&self) -> usize {
-        match self {
-            Self::Unlimited => 1,
-            Self::Budget(budget) => budget.clones(),
-            Self::Quota(quota) => quota.clones(),
-            #[cfg(feature = "leased")]
-            Self::Leased(leased) => leased.clones(),
-            #[cfg(feature = "leased")]
-            Self::LeasedQuota(quota) => quota.clones(),
-        }
+        self.get().clones()
+    }
+}
+
+impl Counted for Unlimited {
+    fn clones(&self) -> usize {
+        1
     }
 }
 
@@ -103,16 +82,16 @@ const MOST: usize = 10_000;
 
 struct Kept<K, L> {
     limits: HashMap<K, One<L>>,
-    /// How often a limit was asked for.
-    asked: u64,
+    /// How often a limit was used.
+    uses: u64,
     /// How many limits there are when some have to go.
     full: usize,
 }
 
 struct One<L> {
     limit: L,
-    /// When it was asked for.
-    asked: u64,
+    /// The count of uses when it was used last.
+    last_use: u64,
 }
 
 impl<K: Eq + Hash, L: Keyed> PerKey<K, L> {
@@ -174,19 +153,19 @@ impl<K: Eq + Hash, L: Keyed> PerKey<K, L> {
 
 impl<K, L> PerKey<K, L> {
     fn kept(&self) -> MutexGuard<'_, Kept<K, L>> {
-        self.kept.get(Mutex::default).lock().unwrap_or_else(PoisonError::into_inner)
+        lock(self.kept.get(Mutex::default))
     }
 }
 
 impl<K: Eq + Hash, L: Keyed> Kept<K, L> {
-    /// The limit of a key, which is asked for.
+    /// The limit of a key, which is used.
     fn found<Q: Eq + Hash + ?Sized>(&mut self, key: &Q) -> Option<L>
     where
         K: Borrow<Q>,
     {
         let one = self.limits.get_mut(key)?;
-        self.asked += 1;
-        one.asked = self.asked;
+        self.uses += 1;
+        one.last_use = self.uses;
         Some(one.limit.clone())
     }
 
@@ -198,19 +177,19 @@ impl<K: Eq + Hash, L: Keyed> Kept<K, L> {
         if self.limits.len() >= self.full.max(most) {
             self.make_room(most);
         }
-        self.asked += 1;
-        self.limits.insert(key, One { limit: limit.clone(), asked: self.asked });
+        self.uses += 1;
+        self.limits.insert(key, One { limit: limit.clone(), last_use: self.uses });
         limit
     }
 
-    /// Lets those go that were asked for least recently, of those that are not in use: what is above the most, with one
+    /// Lets those go that were used least recently, of those that are not in use now: what is above the most, with one
     /// more, or an eighth of the most.
     fn make_room(&mut self, most: usize) {
-        let mut asked: Vec<u64> = self.limits.values().filter(|one| !one.is_in_use()).map(|one| one.asked).collect();
-        asked.sort_unstable();
+        let mut uses: Vec<u64> = self.limits.values().filter(|one| !one.is_in_use()).map(|one| one.last_use).collect();
+        uses.sort_unstable();
         let going = (self.limits.len() + 1 - most).max(most / 8);
-        if let Some(last) = asked.get(going - 1).or(asked.last()).copied() {
-            self.limits.retain(|_, one| one.asked > last || one.is_in_use());
+        if let Some(last) = uses.get(going - 1).or(uses.last()).copied() {
+            self.limits.retain(|_, one| one.last_use > last || one.is_in_use());
         }
         // (where most are in use it looks again when there are an eighth more)
         let left = self.limits.len();
@@ -227,7 +206,7 @@ impl<L: Keyed> One<L> {
 
 impl<K, L> Default for Kept<K, L> {
     fn default() -> Self {
-        Self { limits: HashMap::new(), asked: 0, full: 0 }
+        Self { limits: HashMap::new(), uses: 0, full: 0 }
     }
 }
 

@@ -2,19 +2,18 @@
 
 use crate::clock::{whole_millis, Moment};
 #[cfg(feature = "leased")]
-use crate::engine::{quota_allows, MAX_NUMBER, MAX_TICKETS};
+use crate::engine::quota_allows;
 use crate::engine::{Handle, PassKind, Status, Used};
-use crate::limits::counters::{Counter, Counters};
 use crate::limits::error::LimitError;
 use crate::limits::lender::Lender;
-use crate::limits::part::{Part, Root};
+use crate::limits::part::{Part, Passes, Root};
 use crate::limits::per_key::Counted;
+use crate::limits::terms::thousandths;
 use crate::limits::ticket::{NoTicket, Ticket};
-use crate::limits::uses::{options_of_uses, Uses};
 use crate::system::PerProcess;
 use std::fmt;
 use std::sync::atomic::{AtomicU64, Ordering};
-use std::sync::{Arc, Mutex, MutexGuard, PoisonError};
+use std::sync::{Arc, MutexGuard};
 use std::time::{Duration, Instant};
 
 /// A limit for a service, shared by all threads of a program. In each window of time it grants at most a reserve of
@@ -44,12 +43,13 @@ use std::time::{Duration, Instant};
 #[derive(Clone)]
 pub struct Quota {
     shared: Arc<Shared>,
-    uses: Uses,
+    pub(super) counts_successes: bool,
+    pub(super) returns_tickets: bool,
 }
 
 struct Shared {
     made: Made,
-    passes: PerProcess<Passes>,
+    passes: PerProcess<Passes<Counter>>,
 }
 
 /// What a quota is made with, and so is another one in each forked child.
@@ -69,11 +69,13 @@ struct Made {
 #[derive(Debug)]
 pub(crate) struct AtomicTerms(AtomicU64);
 
-struct Passes {
-    /// The first pass, which others are split off.
-    root: Mutex<Lender>,
-    /// Those by which threads count their requests.
-    counters: Counters,
+/// A pass by which threads count requests, and the window of the one counted last, by the system's clock: so a request
+/// is counted without reckoning its moment. One before the window is counted in the quota's latest, as one in it is.
+struct Counter {
+    pass: Handle<PassKind>,
+    /// The first moment of the window, in milliseconds.
+    first: u64,
+    ends: Moment,
 }
 
 /// The right to count requests and to draw tickets of a [`Quota`], for one thread at a time. Its calls take no lock and
@@ -122,7 +124,7 @@ pub struct Usage {
 
 /// What a quota is made with, in the engine's units: tickets, thousandths of a ticket, milliseconds.
 #[derive(Clone, Copy, Debug)]
-pub(crate) struct Terms {
+pub(crate) struct QuotaTerms {
     pub(crate) reserve: u64,
     pub(crate) share: u64,
     pub(crate) period: u64,
@@ -137,7 +139,7 @@ impl Quota {
     ///
     /// [`LimitError`] says which argument is out of its range.
     pub fn new(reserve: u64, share: f64, per: Duration) -> Result<Self, LimitError> {
-        Self::made(Duration::ZERO, Moment::now(), Terms::new(reserve, share, per)?, false)
+        Self::made(Duration::ZERO, Moment::now(), QuotaTerms::new(reserve, share, per)?, false)
     }
 
     /// [`Quota::new`] with windows that are counted from `began`, for instance a moment of a clock that a test has
@@ -147,7 +149,7 @@ impl Quota {
     ///
     /// [`LimitError`] says which argument is out of its range.
     pub fn new_at(began: Instant, reserve: u64, share: f64, per: Duration) -> Result<Self, LimitError> {
-        Self::made(Duration::ZERO, Moment::of(began), Terms::new(reserve, share, per)?, false)
+        Self::made(Duration::ZERO, Moment::of(began), QuotaTerms::new(reserve, share, per)?, false)
     }
 
     /// [`Quota::new`] for a host with a clock of its own that now reads `moment`. Windows are counted from the one in
@@ -160,7 +162,7 @@ impl Quota {
     ///
     /// [`LimitError`] says which argument is out of its range.
     pub fn new_of_host(moment: Duration, reserve: u64, share: f64, per: Duration) -> Result<Self, LimitError> {
-        Self::made(moment, Moment::now().before(moment), Terms::new(reserve, share, per)?, false)
+        Self::made(moment, Moment::now().before(moment), QuotaTerms::new(reserve, share, per)?, false)
     }
 
     /// [`Quota::new`], but the quota carries: each window can also draw, once, what the window before left of its
@@ -184,7 +186,7 @@ impl Quota {
     ///
     /// [`LimitError`] says which argument is out of its range.
     pub fn carrying(reserve: u64, share: f64, per: Duration) -> Result<Self, LimitError> {
-        Self::made(Duration::ZERO, Moment::now(), Terms::new(reserve, share, per)?, true)
+        Self::made(Duration::ZERO, Moment::now(), QuotaTerms::new(reserve, share, per)?, true)
     }
 
     /// [`Quota::carrying`] with windows that are counted from `began`, as by [`Quota::new_at`].
@@ -193,7 +195,7 @@ impl Quota {
     ///
     /// [`LimitError`] says which argument is out of its range.
     pub fn carrying_at(began: Instant, reserve: u64, share: f64, per: Duration) -> Result<Self, LimitError> {
-        Self::made(Duration::ZERO, Moment::of(began), Terms::new(reserve, share, per)?, true)
+        Self::made(Duration::ZERO, Moment::of(began), QuotaTerms::new(reserve, share, per)?, true)
     }
 
     /// [`Quota::carrying`] for a host with a clock of its own that now reads `moment`, as by [`Quota::new_of_host`].
@@ -202,11 +204,11 @@ impl Quota {
     ///
     /// [`LimitError`] says which argument is out of its range.
     pub fn carrying_of_host(moment: Duration, reserve: u64, share: f64, per: Duration) -> Result<Self, LimitError> {
-        Self::made(moment, Moment::now().before(moment), Terms::new(reserve, share, per)?, true)
+        Self::made(moment, Moment::now().before(moment), QuotaTerms::new(reserve, share, per)?, true)
     }
 
-    fn made(moment: Duration, began: Moment, terms: Terms, carries: bool) -> Result<Self, LimitError> {
-        let Terms { reserve, share, period } = terms;
+    fn made(moment: Duration, began: Moment, terms: QuotaTerms, carries: bool) -> Result<Self, LimitError> {
+        let QuotaTerms { reserve, share, period } = terms;
         let terms = AtomicTerms::new(reserve, share);
         let made = Made { terms, carries, period, began, from: whole_millis(moment) };
         let root = made.root(reserve, share).map_err(LimitError::of)?;
@@ -214,56 +216,58 @@ impl Quota {
     }
 
     fn of(root: Handle<PassKind>, made: Made) -> Self {
-        Self { shared: Arc::new(Shared { made, passes: PerProcess::new(Passes::of(root)) }), uses: Uses::default() }
+        Self {
+            shared: Arc::new(Shared { made, passes: PerProcess::new(Passes::of(root)) }),
+            counts_successes: false,
+            returns_tickets: false,
+        }
     }
 
-    options_of_uses! {
-        /// Makes a call count as a request when it succeeds, and not before its first run. A service that keeps failing
-        /// then drains the quota down to its reserve. Requests that you count by hand are counted in any case.
-        ///
-        /// ```
-        /// use hikebox::{retry, Policy, Quota, RetryError};
-        /// use std::time::Duration;
-        ///
-        /// let quota = Quota::new(0, 0.5, Duration::from_secs(3600))?.counting_successes();
-        /// let policy: Policy = r#"{"recurs":3}"#.parse()?;
-        /// assert_eq!(retry(&policy, &quota, || Err::<(), _>("gone")), Err(RetryError::LimitRefused("gone")));
-        /// assert_eq!(quota.seen().asked, 0);
-        /// for _ in 0..2 {
-        ///     assert_eq!(retry(&policy, &quota, || Ok::<_, ()>(5)), Ok(5));
-        /// }
-        /// assert_eq!(quota.seen().left, 1);
-        /// # Ok::<(), Box<dyn std::error::Error>>(())
-        /// ```
-        counting_successes,
-
-        /// Makes a call that succeeds after retries hand the ticket of its last retry back, as AWS's SDKs do. Failures
-        /// that a retry repairs then take less of the quota than failures that last.
-        ///
-        /// ```
-        /// use hikebox::{retry, Policy, Quota};
-        /// use std::time::Duration;
-        ///
-        /// let quota = Quota::new(2, 0.0, Duration::from_secs(3600))?.returning_tickets();
-        /// let policy: Policy = r#"{"recurs":3}"#.parse()?;
-        /// let mut runs = 0;
-        /// let answer = retry(&policy, &quota, || {
-        ///     runs += 1;
-        ///     if runs < 3 { Err("not yet") } else { Ok(runs) }
-        /// });
-        /// assert_eq!(answer, Ok(3));
-        /// assert_eq!((quota.granted(), quota.seen().left), (1, 1));
-        /// # Ok::<(), Box<dyn std::error::Error>>(())
-        /// ```
-        returning_tickets
+    /// Makes a call count as a request when it succeeds, and not before its first run. A service that keeps failing
+    /// then drains the quota down to its reserve. Requests that you count by hand are counted in any case.
+    ///
+    /// ```
+    /// use hikebox::{retry, Policy, Quota, RetryError};
+    /// use std::time::Duration;
+    ///
+    /// let quota = Quota::new(0, 0.5, Duration::from_secs(3600))?.counting_successes();
+    /// let policy: Policy = r#"{"recurs":3}"#.parse()?;
+    /// assert_eq!(retry(&policy, &quota, || Err::<(), _>("gone")), Err(RetryError::LimitRefused("gone")));
+    /// assert_eq!(quota.seen().asked, 0);
+    /// for _ in 0..2 {
+    ///     assert_eq!(retry(&policy, &quota, || Ok::<_, ()>(5)), Ok(5));
+    /// }
+    /// assert_eq!(quota.seen().left, 1);
+    /// # Ok::<(), Box<dyn std::error::Error>>(())
+    /// ```
+    #[must_use]
+    pub fn counting_successes(mut self) -> Self {
+        self.counts_successes = true;
+        self
     }
 
-    pub(crate) fn counts_successes(&self) -> bool {
-        self.uses.counts_successes
-    }
-
-    pub(crate) fn returns_tickets(&self) -> bool {
-        self.uses.returns_tickets
+    /// Makes a call that succeeds after retries hand the ticket of its last retry back, as AWS's SDKs do. Failures
+    /// that a retry repairs then take less of the quota than failures that last.
+    ///
+    /// ```
+    /// use hikebox::{retry, Policy, Quota};
+    /// use std::time::Duration;
+    ///
+    /// let quota = Quota::new(2, 0.0, Duration::from_secs(3600))?.returning_tickets();
+    /// let policy: Policy = r#"{"recurs":3}"#.parse()?;
+    /// let mut runs = 0;
+    /// let answer = retry(&policy, &quota, || {
+    ///     runs += 1;
+    ///     if runs < 3 { Err("not yet") } else { Ok(runs) }
+    /// });
+    /// assert_eq!(answer, Ok(3));
+    /// assert_eq!((quota.granted(), quota.seen().left), (1, 1));
+    /// # Ok::<(), Box<dyn std::error::Error>>(())
+    /// ```
+    #[must_use]
+    pub fn returning_tickets(mut self) -> Self {
+        self.returns_tickets = true;
+        self
     }
 
     /// Sets the reserve and the share, as [`Quota::new`] takes them, while the quota is used: for instance when a
@@ -274,7 +278,7 @@ impl Quota {
     ///
     /// [`LimitError`] says which argument is out of its range; then nothing changes.
     pub fn set_terms(&self, reserve: u64, share: f64) -> Result<(), LimitError> {
-        let share = thousandths(share)?;
+        let share = share_of(share)?;
         let mut root = self.lock();
         root.pass.set_terms(reserve, share).map_err(LimitError::of)?;
         self.shared.made.terms.set(reserve, share);
@@ -314,7 +318,8 @@ impl Quota {
     /// Counts a request at this instant.
     #[inline]
     pub(crate) fn deposit_by_clock(&self, now: Moment) {
-        if !self.passes().counters.count_one(now) {
+        let count = |own: &mut Option<Counter>| own.as_mut().map_or(false, |counter| counter.count(now, 1));
+        if self.passes().own.own(count) != Some(true) {
             self.count(now, 1);
         }
     }
@@ -325,7 +330,7 @@ impl Quota {
     fn count(&self, now: Moment, requests: u32) {
         let Made { began, period, .. } = self.shared.made;
         let first = self.millis_at(now) / period * period;
-        let counted = self.passes().counters.own(|counter| {
+        let counted = self.passes().own.own(|counter| {
             let ends = began.after(Duration::from_millis(first.saturating_add(period)));
             *counter = match counter.take() {
                 Some(counter) => Some(Counter { first, ends, ..counter }),
@@ -375,25 +380,23 @@ impl Quota {
     ///
     /// The quota itself, if something of it is alive.
     pub fn close(self) -> Result<u64, Self> {
-        let Self { shared, uses } = self;
-        let Shared { made, passes } = Arc::try_unwrap(shared).map_err(|shared| Self { shared, uses })?;
-        let Passes { root, counters } = match passes.into_inner() {
-            Some(passes) => passes,
+        let Self { shared, counts_successes, returns_tickets } = self;
+        let again = |shared| Self { shared, counts_successes, returns_tickets };
+        let Shared { made, passes } = Arc::try_unwrap(shared).map_err(again)?;
+        let mut root = match passes.into_inner() {
+            Some(passes) => passes.joined(|counter| counter.pass),
             // (in a forked child that drew none)
             None => return Ok(0),
         };
-        let mut root = root.into_inner().unwrap_or_else(PoisonError::into_inner).into_pass();
-        counters.into_passes().for_each(|pass| root.join(pass));
-        root.close().map_err(|_| Self { uses, ..Self::of(root, made) })
+        root.close().map_err(|_| again(Self::of(root, made).shared))
     }
 
     pub(crate) fn lock(&self) -> MutexGuard<'_, Lender> {
-        self.passes().root.lock().unwrap_or_else(PoisonError::into_inner)
+        self.passes().root()
     }
 
-    /// The passes of this process.
     #[inline]
-    fn passes(&self) -> &Passes {
+    fn passes(&self) -> &Passes<Counter> {
         self.shared.passes.get(|| self.shared.made.anew())
     }
 }
@@ -416,15 +419,18 @@ impl Made {
     }
 
     /// The passes of a forked child.
-    fn anew(&self) -> Passes {
+    fn anew(&self) -> Passes<Counter> {
         let (reserve, share) = self.terms.get();
         Passes::of(self.root(reserve, share).expect("memory for a quota"))
     }
 }
 
-impl Passes {
-    fn of(root: Handle<PassKind>) -> Self {
-        Self { root: Mutex::new(Lender::of(root)), counters: Counters::default() }
+impl Counter {
+    /// Counts so many requests at this instant, where its window is not over and its pass counts so many at once, and
+    /// says whether it did.
+    #[inline]
+    fn count(&mut self, now: Moment, requests: u32) -> bool {
+        now < self.ends && self.pass.deposit(self.first, requests)
     }
 }
 
@@ -559,45 +565,30 @@ fn usage(used: Used) -> Usage {
     Usage { window, asked, given, left, next: Duration::from_millis(next) }
 }
 
-/// The shortest window, in milliseconds.
-#[cfg(feature = "leased")]
-const MIN_PERIOD: u64 = 100;
-
 /// The greatest share, in thousandths of a ticket: 20.0 is 20 per cent by mistake.
-const MAX_SHARE: f64 = 10_000.0;
+const MAX_SHARE: u64 = 10_000;
 
-impl Terms {
-    /// The terms in the engine's units, where they have such; what else they have to keep to, the engine says.
+impl QuotaTerms {
+    /// The terms in the engine's units, where they have such.
     pub(crate) fn new(reserve: u64, share: f64, per: Duration) -> Result<Self, LimitError> {
         let period = u64::try_from(per.as_millis()).unwrap_or(u64::MAX);
-        Ok(Self { reserve, share: thousandths(share)?, period })
+        Ok(Self { reserve, share: share_of(share)?, period })
+    }
+
+    /// The same, where the engine takes them.
+    pub(crate) fn checked(self) -> Result<Self, LimitError> {
+        let made = Handle::quota(0, self.reserve, self.share, self.period, false);
+        made.map(|_| self).map_err(LimitError::of)
+    }
+
+    /// How many tickets a window of so many requests gives.
+    #[cfg(feature = "leased")]
+    pub(crate) fn allowed(self, requests: u64) -> u64 {
+        quota_allows(self.reserve, self.share, requests)
     }
 }
 
 /// Thousandths of a ticket, of a share that is such a number.
-pub(crate) fn thousandths(share: f64) -> Result<u64, LimitError> {
-    let thousandths = (share * 1000.0).round();
-    if !(0.0..=MAX_SHARE).contains(&thousandths) || share < 0.0 || (share > 0.0 && thousandths == 0.0) {
-        return Err(LimitError::ShareOutOfRange);
-    }
-    Ok(thousandths as u64)
-}
-
-#[cfg(feature = "leased")]
-impl Terms {
-    /// The same where the engine takes them, for a quota that is kept elsewhere.
-    pub(crate) fn checked(self) -> Result<Self, LimitError> {
-        let Self { reserve, period, .. } = self;
-        match self {
-            _ if reserve > MAX_TICKETS => Err(LimitError::ReserveTooLarge),
-            _ if period < MIN_PERIOD => Err(LimitError::PeriodTooShort),
-            _ if period > MAX_NUMBER => Err(LimitError::PeriodTooLong),
-            terms => Ok(terms),
-        }
-    }
-
-    /// How many tickets a window of so many requests gives.
-    pub(crate) fn allowed(self, asked: u64) -> u64 {
-        quota_allows(self.reserve, self.share, asked)
-    }
+pub(crate) fn share_of(share: f64) -> Result<u64, LimitError> {
+    thousandths(share).filter(|share| *share <= MAX_SHARE).ok_or(LimitError::ShareOutOfRange)
 }

@@ -27,7 +27,15 @@ pub enum Terms {
 }
 
 /// A bucket of tokens, which are counted in thousandths: a number above 0 is at least one of them. It is full at first.
-#[derive(Clone, Copy, Debug, Default, PartialEq)]
+///
+/// ```
+/// use hikebox::{Bucket, CallLimit};
+///
+/// // A retry takes one of ten tokens, and a success gives a tenth of one.
+/// let limit = CallLimit::new(Bucket { capacity: 10.0, credit: 0.1, ..Bucket::default() })?;
+/// # Ok::<(), hikebox::LimitError>(())
+/// ```
+#[derive(Clone, Copy, Debug, PartialEq)]
 pub struct Bucket {
     /// The tokens of a full bucket.
     pub capacity: f64,
@@ -37,7 +45,7 @@ pub struct Bucket {
     pub debit: f64,
     /// The tokens that a success gives.
     pub credit: f64,
-    /// The tokens that a retry takes: at most the capacity.
+    /// The tokens that a retry takes: at most the capacity, and 1 by default.
     pub cost: f64,
     /// Whether a success gives back what the call's last retry took, in the place of the credit.
     pub refund: bool,
@@ -84,9 +92,9 @@ pub struct Throttle {
     pub period: Duration,
 }
 
-/// A bound on the calls under way at once, which finds by itself how many its peer bears: each success at the bound
-/// raises it, by about one for each round of calls, and each failure lowers it to a share of what it was. It grants each
-/// retry, which is a part of its call.
+/// A bound on the calls under way at once, which finds by itself how many its peer bears: each success while at least
+/// half of it is in use raises it, by about one for each round of calls, and each failure lowers it to a share of what
+/// it was. It grants each retry, which is a part of its call.
 #[derive(Clone, Copy, Debug, PartialEq)]
 pub struct Adaptive {
     /// The bound is never lower: 1 or more.
@@ -97,6 +105,13 @@ pub struct Adaptive {
     pub first: u16,
     /// What a failure leaves of it, from 0.001 to 0.999. It is counted in thousandths.
     pub backoff: f64,
+}
+
+impl Default for Bucket {
+    /// A retry takes one token, and all else is 0: give it a capacity.
+    fn default() -> Self {
+        Self { capacity: 0.0, floor: 0.0, debit: 0.0, credit: 0.0, cost: 1.0, refund: false }
+    }
 }
 
 impl Bucket {
@@ -126,21 +141,18 @@ impl Bucket {
         Self { capacity: 500.0, floor: 0.0, debit: 0.0, credit: 1.0, cost: 5.0, refund: true }
     }
 
-    fn made(&self) -> Result<Handle<LimitKind>, LimitError> {
-        let BucketNumbers { capacity, floor, debit, credit, .. } = self.numbers()?;
-        Handle::bucket(BucketTerms { size: 0, capacity, floor, debit, credit, refund: self.refund }).map_err(fault)
-    }
-
-    /// Its numbers in thousandths.
-    fn numbers(&self) -> Result<BucketNumbers, LimitError> {
+    /// Its numbers in thousandths, and what a retry takes.
+    fn checked(&self) -> Result<(BucketTerms, u64), LimitError> {
         let capacity = within(thousandths(self.capacity), MAX_CAPACITY, "capacity", CAPACITY)?;
-        Ok(BucketNumbers {
+        let terms = BucketTerms {
+            size: 0,
             capacity,
             floor: tokens(self.floor, capacity, "floor")?,
             debit: tokens(self.debit, capacity, "debit")?,
             credit: tokens(self.credit, capacity, "credit")?,
-            cost: tokens(self.cost, capacity, "cost")?,
-        })
+            refund: self.refund,
+        };
+        Ok((terms, tokens(self.cost, capacity, "cost")?))
     }
 }
 
@@ -163,21 +175,14 @@ impl InFlight {
         Self { least: most, share: 0.0, most: Some(most) }
     }
 
-    fn made(&self) -> Result<Handle<LimitKind>, LimitError> {
-        Handle::in_flight(self.least, self.thousandths()? as u32, self.bound()?).map_err(fault)
-    }
-
-    /// The most calls, as the engine has them.
-    fn bound(&self) -> Result<u32, LimitError> {
+    /// Its share in thousandths, and the most calls, as the engine has them.
+    fn checked(&self) -> Result<(u64, u32), LimitError> {
+        let share = thousandths(self.share).filter(|_| self.share <= 1.0);
+        let share = within(share, 1000, "share", "0, or from 0.001 to 1")?;
         match self.most {
             Some(0) => Err(out_of_range("most", "1 to 4294967295")),
-            most => Ok(most.unwrap_or(NO_MOST)),
+            most => Ok((share, most.unwrap_or(NO_MOST))),
         }
-    }
-
-    /// Its share in thousandths.
-    fn thousandths(&self) -> Result<u64, LimitError> {
-        within(thousandths(self.share).filter(|_| self.share <= 1.0), 1000, "share", "0, or from 0.001 to 1")
     }
 }
 
@@ -207,26 +212,22 @@ impl Breaker {
         }
     }
 
-    fn made(&self, now: u64) -> Result<Handle<LimitKind>, LimitError> {
+    /// Its numbers, and its open times.
+    fn checked(&self) -> Result<(BreakerTerms, Vec<u64>), LimitError> {
         if self.failures == 0 {
             return Err(out_of_range("failures", "1 to 4294967295"));
         }
         if !(1..=MAX_PROBES).contains(&self.probes) {
             return Err(out_of_range("probes", "1 to 15"));
         }
-        let (times, results) = (self.times()?, self.window()?);
-        let deadline = whole_millis(self.probe_deadline);
+        let results = match self.results {
+            None => 0,
+            Some(results) if results <= MAX_RESULTS && self.failures <= results.into() => results.into(),
+            Some(_) => return Err(out_of_range("results", "from the failures to 32")),
+        };
         let (failures, probes) = (self.failures.into(), self.probes.into());
-        Handle::breaker(now, BreakerTerms { size: 0, failures, probes, deadline, results }, &times).map_err(fault)
-    }
-
-    /// How many results count, as the engine has it: 0 for failures in a row.
-    fn window(&self) -> Result<u64, LimitError> {
-        match self.results {
-            None => Ok(0),
-            Some(results) if results <= MAX_RESULTS && self.failures <= results.into() => Ok(results.into()),
-            Some(_) => Err(out_of_range("results", "from the failures to 32")),
-        }
+        let terms = BreakerTerms { size: 0, failures, probes, deadline: whole_millis(self.probe_deadline), results };
+        Ok((terms, self.times()?))
     }
 }
 
@@ -237,18 +238,14 @@ impl Throttle {
         Self { ratio: 2.0, period: Duration::from_secs(60) }
     }
 
-    fn made(&self, now: u64) -> Result<Handle<LimitKind>, LimitError> {
-        let (ratio, period) = (self.thousandths()?, whole_millis(self.period));
-        if period == 0 {
-            return Err(out_of_range("period", "at least a millisecond"));
-        }
-        Handle::throttle(now, ratio as u32, period).map_err(fault)
-    }
-
-    /// Its ratio in thousandths.
-    fn thousandths(&self) -> Result<u64, LimitError> {
+    /// Its ratio in thousandths, and its period in milliseconds.
+    fn checked(&self) -> Result<(u64, u64), LimitError> {
         let ratio = thousandths(self.ratio).filter(|ratio| *ratio >= 1000);
-        within(ratio, u32::MAX.into(), "ratio", "1 to 4294967.295")
+        let ratio = within(ratio, u32::MAX.into(), "ratio", "1 to 4294967.295")?;
+        match whole_millis(self.period) {
+            0 => Err(out_of_range("period", "at least a millisecond")),
+            period => Ok((ratio, period)),
+        }
     }
 }
 
@@ -260,11 +257,8 @@ impl Default for Adaptive {
 }
 
 impl Adaptive {
-    fn made(&self) -> Result<Handle<LimitKind>, LimitError> {
-        Handle::adaptive(self.numbers()?).map_err(fault)
-    }
-
-    fn numbers(&self) -> Result<AdaptiveTerms, LimitError> {
+    /// Its numbers.
+    fn checked(&self) -> Result<AdaptiveTerms, LimitError> {
         if self.least == 0 || self.first < self.least || self.most < self.first {
             return Err(out_of_range("first", "1 <= least <= first <= most"));
         }
@@ -278,57 +272,59 @@ impl Adaptive {
 impl Terms {
     /// The limit in the engine, made at this moment.
     pub(crate) fn made(&self, now: u64) -> Result<Handle<LimitKind>, LimitError> {
-        match self {
-            Self::Bucket(bucket) => bucket.made(),
-            Self::InFlight(flight) => flight.made(),
-            Self::Breaker(breaker) => breaker.made(now),
-            Self::Throttle(throttle) => throttle.made(now),
-            Self::Adaptive(adaptive) => adaptive.made(),
-        }
+        let made = match self {
+            Self::Bucket(bucket) => Handle::bucket(bucket.checked()?.0),
+            Self::InFlight(in_flight) => {
+                let (share, most) = in_flight.checked()?;
+                Handle::in_flight(in_flight.least, share as u32, most)
+            }
+            Self::Breaker(breaker) => {
+                let (terms, times) = breaker.checked()?;
+                Handle::breaker(now, terms, &times)
+            }
+            Self::Throttle(throttle) => {
+                let (ratio, period) = throttle.checked()?;
+                Handle::throttle(now, ratio as u32, period)
+            }
+            Self::Adaptive(adaptive) => Handle::adaptive(adaptive.checked()?),
+        };
+        made.map_err(fault)
     }
 
     /// Puts them into the parameters of a storm.
     pub(crate) fn on_storm(&self, storm: &mut engine::Storm) -> Result<(), LimitError> {
         match self {
             Self::Bucket(bucket) => {
-                let BucketNumbers { capacity, floor, debit, credit, cost } = bucket.numbers()?;
+                let (terms, cost) = bucket.checked()?;
                 (storm.draws_on, storm.cost, storm.late_cost) = (ON_BUCKET, cost, cost);
-                (storm.bucket_capacity, storm.bucket_floor) = (capacity, floor);
-                (storm.bucket_debit, storm.bucket_credit) = (debit, credit);
-                storm.bucket_refund = bucket.refund.into();
+                (storm.bucket_capacity, storm.bucket_floor) = (terms.capacity, terms.floor);
+                (storm.bucket_debit, storm.bucket_credit) = (terms.debit, terms.credit);
+                storm.bucket_refund = terms.refund.into();
             }
             Self::InFlight(in_flight) => {
+                let (share, most) = in_flight.checked()?;
                 (storm.draws_on, storm.least) = (ON_IN_FLIGHT, in_flight.least.into());
-                (storm.share, storm.most) = (in_flight.thousandths()?, in_flight.bound()?.into());
+                (storm.share, storm.most) = (share, most.into());
             }
             Self::Breaker(breaker) => {
-                let times = breaker.times()?;
+                let (terms, times) = breaker.checked()?;
                 (storm.draws_on, storm.open_count) = (ON_BREAKER, times.len() as u64);
                 storm.open_times[..times.len()].copy_from_slice(&times);
-                (storm.failures, storm.probes) = (breaker.failures.into(), breaker.probes.into());
-                (storm.deadline, storm.results) = (whole_millis(breaker.probe_deadline), breaker.window()?);
+                (storm.failures, storm.probes) = (terms.failures, terms.probes);
+                (storm.deadline, storm.results) = (terms.deadline, terms.results);
             }
             Self::Throttle(throttle) => {
-                (storm.draws_on, storm.ratio) = (ON_THROTTLE, throttle.thousandths()?);
-                storm.period = whole_millis(throttle.period);
+                storm.draws_on = ON_THROTTLE;
+                (storm.ratio, storm.period) = throttle.checked()?;
             }
             Self::Adaptive(adaptive) => {
-                let AdaptiveTerms { least, most, first, backoff, .. } = adaptive.numbers()?;
-                (storm.draws_on, storm.least, storm.most) = (ON_ADAPTIVE, least, most);
-                (storm.first, storm.backoff) = (first, backoff);
+                let terms = adaptive.checked()?;
+                (storm.draws_on, storm.least, storm.most) = (ON_ADAPTIVE, terms.least, terms.most);
+                (storm.first, storm.backoff) = (terms.first, terms.backoff);
             }
         }
         Ok(())
     }
-}
-
-/// The numbers of a bucket in thousandths of a token.
-struct BucketNumbers {
-    capacity: u64,
-    floor: u64,
-    debit: u64,
-    credit: u64,
-    cost: u64,
 }
 
 /// The greatest capacity, in thousandths of a token.
@@ -365,7 +361,7 @@ fn within(number: Option<u64>, most: u64, parameter: &'static str, expected: &'s
     number.filter(|number| *number <= most).ok_or_else(|| out_of_range(parameter, expected))
 }
 
-fn out_of_range(parameter: &'static str, expected: &'static str) -> LimitError {
+pub(crate) fn out_of_range(parameter: &'static str, expected: &'static str) -> LimitError {
     LimitError::OutOfRange { parameter, expected }
 }
 

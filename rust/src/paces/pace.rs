@@ -6,9 +6,9 @@ use crate::clock::{beginning, Moment};
 use crate::engine::{Handle, PaceKind, Status};
 use crate::limits::per_key::Counted;
 use crate::limits::LimitError;
-use crate::system::PerProcess;
+use crate::system::{lock, PerProcess};
 use std::fmt;
-use std::sync::{Arc, Mutex, MutexGuard, PoisonError};
+use std::sync::{Arc, Mutex};
 use std::time::Duration;
 
 /// Spaces calls out: so many begin in a time, evenly, or a burst at once. A call is told at once when it may begin, and
@@ -177,10 +177,6 @@ impl Handles {
         let idle = lock(&self.idle).pop();
         idle.unwrap_or_else(|| lock(&self.root).split_pace().expect("memory for a turn"))
     }
-}
-
-fn lock<T>(mutex: &Mutex<T>) -> MutexGuard<'_, T> {
-    mutex.lock().unwrap_or_else(PoisonError::into_inner)
 }
 
 impl Counted for Pace {

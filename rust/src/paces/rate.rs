@@ -1,6 +1,7 @@
 //! How many calls may begin in how long.
 
 use crate::clock::whole_millis;
+use crate::limits::terms::out_of_range;
 use crate::limits::LimitError;
 use std::time::Duration;
 
@@ -59,7 +60,6 @@ impl Rate {
 
     /// Its numbers, where they are in their ranges.
     pub(super) fn numbers(&self) -> Result<Numbers, LimitError> {
-        let out_of_range = |parameter, expected| LimitError::OutOfRange { parameter, expected };
         if self.calls == 0 {
             return Err(out_of_range("calls", "1 or more"));
         }

@@ -7,12 +7,12 @@ pub use schedule::{Fold, Schedule, Test};
 pub use waits::Waits;
 
 use crate::engine::{self, Event, Handle, Place, PolicyKind, Size, Status, MAX_STEPS};
-use crate::system::PerProcess;
+use crate::system::{lock, PerProcess};
 use std::error::Error;
 use std::fmt;
 use std::mem;
 use std::str::FromStr;
-use std::sync::{Arc, Mutex, PoisonError};
+use std::sync::{Arc, Mutex};
 
 /// A schedule that the engine has accepted: at most 256 nodes, and at most 32 deep. It is cheap to clone, threads can
 /// share it, and all retries by it share one plan.
@@ -109,7 +109,10 @@ impl Policy {
             Err(Status::NoMemory) => Err(PolicyError::no_memory()),
             // (of the text it is known where, but the engine reads none that is nested more than 127 deep)
             Err(status) => Self::from_json(schedule.as_json()).map_err(|error| match error.fault {
-                PolicyFault::NotJson { .. } => PolicyError::too_large(status),
+                PolicyFault::NotJson { .. } => {
+                    let hint = "expected a schedule of at most 256 nodes, at most 32 deep".to_owned();
+                    PolicyError { hint, ..PolicyError::of(status) }
+                }
                 _ => error,
             }),
         }
@@ -222,8 +225,7 @@ impl Policy {
     #[inline]
     pub(crate) fn with<T>(&self, call: impl FnOnce(&mut Handle<PolicyKind>) -> T) -> T {
         let Shared { json, handle, .. } = &*self.shared;
-        let anew = || Mutex::new(Handle::read(json).expect("memory for a policy"));
-        call(&mut handle.get(anew).lock().unwrap_or_else(PoisonError::into_inner))
+        call(&mut lock(handle.get(|| Mutex::new(Handle::read(json).expect("memory for a policy")))))
     }
 }
 
@@ -259,11 +261,6 @@ impl PolicyError {
     /// That memory is wanting.
     pub(crate) fn no_memory() -> Self {
         Self::of(Status::NoMemory)
-    }
-
-    /// The error of a schedule that has too many nodes, or is too deep.
-    fn too_large(status: Status) -> Self {
-        Self { hint: "expected a schedule of at most 256 nodes, at most 32 deep".to_owned(), ..Self::of(status) }
     }
 
     /// The error of a call on what is a policy.
@@ -340,14 +337,6 @@ impl FromStr for Policy {
 
     fn from_str(json: &str) -> Result<Self, PolicyError> {
         Self::from_json(json)
-    }
-}
-
-impl TryFrom<Schedule> for Policy {
-    type Error = PolicyError;
-
-    fn try_from(schedule: Schedule) -> Result<Self, PolicyError> {
-        Self::new(&schedule)
     }
 }
 

@@ -130,19 +130,16 @@ impl Schedule {
 
     /// Delays that begin with `base`, each `factor` (1 to 1000) times the one before.
     pub fn exponential(base: Duration, factor: u64) -> Self {
-        Self::leaf("exponential", [millis(base), factor]).checked(
-            span(base).or(factor_of(factor, 1..=1000, FACTOR)),
-            format_args!("exponential({base:?}, {factor})"),
-        )
+        let why = span(base).or(factor_of(factor, 1..=1000, FACTOR));
+        Self::leaf("exponential", [millis(base), factor]).checked(why, format_args!("exponential({base:?}, {factor})"))
     }
 
     /// Delays that begin with `base`, each `thousandths` (1 to 1,000,000) thousandths of the one before: with 1500 each
     /// is half as long again.
     pub fn exponential_milli(base: Duration, thousandths: u64) -> Self {
-        Self::leaf("exponential_milli", [millis(base), thousandths]).checked(
-            span(base).or(factor_of(thousandths, 1..=1_000_000, THOUSANDTHS)),
-            format_args!("exponential_milli({base:?}, {thousandths})"),
-        )
+        let why = span(base).or(factor_of(thousandths, 1..=1_000_000, THOUSANDTHS));
+        Self::leaf("exponential_milli", [millis(base), thousandths])
+            .checked(why, format_args!("exponential_milli({base:?}, {thousandths})"))
     }
 
     /// Delays of `first` times 1, 1, 2, 3, 5 and so on.
@@ -153,23 +150,18 @@ impl Schedule {
     /// Random delays, each from `base` up to `factor` (1 to 1000) times the one before, and none longer than `longest`.
     /// `base` stands in for the delay before the first. AWS calls this decorrelated jitter and uses the factor 3.
     pub fn decorrelated(base: Duration, factor: u64, longest: Duration) -> Self {
-        Self::delays(0, base, factor.saturating_mul(1000), longest).checked(
-            delays_of(base, longest).or(factor_of(factor, 1..=1000, FACTOR)),
-            format_args!("decorrelated({base:?}, {factor}, {longest:?})"),
-        )
+        let why = delays_of(base, longest).or(factor_of(factor, 1..=1000, FACTOR));
+        Self::delays(0, base, factor.saturating_mul(1000), longest)
+            .checked(why, format_args!("decorrelated({base:?}, {factor}, {longest:?})"))
     }
 
     /// [`Schedule::decorrelated`] with a factor of `thousandths` (1000 to 1,000,000). The random word of `lane` (0 to
     /// 3) picks each delay.
     pub fn decorrelated_milli(lane: u8, base: Duration, thousandths: u64, longest: Duration) -> Self {
-        Self::delays(lane, base, thousandths, longest).checked(
-            delays_of(base, longest).or(lane_of(lane)).or(factor_of(
-                thousandths,
-                1000..=1_000_000,
-                "expected a factor from 1000 to 1,000,000 thousandths",
-            )),
-            format_args!("decorrelated_milli({lane}, {base:?}, {thousandths}, {longest:?})"),
-        )
+        let least = "expected a factor from 1000 to 1,000,000 thousandths";
+        let why = delays_of(base, longest).or(lane_of(lane)).or(factor_of(thousandths, 1000..=1_000_000, least));
+        Self::delays(lane, base, thousandths, longest)
+            .checked(why, format_args!("decorrelated_milli({lane}, {base:?}, {thousandths}, {longest:?})"))
     }
 
     fn delays(lane: u8, base: Duration, thousandths: u64, longest: Duration) -> Self {
@@ -433,64 +425,39 @@ fn span(time: Duration) -> Option<&'static str> {
 
 /// The same with one that is not 0.
 fn interval_of(time: Duration) -> Option<&'static str> {
-    if time.is_zero() {
-        Some("expected an interval above 0")
-    } else {
-        span(time)
-    }
+    time.is_zero().then_some("expected an interval above 0").or(span(time))
 }
 
 fn number(number: u64) -> Option<&'static str> {
-    if number > MAX_NUMBER {
-        Some("expected a number of at most 2^62 - 1")
-    } else {
-        None
-    }
+    (number > MAX_NUMBER).then_some("expected a number of at most 2^62 - 1")
 }
 
 fn factor_of(factor: u64, range: RangeInclusive<u64>, why: &'static str) -> Option<&'static str> {
-    if range.contains(&factor) {
-        None
-    } else {
-        Some(why)
-    }
+    (!range.contains(&factor)).then_some(why)
 }
 
 fn delays_of(base: Duration, longest: Duration) -> Option<&'static str> {
-    span(base).or(span(longest)).or(if longest < base {
-        Some("expected a longest delay of at least the base")
-    } else {
-        None
-    })
+    let is_short = (longest < base).then_some("expected a longest delay of at least the base");
+    span(base).or(span(longest)).or(is_short)
 }
 
 fn lane_of(lane: u8) -> Option<&'static str> {
-    if lane > 3 {
-        Some("expected a lane from 0 to 3")
-    } else {
-        None
-    }
+    (lane > 3).then_some("expected a lane from 0 to 3")
 }
 
 fn jitter_of(least: u64, most: u64) -> Option<&'static str> {
-    match () {
-        () if most > 10_000 => Some("expected a ratio from 0 to 10,000 thousandths"),
-        () if least > most => Some("the range is empty"),
-        () => None,
-    }
+    let is_high = (most > 10_000).then_some("expected a ratio from 0 to 10,000 thousandths");
+    is_high.or((least > most).then_some("the range is empty"))
 }
 
 /// What is wrong with ratios, where something is.
 fn range_of(ratios: &Range<f64>) -> Option<&'static str> {
     let ends = [ratios.start, ratios.end];
-    match () {
-        () if !ends.iter().all(|ratio| (0.0..=10.0).contains(ratio)) => Some("expected a ratio from 0 to 10"),
-        () if ratios.start > ratios.end => Some("the range is empty"),
-        () if ends.iter().any(|end| *end > 0.0 && thousandths(*end) == 0) => {
-            Some("expected 0 or at least a thousandth")
-        }
-        () => None,
-    }
+    let is_beyond = !ends.iter().all(|ratio| (0.0..=10.0).contains(ratio));
+    let is_small = ends.iter().any(|ratio| *ratio > 0.0 && thousandths(*ratio) == 0);
+    let why = is_beyond.then_some("expected a ratio from 0 to 10");
+    let why = why.or((ratios.start > ratios.end).then_some("the range is empty"));
+    why.or(is_small.then_some("expected 0 or at least a thousandth"))
 }
 
 impl BitAnd for Schedule {

@@ -2,9 +2,9 @@
 
 use crate::clock::{whole_millis, Moment};
 use crate::engine::{Run, Status, LOST, MAX_NUMBER, NO_DEADLINE};
-use crate::limits::asked::Quiet;
 use crate::limits::call_limit::Admitted;
 use crate::limits::grants::{Held, Limit};
+use crate::limits::holding::Quiet;
 #[cfg(any(feature = "prometheus", feature = "tracing"))]
 use crate::limits::refused::RefusalReason;
 use crate::retry::error::RetryError;

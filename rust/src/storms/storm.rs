@@ -2,10 +2,9 @@
 
 use crate::clock::whole_millis;
 use crate::engine::{self, Handle, PassKind, Phase, Status, ON_BUDGET, ON_NOTHING, ON_QUOTA};
-use crate::limits::call_limit::CallLimit;
 use crate::limits::error::LimitError;
-use crate::limits::quota::Terms;
-use crate::limits::terms::{tokens as in_thousandths, Terms as LimitTerms};
+use crate::limits::quota::QuotaTerms;
+use crate::limits::terms::{tokens as in_thousandths, Terms};
 use crate::policy::Policy;
 use crate::storms::population::{self, Population};
 use crate::storms::report::{PopulationReport, StormReport, StormTotals, StormWindow};
@@ -138,48 +137,25 @@ impl Storm {
             queue: 5000,
             outage_from: 10_000,
             outage_to: 20_000,
-            slow_from: 0,
-            slow_to: 0,
-            slow_percent: 0,
             window: 1000,
-            until: 0,
             calls: 16_777_216,
-            words: 0,
             draws_on: ON_NOTHING,
-            limit: 0,
-            reserve: 0,
-            share: 0,
             period: 1,
-            bucket_capacity: 0,
-            bucket_floor: 0,
-            bucket_debit: 0,
-            bucket_credit: 0,
-            bucket_refund: 0,
-            cost: 0,
-            late_cost: 0,
-            least: 0,
             most: engine::NO_MOST.into(),
-            first: 0,
-            backoff: 0,
-            failures: 0,
-            results: 0,
-            probes: 0,
-            deadline: 0,
-            ratio: 0,
-            open_count: 0,
-            open_times: [0; 64],
             replicas: 1,
-            down: 0,
-            phase_count: 0,
-            phases: [Phase::default(); 16],
-            second: engine::Population::default(),
-            third: engine::Population::default(),
-            fourth: engine::Population::default(),
-            of: 0,
+            ..engine::Storm::zeroed()
         };
-        let (policy, rates, others) = (policy.clone(), Vec::new(), Vec::new());
-        let arrivals = None;
-        Self { policy, parameters, until: None, down: None, rates, arrivals, others, is_slow: false, fault: None }
+        Self {
+            policy: policy.clone(),
+            parameters,
+            until: None,
+            down: None,
+            rates: Vec::new(),
+            arrivals: None,
+            others: Vec::new(),
+            is_slow: false,
+            fault: None,
+        }
     }
 
     /// A herd: 10,000 clients lose one connection at one moment, and the peer takes 500 at a time.
@@ -344,10 +320,11 @@ impl Storm {
 
     /// The retries draw on a quota with these terms, as [`Quota::new`](crate::Quota::new) takes them.
     pub fn quota(mut self, reserve: u64, share: f64, per: Duration) -> Self {
-        self.fault = match Terms::new(reserve, share, per) {
-            Ok(Terms { reserve, share, period }) => {
+        self.fault = match QuotaTerms::new(reserve, share, per) {
+            Ok(terms) => {
+                let QuotaTerms { reserve, share, period } = terms;
                 self.parameters = engine::Storm { draws_on: ON_QUOTA, reserve, share, period, ..self.parameters };
-                Handle::quota(0, reserve, share, period, false).err().map(LimitError::of)
+                terms.checked().err()
             }
             Err(fault) => Some(fault),
         };
@@ -356,9 +333,8 @@ impl Storm {
 
     /// Requests ask a limit of another system, with these terms, before their first call and for each retry. A retry
     /// takes the cost of a [`Bucket`](crate::Bucket) after a late call too: see [`late_cost`](Self::late_cost).
-    pub fn limit(mut self, terms: impl Into<LimitTerms>) -> Self {
-        let terms = terms.into();
-        self.fault = CallLimit::new(terms.clone()).and_then(|_| terms.on_storm(&mut self.parameters)).err();
+    pub fn limit(mut self, terms: impl Into<Terms>) -> Self {
+        self.fault = terms.into().on_storm(&mut self.parameters).err();
         self
     }
 

@@ -129,7 +129,8 @@ impl SweepReport {
             column.extend(numbers.map(|(number, report)| cell(measure, number, report)));
             columns.push(column);
         }
-        let widths: Vec<usize> = columns.iter().map(|column| width_of(column)).collect();
+        let width_of = |column: &Vec<String>| column.iter().map(|text| text.chars().count()).max().unwrap_or(0);
+        let widths: Vec<usize> = columns.iter().map(width_of).collect();
         let mut text = measure.title().to_owned();
         for row in 0..=self.axis.values.len() {
             let _ = write!(text, "\n{:<width$}", columns[0][row], width = widths[0]);
@@ -224,10 +225,6 @@ fn cell(measure: Measure, number: Option<f64>, report: &StormReport) -> String {
         Some(number) => measure.shown(number),
     };
     shown + if report.totals.cut { " cut" } else { "" }
-}
-
-fn width_of(column: &[String]) -> usize {
-    column.iter().map(|text| text.chars().count()).max().unwrap_or(0)
 }
 
 /// A field of CSV.

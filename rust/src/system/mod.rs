@@ -13,6 +13,7 @@ mod try_lock;
 pub(crate) use files::{boot, boottime, is_at, read_whole, try_lock, unlock, write_whole, OwnFile};
 pub(crate) use made_once::MadeOnce;
 use std::sync::atomic::{AtomicBool, AtomicPtr, AtomicU64, Ordering};
+use std::sync::{Mutex, MutexGuard, PoisonError};
 #[cfg(not(all(feature = "tokio", target_os = "linux")))]
 use std::time::Instant;
 pub(crate) use try_lock::TryLock;
@@ -88,6 +89,12 @@ fn read_at_once<T>(read: impl Fn() -> T, nanos: impl Fn() -> u64) -> (T, u64) {
         }
     }
     closest.1
+}
+
+/// What a mutex guards, also after a panic of whoever had its lock.
+#[inline]
+pub(crate) fn lock<T>(mutex: &Mutex<T>) -> MutexGuard<'_, T> {
+    mutex.lock().unwrap_or_else(PoisonError::into_inner)
 }
 
 /// What grows by each fork between the process in which this was first asked for and this one.

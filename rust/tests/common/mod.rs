@@ -1,10 +1,15 @@
 //! What several tests use.
 #![allow(dead_code, unused_macros)]
 
-use hikebox::{retry, Grants, NoTicket, Policy, RetryError, Ticket, Usage};
-use std::io::{BufRead, BufReader};
+use hikebox::{CallLimit, NoTicket, Policy, Request, Ticket, Usage};
+use std::ffi::OsStr;
+use std::future::Future;
+use std::io::{BufRead, BufReader, Write};
 use std::path::{Path, PathBuf};
+use std::pin::Pin;
 use std::process::{Child, Command, Stdio};
+use std::sync::Arc;
+use std::task::{Context, Poll, Wake, Waker};
 use std::time::{Duration, Instant};
 use std::{env, fs, thread};
 
@@ -67,17 +72,16 @@ pub fn counts(usage: Usage) -> (u64, u64, u64, u64, Duration) {
     (window, asked, given, left, next)
 }
 
-/// What a retry of this call gives that fails once and then succeeds: the number of its runs.
-pub fn retried_once<B: Grants>(policy: &Policy, budget: &B) -> Result<u32, RetryError<&'static str, B::Refusal>> {
-    let mut runs = 0;
-    retry(policy, budget, || {
-        runs += 1;
-        if runs == 2 {
-            Ok(runs)
-        } else {
+/// A call that fails so often, and then says how often it failed.
+pub fn fails(mut times: u32) -> impl FnMut() -> Result<u32, &'static str> {
+    let failures = times;
+    move || match times.checked_sub(1) {
+        Some(left) => {
+            times = left;
             Err("busy")
         }
-    })
+        None => Ok(failures),
+    }
 }
 
 /// The number of a ticket that was drawn, or `None` where all are used up.
@@ -139,4 +143,57 @@ macro_rules! assert_store_fails {
 #[track_caller]
 pub fn ticket(drawn: Result<Ticket, NoTicket>) -> Option<u64> {
     drawn.ok().map(|ticket| ticket.window() << 32 | ticket.number())
+}
+
+/// How the program ends that the engine's crates build, and what it prints: the one that `HIKEBOX_ZSCHED` names, or that of
+/// `dist/`.
+pub fn zsched(arguments: impl IntoIterator<Item = impl AsRef<OsStr>>, input: &str) -> (Option<i32>, String) {
+    let of_dist = concat!(env!("CARGO_MANIFEST_DIR"), "/../dist/zsched");
+    let mut child = Command::new(env::var_os("HIKEBOX_ZSCHED").unwrap_or_else(|| of_dist.into()))
+        .args(arguments)
+        .stdin(Stdio::piped())
+        .stdout(Stdio::piped())
+        .stderr(Stdio::null())
+        .spawn()
+        .unwrap();
+    child.stdin.take().unwrap().write_all(input.as_bytes()).unwrap();
+    let output = child.wait_with_output().unwrap();
+    (output.status.code(), String::from_utf8(output.stdout).unwrap())
+}
+
+/// The policy of this JSON.
+pub fn policy(json: &str) -> Policy {
+    json.parse().unwrap()
+}
+
+pub fn at(millis: u64) -> Duration {
+    Duration::from_millis(millis)
+}
+
+/// The window, what was asked and given in it, and what is left.
+pub fn told(usage: Usage) -> [u64; 4] {
+    [usage.window, usage.asked, usage.given, usage.left]
+}
+
+/// A request that the limit admits.
+pub fn admitted(limit: &CallLimit) -> Request {
+    let mut request = limit.request().unwrap();
+    request.admit().unwrap();
+    request
+}
+
+/// The value of a future that is ready at its first poll: no runtime is there.
+pub fn at_once<T>(future: impl Future<Output = T>) -> T {
+    match polled(&mut Box::pin(future)) {
+        Poll::Ready(value) => value,
+        Poll::Pending => panic!("it waits"),
+    }
+}
+
+pub fn polled<F: Future>(future: &mut Pin<Box<F>>) -> Poll<F::Output> {
+    struct Nobody;
+    impl Wake for Nobody {
+        fn wake(self: Arc<Self>) {}
+    }
+    future.as_mut().poll(&mut Context::from_waker(&Waker::from(Arc::new(Nobody))))
 }

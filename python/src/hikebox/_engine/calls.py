@@ -85,6 +85,12 @@ SIGNATURES: Dict[str, Tuple[Any, ...]] = {
         POINTER(Line),
         c_size_t,
         POINTER(c_size_t),
+    ),
+    "hikebox_policy_outputs": (
+        _HANDLE,
+        POINTER(Course),
+        POINTER(Event),
+        c_size_t,
         POINTER(c_uint8),
         c_size_t,
         POINTER(c_size_t),

@@ -175,18 +175,12 @@ class PolicyHandle:
         Events past those given are as the last of them."""
         course = Course(steps, start, took)
         given = (Event * len(events)).from_buffer_copy(b"".join([_pack_event(*event) for event in events]))
-        lines, count, length, room = (Line * steps)(), c_size_t(), c_size_t(), 32 * steps + 64
-        while True:
-            text = (c_uint8 * room)()
-            status = library.hikebox_policy_course(
-                self.at, byref(course), given, len(events), lines, steps, byref(count), text, room, byref(length)
-            )
-            if status == OK:
-                told = ctypes.string_at(lines, count.value * ctypes.sizeof(Line))
-                return _decided(told, ctypes.string_at(text, length.value).decode())
-            if status != NO_ROOM:
-                raise refused("hikebox_policy_course", status)
-            room = length.value
+        along, lines, count = (self.at, byref(course), given, len(events)), (Line * steps)(), c_size_t()
+        status = library.hikebox_policy_course(*along, lines, steps, byref(count))
+        if status != OK:
+            raise refused("hikebox_policy_course", status)
+        outputs = _text("hikebox_policy_outputs", lambda *room: library.hikebox_policy_outputs(*along, *room))
+        return _decided(ctypes.string_at(lines, count.value * ctypes.sizeof(Line)), outputs.decode())
 
     def __del__(self, free: Any = _policy_free) -> None:
         handle = getattr(self, "handle", None)  # (which an exception of a signal handler may have left out)

@@ -16,6 +16,7 @@ from .calls import (
     OK,
     library,
     refused,
+    unchecked,
 )
 from .structs import Handle, numbers
 
@@ -102,6 +103,10 @@ def _call(name: str) -> Any:
     return function
 
 
+#: The call that is made at each draw.
+_draw = unchecked("hikebox_leased_draw")
+
+
 def quota_allows(reserve: int, share: int, asked: int) -> int:
     """How many tickets a window of so many requests may give, by a quota of these terms."""
     tickets = c_uint64()
@@ -161,9 +166,12 @@ class LeasedPass:
     def draw(self, now: int) -> Union[LeasedTicket, int]:
         """A ticket; or where there is none at hand, the moment from which on the store may be asked."""
         ticket, again = LeasedTicket(), c_uint64()
-        given = (self.at, now, byref(ticket), byref(again))
-        status = _does("hikebox_leased_draw", *given, unless=(LEASE_WANTED, NO_TICKET))
-        return ticket if status == OK else now if status == LEASE_WANTED else again.value
+        status = _draw(self.at, c_uint64(now), byref(ticket), byref(again))
+        if status == OK:
+            return ticket
+        if status not in (LEASE_WANTED, NO_TICKET):
+            raise refused("hikebox_leased_draw", status)
+        return now if status == LEASE_WANTED else again.value
 
     def granted(self, grant: Grant) -> int:
         """Takes what the store granted: BACKWARDS where that is of an earlier window, HELD_ALREADY where it was granted

@@ -80,6 +80,7 @@ SIGNATURES: Dict[str, Tuple[Any, ...]] = {
 admit, draw, failed, succeeded, cancelled, ended, free, _look, _begin = (
     unchecked(f"hikebox_limit_{name}") for name in "admit draw failed succeeded cancelled ended free look begin".split()
 )
+_look.restype = None  # (what it found is in `told`)
 
 
 def _checked(call: str) -> Callable[..., int]:

@@ -51,23 +51,28 @@ class Totals(Sized):
     _fields_ = [
         SIZE,
         *numbers(
-            "requests won lost denied open calls hundredths most_calls most_from tickets p50 p99 slowest recovered"
+            "windows requests won lost denied open calls hundredths most_calls most_from tickets p50 p99 slowest "
+            "recovered"
         ),
         ("recovers", c_bool),
         ("cut", c_bool),
     ]
 
 
-_HANDLE = POINTER(Handle)
-_POLICIES = (_HANDLE, _HANDLE, _HANDLE, _HANDLE)
-_NUMBER = POINTER(c_uint64)
-_TOLD = (POINTER(Window), c_size_t, POINTER(c_size_t), POINTER(Totals))
+#: The policies of the populations, in their order.
+Policies = Handle * 4
 
 #: Each call on storms, with the types of its parameters.
 SIGNATURES: Dict[str, Tuple[Any, ...]] = {
-    "hikebox_storm_play": (_HANDLE, POINTER(Storm), *_TOLD),
-    "hikebox_storm_play_populations": (*_POLICIES, POINTER(Storm), *_TOLD),
-    "hikebox_storm_play_arrivals": (*_POLICIES, POINTER(Storm), _NUMBER, c_size_t, *_TOLD),
+    "hikebox_storm_play_populations": (
+        POINTER(Policies),
+        POINTER(Storm),
+        POINTER(c_uint64),
+        c_size_t,
+        POINTER(Window),
+        c_size_t,
+        POINTER(Totals),
+    ),
 }
 
 
@@ -85,19 +90,14 @@ def play_storm(
     """Plays a storm whose parameters are within their ranges, with the policy of each of its populations, up to four,
     and the moments of its requests, where they have such: the fields of each window, and the totals."""
     room = storm.until // storm.window + 1
-    windows, count, totals = (Window * room)(), c_size_t(), Totals()
-    four = [policy.at for policy in (*policies, *(PolicyHandle() for _ in range(4 - len(policies))))]
-    given: List[Any] = [*four, byref(storm)]
-    if arrivals:
-        call = "hikebox_storm_play_arrivals"
-        given += [(c_uint64 * len(arrivals))(*arrivals), len(arrivals)]
-    elif len(policies) == 1:
-        call, given = "hikebox_storm_play", [policies[0].at, byref(storm)]
-    else:
-        call = "hikebox_storm_play_populations"
-    status = _patient(call)(*given, windows, room, byref(count), byref(totals))
+    windows, totals, held = (Window * room)(), Totals(), Policies(*(policy.handle for policy in policies))
+    moments = (c_uint64 * max(len(arrivals), 1))(*arrivals)
+    call = "hikebox_storm_play_populations"
+    status = _patient(call)(byref(held), byref(storm), moments, len(arrivals), windows, room, byref(totals))
+    for policy, handle in zip(policies, held):  # (which only the call used meanwhile)
+        policy.handle.held = handle.held
     if status != OK:
         raise refused(call, status)
     wide = ctypes.sizeof(Window) // ctypes.sizeof(c_uint64)
-    fields = (c_uint64 * (wide * count.value)).from_buffer(windows)[:]
+    fields = (c_uint64 * (wide * totals.windows)).from_buffer(windows)[:]
     return [tuple(fields[at : at + wide]) for at in range(0, len(fields), wide)], totals

@@ -16,7 +16,7 @@ from ..retry.deadline import enter, leave
 from ..retry.drivers import answer_of, not_awaitable
 from ..retry.progress import Progress
 from ..retry.state import Ending, Outcome, RetryState, Statistics
-from ..retry.steps import OVER, RAISE, RUN, Ask, Settled, Steps, asked, steps
+from ..retry.steps import OVER, RAISE, RUN, Ask, Settled, Steps, relay, steps
 from ..retrying import BaseRetrying, look_at_names
 
 __all__ = [
@@ -195,7 +195,7 @@ class PolicyClient:
         call.hops += 1
         driven = steps(progress, is_counted=call.is_counted_by(owner.limit))
         try:
-            want = yield from asked(driven, driven.send(None))
+            want = yield from relay(driven, driven.send(None))
             while want is RUN:
                 want = yield from self._one_attempt(call, progress, driven, request)
             ending = progress.state.ending
@@ -225,14 +225,14 @@ class PolicyClient:
             if not is_refused:
                 yield partial(self._accepts, request), response
         except BaseException as error:
-            want = yield from asked(driven, driven.send(Outcome(None, error)))
+            want = yield from relay(driven, driven.send(Outcome(None, error)))
             if want is RAISE:
                 raise
         else:
             call.leads_on = not is_refused and self._leads_on(response)
             if call.leads_on or (is_refused and not call.may_repeat):
                 return _gives(progress, response, Ending.WON if call.leads_on else Ending.NOT_RETRIED)
-            want = yield from asked(driven, driven.send(_Answered(response, is_refused)))
+            want = yield from relay(driven, driven.send(_Answered(response, is_refused)))
             if isinstance(want, float):
                 yield partial(self._let_go, request), response
         if isinstance(want, float):
@@ -242,7 +242,7 @@ class PolicyClient:
                 yield settings.sleeps, want
             elif settings.pause is not None:
                 yield settings.pause, want
-            want = yield from asked(driven, driven.send(None))
+            want = yield from relay(driven, driven.send(None))
         return want
 
     def is_refused(self, response: Any) -> bool:

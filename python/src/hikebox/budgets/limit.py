@@ -1,5 +1,7 @@
 """What all limits are."""
 
+from typing import ClassVar
+
 __all__ = ["Limit"]
 
 
@@ -11,3 +13,7 @@ class Limit:
     """
 
     __slots__ = ()
+
+    #: Whether it is a `CallLimit`, and whether it has a limit for each key.
+    IS_ASKED: ClassVar[bool] = False
+    HAS_KEYS: ClassVar[bool] = False

@@ -341,8 +341,7 @@ class Unlimited:
     def __init__(self) -> None:
         self.passes: Ends = self
 
-    def begin(self, machine: Machine, policy: PolicyHandle, deadline: int) -> None:
-        machine.begin_unlimited(policy, deadline)
+    begin = staticmethod(Machine.begin_unlimited)
 
     def end(self, machine: Machine, hands_back: bool) -> None:
         machine.free()

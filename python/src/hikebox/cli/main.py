@@ -243,7 +243,7 @@ def _fill_storm(storm: Any) -> None:
     storm.add_argument("--title", metavar="TEXT", help="the title of the picture, in place of the policy")
     name = "the name of a storm in a picture or a table; give one for each storm"
     storm.add_argument("--name", metavar="TEXT", action="append", help=name)
-    several = f"{_POLICY}; with several, the totals are printed side by side"
+    several = f"{_POLICY}; - or nothing reads standard input; with several, the totals are printed side by side"
     storm.add_argument("file", nargs="*", metavar="POLICY", help=several)
     storm.set_defaults(does=_storm, parser=storm)
 
@@ -260,7 +260,8 @@ def _fill_advise(advise: Any) -> None:
     printed.add_argument("--svg", metavar="FILE", help="write a picture to this file; - is standard output")
     advise.add_argument("--width", help="how wide the picture is, from 280 to 4000 (760)", **_WIDE)
     advise.add_argument("--title", metavar="TEXT", help="the title of the picture, in place of the policy")
-    advise.add_argument("file", nargs="*", metavar="POLICY", help=f"{_POLICY}; with several, each is tried")
+    several = f"{_POLICY}; - or nothing reads standard input; with several, each is tried"
+    advise.add_argument("file", nargs="*", metavar="POLICY", help=several)
     advise.set_defaults(does=_advise, parser=advise)
 
 

@@ -13,7 +13,7 @@ from ..errors import LimitError, TermsError
 from ..storms.axes import MEASURES
 from ..limits.terms import LimitTerms
 from ..storms.limits import KINDS, limit_of
-from ..storms.parameters import RANGES, Limited, Parameters, RateSpan, Slow, Span
+from ..storms.parameters import RANGES, TIMES, Limited, Parameters, RateSpan, Slow, Span
 from ..storms.populations import MAX_PATIENCE, MAX_SHARE, look_at_shares
 from . import values
 from .arguments import Once
@@ -35,19 +35,20 @@ __all__ = [
 _MAX_TEXT = 100
 
 _HELP = {
-    "rate": "requests a second (800)",
-    "together": "requests that come at one moment (1)",
-    "seconds": "how long requests come, in seconds (60)",
-    "capacity": "calls a second that each replica of the peer can serve (1000)",
-    "patience": "how long a client waits for a call, in milliseconds (500)",
-    "queue": "calls that each replica of the peer queues at most (5000)",
-    "replicas": "how many replicas the peer is, to which calls go in turn (1)",
+    "rate": "requests a second",
+    "together": "requests that come at one moment",
+    "seconds": "how long requests come, in seconds",
+    "capacity": "calls a second that each replica of the peer can serve",
+    "patience": "how long a client waits for a call, in milliseconds",
+    "queue": "calls that each replica of the peer queues at most",
+    "replicas": "how many replicas the peer is, to which calls go in turn",
     "down": "how many replicas refuse calls in the outage (all)",
-    "window": "the length of a window of the report, in milliseconds (1000)",
+    "window": "the length of a window of the report, in milliseconds",
     "until": "when the storm ends, in milliseconds (60 s after --seconds, or after the last moment of --arrivals)",
-    "calls": "cut the storm after this many calls (16777216)",
-    "words": "the seed of the random numbers (0)",
+    "calls": "cut the storm after this many calls",
+    "words": "the seed of the random numbers",
 }
+_PLAIN = Parameters()
 
 
 class Beside(NamedTuple):
@@ -62,10 +63,11 @@ class Beside(NamedTuple):
 def add_numbers(storm: argparse.ArgumentParser, names: Sequence[str]) -> None:
     """Adds the options that are numbers, of these names, and the spans of the rate."""
     for name in names:
-        metavar = "SEED" if name == "words" else "M" if name in ("patience", "window", "until") else "N"
-        storm.add_argument(
-            f"--{name}", type=values.number(RANGES[name][1], RANGES[name][0]), metavar=metavar, help=_HELP[name]
-        )
+        metavar = "SEED" if name == "words" else "M" if name in TIMES else "N"
+        default = getattr(_PLAIN, name)
+        about = _HELP[name] if default is None else f"{_HELP[name]} ({default})"
+        number = values.number(RANGES[name][1], RANGES[name][0])
+        storm.add_argument(f"--{name}", type=number, metavar=metavar, help=about)
     rates = "spans with a rate of their own, up to 8, such as 10000..15000@2400,20000..21000@0"
     storm.add_argument("--rates", type=rates_of, metavar="FROM..TO@N,..", help=rates)
 
@@ -74,7 +76,7 @@ def add_log(storm: argparse.ArgumentParser) -> None:
     """Adds the options of an access log."""
     log = (
         "take how requests come from an access log, or - for standard input: nginx's or Apache's, JSON lines or CSV, "
-        "also compressed by gzip; --seconds is then how long its busiest part is that is played (all)"
+        "also compressed by gzip; with --seconds N only its busiest stretch of N seconds is played (all)"
     )
     storm.add_argument("--log", metavar="FILE", action=Once, help=log)
     fields = "where JSON or CSV has the moment, how long a request took (in s, ms, us or ns) and the status"
@@ -97,7 +99,7 @@ def add_storm_options(storm: argparse.ArgumentParser) -> None:
     add_numbers(storm, list(_HELP))
     add_log(storm)
     add_arrivals(storm)
-    outage = "when the peer refuses all calls, in milliseconds (10000..20000)"
+    outage = f"when the peer refuses all calls, in milliseconds ({'..'.join(map(str, _PLAIN.outage))})"
     storm.add_argument("--outage", type=span_of, metavar="FROM..TO", help=outage)
     slow = "when the peer works at PERCENT of its capacity, in milliseconds (never)"
     storm.add_argument("--slow", type=slow_of, metavar="FROM..TO@PERCENT", help=slow)

@@ -80,8 +80,8 @@ class Leases(Limit):
         self.clock = clock
         #: The length of a window in milliseconds, or None.
         self.millis = period
-        #: How often it began anew.
-        self.generation = -1
+        #: How often it began anew, and how often it did so or drew anew.
+        self.generation = self._turns = -1
         self.begin_anew()
         begins_anew_in_a_child(self)
 
@@ -93,6 +93,7 @@ class Leases(Limit):
     def begin_anew(self) -> None:
         """Begins with no lease, as in a forked child."""
         self.generation += 1
+        self._turns += 1
         #: Who has it asks the store. A signal's handler that draws may interrupt that, on the same thread.
         self.lock = threading.RLock()
         self.is_asking = False
@@ -135,11 +136,12 @@ class Leases(Limit):
         The numbers begin at 0, in each window anew; those that are drawn while the store can't be reached are -1, -2
         and so on, and are of no window.
         """
-        found = self._at_hand()
+        turns, found = self._turns, self._at_hand()
         if isinstance(found, Ticket):
             return found
         with self.lock:
-            drawn = self._drawn_anew()
+            drawn = self._drawn_anew(found, turns)
+            self._turns += 1
             notes, self._notes = self._notes, []
         for text, *told in notes:
             logger.warning(text, *told, extra={"hikebox_limit": self.name})
@@ -204,17 +206,19 @@ class Leases(Limit):
         """Whether the store may be asked now, which is to be left alone until this moment."""
         return moment <= self.moments.now() or self._is_worth_asking()
 
-    def _drawn_anew(self) -> Union[Ticket, Refusal]:
-        """A ticket: what another thread leased meanwhile, or of a new lease, or one without the store."""
+    def _drawn_anew(self, found: Union[Ticket, int], turns: Optional[int]) -> Union[Ticket, Refusal]:
+        """A ticket: what another thread leased meanwhile, or of a new lease, or one without the store. `found` is what
+        was at hand after so many turns."""
         late = 0
         while late < _TRIES:
             generation = self.generation
-            found = self._at_hand()
+            if turns != self._turns:
+                found = self._at_hand()
             if isinstance(found, Ticket):
                 return found
             if self.is_asking:  # this thread is, and was interrupted
                 return Refusal(RefusalReason.UNREACHABLE)
-            may_ask = self._may_ask(found)
+            may_ask, turns = self._may_ask(found), None
             if generation != self.generation:  # a signal's handler forked meanwhile: in the child it is the parent's
                 continue
             if not may_ask or not self._lease():

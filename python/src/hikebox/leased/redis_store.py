@@ -2,10 +2,12 @@
 
 from __future__ import annotations
 
-import contextlib
-from typing import Any, Callable, Iterator, Optional, Tuple
+import hashlib
+import math
+from typing import Any, Callable, Dict, Optional, Tuple
 
 from .._engine.calls import MAX_TICKETS
+from .._forks import begins_anew_in_a_child
 from ..budgets.terms import Terms
 from ..errors import StoreError, StoreLost, TermsError
 from ..pace import PaceTerms
@@ -18,79 +20,75 @@ _BASE = 2**52
 #: The most microseconds of a burst: what is due stays below 2^53, which a script counts exactly.
 _MOST_MICROS = 2**52
 
-#: Begins a budget: KEYS are its count and the name of the server's start; ARGV[1] is the first count.
+#: Begins a budget: KEYS[1] is its count, beside which stands the name of the server's start; ARGV[1] is the first
+#: count.
 BEGIN = """
 local server = string.match(redis.call('INFO', 'server'), 'run_id:(%x+)')
-return redis.call('MSET', KEYS[1], ARGV[1], KEYS[2], server)
+return redis.call('MSET', KEYS[1], ARGV[1], KEYS[1] .. ':server', server)
 """
 
-#: A lease of a budget without windows: KEYS as above; ARGV are the tickets wanted and the limit. It answers the count
-#: before and the tickets, or why not. On a server that keeps each write it is without its third part.
+#: A lease of a budget without windows: KEYS[1] as above; ARGV are the tickets wanted and the limit. It answers the
+#: count before, or a number of `_LOST`. On a server that keeps each write it is without its second part.
 TAKE = (
     f"""
-local counted, server = unpack(redis.call('MGET', KEYS[1], KEYS[2]))
+local counted, server = redis.call('GET', KEYS[1]), redis.call('GET', KEYS[1] .. ':server')
 local given = (tonumber(counted) or 0) - {_BASE}
 if given < 0 or not server then
-  return 'none'
+  return -1
 end
 """,
     """
 if not string.find(redis.call('INFO', 'server'), 'run_id:' .. server, 1, true) then
-  return 'restarted'
+  return -2
 end
 """,
     """
-local tickets = math.max(0, math.min(tonumber(ARGV[1]), ARGV[2] - given))
+local tickets = math.min(tonumber(ARGV[1]), ARGV[2] - given)
 if tickets > 0 then
   redis.call('INCRBY', KEYS[1], string.format('%.0f', tickets))
 end
-return {given, tickets}
+return given
 """,
 )
 
-#: The present window, whose length in microseconds is ARGV[1]: `micros`, the server's time; `number`, its number; and
+#: The present window, whose length in microseconds is `period`: `micros`, the server's time; `number`, its number; and
 #: `is_whole`, whether the server was started before it, and up to two seconds later than INFO says.
 WINDOW = """
 local now, info = redis.call('TIME'), redis.call('INFO', 'server')
 local micros = now[1] * 1000000 + now[2]
-local number = (micros - micros % ARGV[1]) / ARGV[1]
-local is_whole = number * ARGV[1] >= micros - (string.match(info, 'uptime_in_seconds:(%d+)') - 2) * 1000000
+local number = (micros - micros % period) / period
+local is_whole = number * period >= micros - (string.match(info, 'uptime_in_seconds:(%d+)') - 2) * 1000000
 """
-
-#: The present window of a quota: the server's time, and the name of its start where the window is whole.
-LOOK = (
-    WINDOW
-    + """
-return {now[1], now[2], is_whole and string.match(info, 'run_id:(%x+)')}
-"""
-)
 
 #: A lease of a budget by windows: KEYS[1] is its name; ARGV are the window's length, the tickets wanted, the limit, and
-#: the milliseconds that the window's key is kept. It answers the server's time, the count before, and the tickets, -1
-#: where the window is not whole.
-TAKE_OF_WINDOW = (
-    WINDOW
-    + """
+#: the milliseconds that the window's key is kept. It answers the server's time and the count before, -1 where the
+#: window is not whole.
+TAKE_OF_WINDOW = f"""
+local period = ARGV[1]
+{WINDOW}
 if not is_whole then
-  return {now[1], now[2], 0, -1}
+  return {{micros, -1}}
 end
 local key = KEYS[1] .. ':' .. string.format('%.0f', number)
 local given = redis.call('INCRBY', key, ARGV[2]) - ARGV[2]
-local tickets = math.max(0, math.min(tonumber(ARGV[2]), ARGV[3] - given))
-if tickets < tonumber(ARGV[2]) then
-  redis.call('DECRBY', key, string.format('%.0f', ARGV[2] - tickets))
+local surplus = math.min(tonumber(ARGV[2]), given + ARGV[2] - ARGV[3])
+if surplus > 0 then
+  redis.call('DECRBY', key, string.format('%.0f', surplus))
 end
 if given == 0 then
   redis.call('PEXPIRE', key, ARGV[4])
 end
-return {now[1], now[2], given, tickets}
+return {{micros, given}}
 """
-)
 
-#: What a script begins with that goes on in one start of the server: ARGV[7] is its name.
-IN_START = """
-if not string.find(redis.call('INFO', 'server'), 'run_id:' .. ARGV[7], 1, true) then
-  return 'restarted meanwhile'
+#: What a script begins with that goes on in one window and one start of the server: ARGV[7] to ARGV[9] are the window's
+#: length, its number, and the start's name. Otherwise it answers the server's time, and the name of its start where the
+#: present window is whole.
+IN_WINDOW = f"""
+local period = ARGV[7]
+{WINDOW}
+if number ~= tonumber(ARGV[8]) or not string.find(info, 'run_id:' .. ARGV[9], 1, true) then
+  return {{micros, is_whole and string.match(info, 'run_id:(%x+)')}}
 end
 """
 
@@ -137,6 +135,31 @@ if redis.call('GET', KEYS[1]) == ARGV[1] then
 end
 """
 
+#: How many windows of a quota may end in a row while the store asks for them.
+_TRIES = 3
+#: How many quotas have a window that is known.
+_MOST_WINDOWS = 1024
+
+
+class _Script:
+    """A script: its text, and the digest by which a server runs it that has it."""
+
+    __slots__ = ("text", "digest")
+
+    def __init__(self, text: str) -> None:
+        self.text = text
+        self.digest = hashlib.sha1(text.encode()).hexdigest()
+
+    def by(self, send: Callable[..., Any], *words: Any) -> Any:
+        """What it answers to these keys and arguments, before which their number stands. A server that lacks it does
+        nothing, and is sent its text."""
+        try:
+            return send("EVALSHA", self.digest, *words)
+        except Exception as error:
+            if type(error).__name__ != "NoScriptError":  # (of `redis`, or of a library that is like it)
+                raise
+        return send("EVAL", self.text, *words)
+
 
 class RedisStore:
     """Counts in a Redis server, for the processes of many machines: each lease is one atomic step, a script.
@@ -155,65 +178,89 @@ class RedisStore:
         self.prefix = prefix
         self.durable = durable
         take = TAKE[0] + TAKE[2] if durable else "".join(TAKE)
-        scripts = map(client.register_script, (BEGIN, take, TAKE_OF_WINDOW, LOOK, GIVE_BACK))
-        self._begin, self._take, self._take_of_window, self._look, self._give_back = scripts
+        scripts = map(_Script, (BEGIN, take, TAKE_OF_WINDOW, IN_WINDOW + GRANT, PACE, GIVE_BACK))
+        self._begin, self._take, self._take_of_window, self._grant, self._pace, self._give_back = scripts
+        self.begin_anew()
+        begins_anew_in_a_child(self)
+
+    def begin_anew(self) -> None:
+        """Knows no window yet, as in a forked child, which may have a clock of its own."""
+        #: Of quotas, by name and period: the latest window, by which clock, and the name of the server's start.
+        self._windows: Dict[Tuple[str, int], Tuple[Present, Any, Any]] = {}
 
     def __repr__(self) -> str:
         return f"RedisStore({self.client!r})"
 
     def begin(self, name: str) -> None:
         """Begins a budget of this name with no ticket leased. Call it once for each budget, in one process."""
-        with _errors():
-            self._begin(keys=self._keys(name), args=[_BASE])
+        with _errors:
+            self._begin.by(self.client.execute_command, 1, self._key(name), _BASE)
 
     def forget(self, name: str) -> None:
         """Takes a budget away: from then on it grants nothing."""
-        with _errors():
-            self.client.delete(*self._keys(name))
+        with _errors:
+            self.client.delete(self._key(name), self._key(name) + ":server")
 
     def take(self, name: str, count: int, limit: int, period: Optional[int], clock: Callable[[], float]) -> Range:
         """A range of this name's tickets, or of its present window's."""
-        with _errors():
+        with _errors:
+            send = self.client.execute_command
             if period is None:
-                found = self._take(keys=self._keys(name), args=[count, limit])
-                return Range(*_leased(_answered(found, name), count, limit), None)
-            before, keys = clock(), [f"{self._key(name)}:{period}"]
-            found = self._take_of_window(keys=keys, args=[period * 1000, count, limit, 2 * period])
-            present = _present(found[:2], period, before, clock())
-            if found[3] < 0:
+                given = self._take.by(send, 1, self._key(name), count, limit)
+                return Range(*_leased(given, name, count, limit), None)
+            before, key = clock(), f"{self._key(name)}:{period}"
+            found = self._take_of_window.by(send, 1, key, period * 1000, count, limit, 2 * period)
+            if not isinstance(found, list) or len(found) != 2:
+                raise StoreError(f"Redis: expected its time and a count of tickets, got {found!r}")
+            micros, given = found
+            present = _present(micros, period, before, clock())
+            if given == -1:
                 return Range(0, 0, present.until, present.number, lost=True)
-            return Range(*_leased(found[2:], count, limit), present.until, present.number)
+            return Range(*_leased(given, name, count, limit), present.until, present.number)
 
     def take_of_quota(
         self, name: str, terms: Terms, count: int, asked: Callable[[float], int], clock: Callable[[], float]
     ) -> QuotaRange:
         """Adds requests to the present window of this name's quota, and takes a range of its tickets."""
-        with _errors():
-            before = clock()
-            *now, server = self._look(keys=[self._key(name)], args=[terms.period * 1000])
-            present = _present(now, terms.period, before, clock())
-            if server is None:
-                return QuotaRange(0, 0, present.until, present.number, 0, lost=True)
-            key = f"{self._key(name)}:quota:{terms.period}:{present.number}"
-            wanted = (asked(present.began_by), count, terms.reserve, terms.share, MAX_TICKETS, 2 * terms.period, server)
-            found = _answered(self._once("EVAL", IN_START + GRANT, 1, key, *wanted), name)
-            given, tickets, requests = _granted(found, terms, count)
-            return QuotaRange(given, tickets, present.until, present.number, requests)
+        period, told = terms.period, None
+        present, by, server = self._windows.get((name, period), (_NONE, clock, ""))
+        with _errors:
+            for _ in range(_TRIES):
+                before = clock()
+                if by != clock or before >= present.until:
+                    present = _NONE
+                elif told is None:
+                    told = asked(present.began_by)
+                key = f"{self._key(name)}:quota:{period}:{present.number}"
+                wanted = (told or 0, count, terms.reserve, terms.share, MAX_TICKETS, 2 * period)
+                found = self._grant.by(self._once, 1, key, *wanted, period * 1000, present.number, server)
+                if not isinstance(found, list) or len(found) != 2:
+                    given, tickets, requests = _granted(found, terms, count)
+                    return QuotaRange(given, tickets, present.until, present.number, requests)
+                micros, server = found
+                present, by = _present(micros, period, before, clock()), clock
+                if server is None:
+                    return QuotaRange(0, 0, present.until, present.number, 0, lost=True)
+                if len(self._windows) >= _MOST_WINDOWS:
+                    self._windows.clear()
+                self._windows[name, period] = present, by, server
+                if told is not None:  # of a window that is over
+                    told = 0
+        raise StoreError(f"Redis: windows of {period} ms end before it answers")
 
     def take_of_pace(self, name: str, terms: PaceTerms, cost: int) -> Taken:
         """Takes the next moment at which a call under this name's pace may begin."""
-        key, kept = self._pace(name, terms)
-        with _errors():
-            found = self._once("EVAL", PACE, 1, key, *terms, cost, kept)
-            return _taken(found, terms)
+        key, kept = self._of_pace(name, terms)
+        with _errors:
+            return _taken(self._pace.by(self._once, 1, key, *terms, cost, kept), terms)
 
     def give_back_of_pace(self, name: str, terms: PaceTerms, cost: int, mark: int) -> None:
         """Takes it back from a call that does not begin."""
-        key, kept = self._pace(name, terms)
-        with _errors():
-            self._give_back(keys=[key], args=[mark, mark - cost * terms.each, kept])
+        key, kept = self._of_pace(name, terms)
+        with _errors:
+            self._give_back.by(self.client.execute_command, 1, key, mark, mark - cost * terms.each, kept)
 
-    def _pace(self, name: str, terms: PaceTerms) -> Tuple[str, int]:
+    def _of_pace(self, name: str, terms: PaceTerms) -> Tuple[str, int]:
         """The key of a pace, and how many milliseconds it is kept: as long as anything may be due."""
         each, burst, longest = terms
         if burst * each > _MOST_MICROS:
@@ -240,10 +287,6 @@ class RedisStore:
     def _key(self, name: str) -> str:
         return f"{self.prefix}:{{{name}}}"
 
-    def _keys(self, name: str) -> Tuple[str, str]:
-        """Those of a budget without windows: its count, and the start of the server on which it was begun."""
-        return self._key(name), self._key(name) + ":server"
-
 
 def _checked_client(client: Any) -> Any:
     """A client that answers when it is called, or a `TypeError`."""
@@ -259,35 +302,28 @@ def _checked_client(client: Any) -> Any:
     return client
 
 
-def _present(now: Any, period: int, before: float, after: float) -> Present:
+def _present(micros: Any, period: int, before: float, after: float) -> Present:
     """The window of a server's time, which was told between these moments."""
-    whole, micros = now
-    return present_window(period, before, int(whole) * 10**9 + int(micros) * 1000, after)
+    return present_window(period, before, int(micros) * 1000, after)
 
 
-#: What a script answers where the count may be lost, and what that means.
+#: The window of a quota of which nothing is known: it is over, and no server has it.
+_NONE = Present(-1, 0.0, -math.inf)
+
+#: What a script answers in the place of a count that may be lost, and what that means.
 _LOST = {
-    "none": "Redis has no count of {!r}: begin() makes one",
-    "restarted": "Redis was restarted since {!r} was begun, and may have lost some of its count",
-    "restarted meanwhile": "Redis was restarted while it was asked for a lease of {!r}",
+    -1: "Redis has no count of {!r}: begin() makes one",
+    -2: "Redis was restarted since {!r} was begun, and may have lost some of its count",
 }
 
 
-def _answered(found: Any, name: str) -> Any:
-    """What a script found, unless it says that the count is lost."""
-    said = found.decode(errors="replace") if isinstance(found, bytes) else found
-    if isinstance(said, str) and said in _LOST:
-        raise StoreLost(_LOST[said].format(name))
-    return found
-
-
-def _leased(found: Any, count: int, limit: int) -> Tuple[int, int]:
+def _leased(given: Any, name: str, count: int, limit: int) -> Tuple[int, int]:
     """The tickets given before and those leased, where the script can have answered this."""
-    if isinstance(found, list) and len(found) == 2:
-        before, tickets = map(int, found)
-        if before >= 0 and 0 <= tickets <= max(0, min(count, limit - before)):
-            return before, tickets
-    raise StoreError(f"Redis: expected a count and at most {count} tickets, got {found!r}")
+    if isinstance(given, int) and given >= 0:
+        return given, max(0, min(count, limit - given))
+    if isinstance(given, int) and given in _LOST:
+        raise StoreLost(_LOST[given].format(name))
+    raise StoreError(f"Redis: expected a count of tickets, got {given!r}")
 
 
 def _granted(found: Any, terms: Terms, count: int) -> Tuple[int, int, int]:
@@ -309,12 +345,17 @@ def _taken(found: Any, terms: PaceTerms) -> Taken:
     raise StoreError(f"Redis: expected when a call may begin, got {found!r}")
 
 
-@contextlib.contextmanager
-def _errors() -> Iterator[None]:
-    """What the client raises, as a `StoreError`."""
-    try:
-        yield
-    except StoreError:
-        raise
-    except Exception as error:
-        raise StoreError(f"Redis: {error}") from error
+class _Errors:
+    """What the client raises in a block, as a `StoreError`."""
+
+    __slots__ = ()
+
+    def __enter__(self) -> None:
+        pass
+
+    def __exit__(self, kind: Any, error: Any, trace: Any) -> None:
+        if isinstance(error, Exception) and not isinstance(error, StoreError):
+            raise StoreError(f"Redis: {error}") from error
+
+
+_errors = _Errors()

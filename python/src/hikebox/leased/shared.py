@@ -23,6 +23,8 @@ logger = logging.getLogger("hikebox")
 
 #: In the place of a status: the store could not be reached.
 _UNREACHED = -1
+#: After so many milliseconds of the machine's uptime a breaker begins anew: its word keeps no later moment.
+_MOMENTS = 2**37
 #: The longest open times that stand in a key as they are.
 _MAX_TIMES_TEXT = 100
 
@@ -72,12 +74,14 @@ class SharedLimit(CallLimit):
         """One step of a request: None, or why it is refused; and what the request then holds. Where the store can't be
         reached, that is what it held."""
         held = HeldRequest.from_buffer_copy(request)
+        turn, at = divmod(now, _MOMENTS) if self._of_this_boot else (0, now)
 
         def steps(kept: Kept) -> Optional[Refused]:
-            return self._steps(call, now, cost, kept, held)
+            refused = self._steps(call, at, cost, kept, held)
+            return refused and (refused[0], refused[1] + turn * _MOMENTS)
 
         try:
-            answer = self.store.step(self.key, self._of_this_boot, steps)
+            answer = self.store.step(f"{turn} {self.key}" if turn else self.key, self._of_this_boot, steps)
         except StoreError as error:
             self._tell(error)
             return (_UNREACHED, 0), request
@@ -163,8 +167,7 @@ class _SharedRequest(Request):
                 self._refusal = self.admit()
 
     def _step(self, call: int, cost: int = 0) -> Optional[Refused]:
-        now = 0 if call == CANCELLED else self._of.now()
-        answer, self._held_there = self._of.step(call, now, cost, self._held_there)
+        answer, self._held_there = self._of.step(call, self._of.now(), cost, self._held_there)
         return answer
 
 

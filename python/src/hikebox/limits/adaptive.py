@@ -16,18 +16,19 @@ __all__ = ["Adaptive"]
 
 
 class Adaptive(CallLimit):
-    """Bounds the calls under way at once, by how they end: each success at the bound raises it a little, about one for
-    each round of calls, and each failure lowers it to a share of what it was.
+    """Bounds the calls under way at once, by how they end: successes raise the bound, by about one for each round of
+    calls, and each failure lowers it to a share of what it was.
 
     `least`, `most`
         The bound is never below `least`, nor above `most`, which is at most 65,535.
     `first`
-        What it is at first.
+        The bound at first.
     `backoff`
-        What a failure leaves of it, from 0.001 to 0.999. It is counted in thousandths.
+        The share of the bound that a failure leaves, from 0.001 to 0.999. It is counted in thousandths.
 
-    A success raises the bound by its reciprocal, and only while at least half as many calls are under way as it allows:
-    an idle client learns nothing. It grants each retry, which is a part of its call; put a bucket beside it for those.
+    A success raises the bound by its reciprocal, and only while the calls under way are at least half of its level: an
+    idle client learns nothing. The limit grants each retry, which is a part of its call; to bound retries too, join
+    a `Bucket` by `both`.
 
     >>> from hikebox import recurs, retry
     >>> @retry(recurs(3), limit=Adaptive())

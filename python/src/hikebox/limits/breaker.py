@@ -11,7 +11,7 @@ from .._engine.limits import STATE_CLOSED, STATE_OPEN, LimitHandle
 from .._functions import look_at_function
 from .._time import Duration, moment, seconds_text
 from ..budgets.terms import count_of, duration_of
-from ..errors import PolicyError, TermsError
+from ..errors import PolicyError, TermsError, shown
 from ..policy import Policy
 from .kinds import MAX_COUNT
 from .limit import CallLimit, Request, WatchedRequest
@@ -42,8 +42,8 @@ class Breaker(CallLimit):
     `probe_deadline`
         How long after its last probe it admits others, if the probes have no result by then: seconds, or a `timedelta`.
     `on_change`
-        A function that gets what the breaker was and what it is, two `BreakerState`: once for each change that a call
-        of this process makes or finds, in their order, from one thread at a time. What it raises is logged.
+        A function of the states before and after a change, two `BreakerState`. It is called once for each change that a
+        call of this process makes or finds, in their order, from one thread at a time. What it raises is logged.
     `clock`
         What returns the time in seconds, to be replaced in tests.
 
@@ -163,18 +163,20 @@ class Breaker(CallLimit):
     def look(self) -> None:
         if self._on_change is None:
             return
-        with self.lock:
-            before, self._known = self._known, self.state
-            if before is not self._known:
-                self._changes.append((before, self._known))
-            if self._tells or not self._changes:
-                return
-            self._tells = True
+        tells = False
         try:
+            with self.lock:
+                before, self._known = self._known, self.state
+                if before is not self._known:
+                    self._changes.append((before, self._known))
+                if self._tells or not self._changes:
+                    return
+                self._tells = tells = True
             while self._tells_next(self._on_change):
                 pass
         except BaseException:
-            self._tells = False
+            if tells:  # (the handler of a signal may raise an exception at any step)
+                self._tells = False
             raise
 
     def _tells_next(self, on_change: OnChange) -> bool:
@@ -202,8 +204,8 @@ class Breaker(CallLimit):
 def _policy_of(open_for: Any) -> Policy:
     """The policy whose waits are the open times."""
     if isinstance(open_for, (int, float, timedelta)):
-        number = f"{open_for.total_seconds():g}" if isinstance(open_for, timedelta) else open_for
-        raise TypeError(f"open_for: expected a policy, as spaced({number}), got {open_for!r}")
+        number = f"{open_for.total_seconds():g}" if isinstance(open_for, timedelta) else shown(open_for)
+        raise TypeError(f"open_for: expected a policy, as spaced({number}), got {shown(open_for)}")
     try:
         return Policy.of(open_for)
     except PolicyError as error:

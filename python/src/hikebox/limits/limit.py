@@ -35,7 +35,7 @@ from ..budgets.tickets import Refusal, RefusalReason
 from ..policy.preview import word_of
 from .terms import LimitTerms
 
-__all__ = ["NONE_UNDER_WAY", "Asked", "CallLimit", "Request", "WatchedRequest", "look_at_no_limit", "of_pace"]
+__all__ = ["NONE_UNDER_WAY", "CallLimit", "Holding", "Request", "WatchedRequest", "look_at_no_limit", "of_pace"]
 
 #: What is told of a call that is out of its turn.
 NONE_UNDER_WAY = "expected a request that was admitted, got none under way"
@@ -48,9 +48,9 @@ _REASONS = {
     THROTTLED: RefusalReason.THROTTLED,
 }
 
-#: What comes of asking a limit before a first attempt: a place that found it quiet, or a request; why that was refused;
+#: What a call holds of a limit that it asked: a place that found it quiet, or a request; why that was refused;
 #: and what tells of a success.
-Asked = Tuple[Optional[Place], Optional["Request"], Optional[Refusal], Callable[[], Any]]
+Holding = Tuple[Optional[Place], Optional["Request"], Optional[Refusal], Callable[[], Any]]
 
 
 class CallLimit(OfOneProcess, Limit):
@@ -72,6 +72,8 @@ class CallLimit(OfOneProcess, Limit):
     reads_random = False
     has_costs = False
     rests = False
+
+    IS_ASKED = True
 
     #: What its requests are.
     REQUEST: ClassVar[Type[Request]]
@@ -171,7 +173,7 @@ class CallLimit(OfOneProcess, Limit):
                 split.append(made)
                 return made
 
-    def ask(self) -> Asked:
+    def ask(self) -> Holding:
         """Asks before a first attempt."""
         request = self.REQUEST(self)
         try:
@@ -180,7 +182,7 @@ class CallLimit(OfOneProcess, Limit):
             request.ended()
             raise
 
-    def look_or_ask(self) -> Asked:
+    def look_or_ask(self) -> Holding:
         """The same, or a place that finds the limit quiet, so that a call is admitted which holds it. If that succeeds
         at once and finds it quiet again, the look stands for all calls of its request."""
         try:

@@ -9,7 +9,7 @@ from weakref import WeakKeyDictionary, WeakValueDictionary
 
 from .._forks import OfOneProcess, begins_anew_in_a_child
 from ..budgets.limit import Limit
-from ..errors import TermsError
+from ..errors import TermsError, shown
 
 __all__ = ["PerHost", "PerKey", "look_at_no_keys"]
 
@@ -44,12 +44,12 @@ class PerKey(OfOneProcess, Limit, Generic[Made]):
 
     `make`
         A function of the key that returns a limit. It is called once for each key, and may not ask for limits of this
-        `PerKey`. What it raises is raised to who asked, and the next one calls it again.
+        `PerKey`. If it raises, so does the call that needs the limit, and the next such call calls it again.
     `key`
-        A function of the arguments of a call that returns its key. With it, the whole is the `limit` of a retry.
+        A function of the arguments of a call that returns its key. With it, the `PerKey` can be the `limit` of a retry.
     `most`
-        How many limits are kept. Beyond that the one goes that was asked for least recently. One that is in use stays
-        the limit of its key: while a call under it is under way, a ticket of it is out, or you hold it.
+        How many limits are kept. Beyond that, the least recently used one is dropped. One that is in use stays the
+        limit of its key: while a call under it is under way, a ticket of it is out, or you hold it.
 
     >>> from hikebox import Quota, recurs, retry
     >>> per_tenant = PerKey(lambda tenant: Quota(reserve=10, share=0.1, per=60), key=lambda tenant, item: tenant)
@@ -59,8 +59,10 @@ class PerKey(OfOneProcess, Limit, Generic[Made]):
     >>> fetch("ours", 7), per_tenant["ours"].seen().asked, len(per_tenant)
     (7, 1, 1)
 
-    A loop, or a retry whose call does not tell its key, takes `limit=per_tenant["ours"]`.
+    A loop, or a retry whose arguments don't determine the key, takes `limit=per_tenant["ours"]`.
     """
+
+    HAS_KEYS = True
 
     def __init__(
         self, make: Callable[[Any], Made], *, key: Optional[Callable[..., Any]] = None, most: int = 10_000
@@ -71,7 +73,7 @@ class PerKey(OfOneProcess, Limit, Generic[Made]):
         if isinstance(most, bool) or not isinstance(most, int):
             raise TypeError(f"most: expected a whole number, got {most!r}")
         if most < 1:
-            raise TermsError(f"most: expected 1 or more, got {most}")
+            raise TermsError(f"most: expected 1 or more, got {shown(most)}")
         self.make = make
         self.key = key
         self.most = most
@@ -188,8 +190,8 @@ class PerKey(OfOneProcess, Limit, Generic[Made]):
 
 
 class PerHost(PerKey[Made]):
-    """A limit for each host that is asked. The key is the host of a request's URL, with its port if that is not the
-    scheme's own: pass it as the `limit` of an adapter for requests, httpx or aiohttp.
+    """A limit for each host: the `limit` of an adapter for requests, httpx or aiohttp. The key is the host of a
+    request's URL, with its port if that is not the scheme's own.
 
     `make` and `most` are those of a `PerKey`.
 

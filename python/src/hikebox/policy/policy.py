@@ -210,7 +210,7 @@ class Policy:
 
     @property
     def plan(self) -> Plan:
-        """What the retries of this package give the engine, which has it from the first time that it is needed."""
+        """The policy in the engine, which is made when it is first needed: for the retries of this package."""
         plan = self._plan
         if plan is None:
             assert self._node is not None

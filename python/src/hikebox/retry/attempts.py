@@ -8,10 +8,10 @@ from typing import TYPE_CHECKING, Any, Optional, Tuple, Type
 from weakref import ref
 
 from .deadline import Deadline, enter, leave
-from .drivers import advance, answer_of, settle, settle_async, slept, waits
+from .drivers import advance, answer_of, not_awaitable, settle, settle_async, slept, waits
 from .progress import HeldProgress
 from .state import Outcome, RetryState
-from .steps import OVER, RAISE, RUN, Settled, Steps, steps
+from .steps import OVER, RAISE, RUN, Settled, begins, steps
 
 if TYPE_CHECKING:
     from ..retrying import BaseRetrying
@@ -90,7 +90,7 @@ class _BaseAttempts:
         per_key = owner.settings.per_key
         self.progress = HeldProgress(owner if per_key is None else per_key.retrying_of_block(owner))
         #: The steps of the retry, once something is to be done for it.
-        self.steps: Optional[Steps] = None
+        self.steps: Any = None
         #: What the retry wants, once it began.
         self.want: Optional[Settled] = None
         self.deadline: Optional[Deadline] = self.progress.state.deadline
@@ -100,44 +100,21 @@ class _BaseAttempts:
         self.under_way = False
         self.is_open = False
 
-    def driven(self) -> Steps:
-        """The steps of the retry, which wait for the outcome of its first attempt where that has begun."""
-        driven = self.steps
-        if driven is None:
-            driven = self.steps = steps(self.progress, self.want is RUN)
-            if self.want is RUN:
-                driven.send(None)
-        return driven
-
-    def begins(self) -> bool:
-        """Begins the first attempt, where no more is to be done for it than to count it or to ask the limit."""
-        progress = self.progress
-        settings = progress.settings
-        if settings.is_quiet:
-            if settings.deposit is not None:
-                settings.deposit()
-            elif settings.asks_limit:
-                progress.drawing = settings.drawing()
-                progress.state.refusal = progress.drawing.admit()
-                if progress.state.refusal is not None:
-                    return False
-            self.want = RUN
-        return settings.is_quiet
-
-    def turn(self) -> Optional[Attempt]:
-        """One more attempt, where the retry wants one; else it is over, and its last exception is raised."""
+    def turn(self, ends: Type[Exception]) -> Attempt:
+        """One more attempt, where the retry wants one; else it is over, and its last exception ends the loop, or this
+        one does."""
         if self.want is RUN:
             self.under_way = True
             return Attempt(self)
         self.progress.close()
-        answer_of(self.progress)
-        return None
+        if self.progress.answer is not None:
+            answer_of(self.progress)
+        raise ends
 
-    def look_at_block(self) -> None:
-        """Refuses a turn whose attempt was not used."""
-        if self.under_way:
-            self.progress.close()
-            raise RuntimeError("each attempt of the loop needs a `with attempt:` block")
+    def refuse(self) -> None:
+        """Refuses a turn after an attempt that was not used."""
+        self.progress.close()
+        raise RuntimeError("each attempt of the loop needs a `with attempt:` block")
 
     def ended(self, error: Optional[BaseException]) -> bool:
         """The attempt's block was left: whether its exception stops there."""
@@ -147,8 +124,6 @@ class _BaseAttempts:
         progress = self.progress
         settings, state = progress.settings, progress.state
         if settings.is_quiet:  # (nothing is asked of its result)
-            if state.outcome is None:
-                state.outcome = Outcome(attempt_number=state.attempt_number)
             progress.wins()
             self.want = OVER
             progress.close()
@@ -168,13 +143,27 @@ class _BaseAttempts:
 
     def judge(self, outcome: Outcome) -> bool:
         """Has the attempt judged: whether its exception stops in its block."""
-        raise NotImplementedError
-
-    def judged(self, want: Settled) -> bool:
+        try:
+            if self.steps is None:
+                self.steps = steps(self.progress, is_counted=True)
+                self.steps.send(None)
+            want = self.steps.send(outcome)
+            if type(want) is tuple:
+                want, awaitable = advance(self.steps, want)
+                if awaitable is not None:
+                    self.pends(awaitable, outcome)
+                    return True
+        except BaseException:
+            self.progress.close()
+            raise
         self.want = want
         if want is OVER or want is RAISE:
             self.progress.close()
         return want is not RAISE
+
+    def pends(self, awaitable: Any, outcome: Outcome) -> None:
+        """Something is to be awaited to judge this attempt."""
+        not_awaitable(awaitable)
 
 
 class Attempts(_BaseAttempts):
@@ -183,58 +172,37 @@ class Attempts(_BaseAttempts):
     def __iter__(self) -> Attempts:
         return self
 
-    def judge(self, outcome: Outcome) -> bool:
-        try:
-            driven = self.driven()
-            return self.judged(settle(driven, driven.send(outcome)))
-        except BaseException:
-            self.progress.close()
-            raise
-
     def __next__(self) -> Attempt:
         if self.under_way:
-            self.look_at_block()
+            self.refuse()
         if self.is_open:
             self.judge(self.told())
         try:
-            if self.want is None:
-                if not self.begins():
-                    driven = self.driven()
-                    self.want = settle(driven, driven.send(None))
+            if self.want is None and self.progress.settings.is_quiet and begins(self.progress):
+                self.want = RUN
+            elif self.want is None:
+                self.steps = steps(self.progress)
+                self.want = settle(self.steps, self.steps.send(None))
             elif isinstance(self.want, float):
-                self.want = slept(self.progress, self.driven(), self.want)
+                self.want = slept(self.progress, self.steps, self.want)
         except BaseException:
             self.progress.close()
             raise
-        attempt = self.turn()
-        if attempt is None:
-            raise StopIteration
-        return attempt
+        return self.turn(StopIteration)
 
 
 class AsyncAttempts(_BaseAttempts):
     """Those of an `async for` loop. Where something has to be awaited to judge an attempt, the next turn of the loop
     does that, and lets the last exception out."""
 
-    def __init__(self, owner: BaseRetrying) -> None:
-        super().__init__(owner)
-        #: What is to be awaited to judge an attempt, and that attempt.
-        self.pending: Optional[Tuple[Any, Outcome]] = None
+    #: What is to be awaited to judge an attempt, and that attempt.
+    pending: Optional[Tuple[Any, Outcome]] = None
 
     def __aiter__(self) -> AsyncAttempts:
         return self
 
-    def judge(self, outcome: Outcome) -> bool:
-        try:
-            driven = self.driven()
-            want, awaitable = advance(driven, driven.send(outcome))
-        except BaseException:
-            self.progress.close()
-            raise
-        if awaitable is None:
-            return self.judged(want)
+    def pends(self, awaitable: Any, outcome: Outcome) -> None:
         self.pending = awaitable, outcome
-        return True
 
     async def _judge_pending(self) -> None:
         """Judges what the block of the attempt before left open."""
@@ -244,27 +212,30 @@ class AsyncAttempts(_BaseAttempts):
             return
         (awaitable, outcome), self.pending = self.pending, None
         try:
-            driven = self.driven()
-            if not self.judged(await settle_async(driven, driven.send(await awaitable))):
+            self.want = await settle_async(self.steps, self.steps.send(await awaitable))
+            if self.want is RAISE:
+                self.progress.close()
                 outcome.result()
         finally:
             del outcome
 
     async def __anext__(self) -> Attempt:
-        self.look_at_block()
+        if self.under_way:
+            self.refuse()
         try:
-            await self._judge_pending()
+            if self.is_open or self.pending is not None:
+                await self._judge_pending()
             if isinstance(self.want, float):
                 awaitable = waits(self.progress, self.want)
                 if awaitable is not None:
                     await awaitable
-            if isinstance(self.want, float) or (self.want is None and not self.begins()):
-                driven = self.driven()
-                self.want = await settle_async(driven, driven.send(None))
+            if self.want is None and self.progress.settings.is_quiet and begins(self.progress):
+                self.want = RUN
+            elif self.want is None or isinstance(self.want, float):
+                self.steps = self.steps or steps(self.progress)
+                want: Any = self.steps.send(None)
+                self.want = await settle_async(self.steps, want) if type(want) is tuple else want
         except BaseException:
             self.progress.close()
             raise
-        attempt = self.turn()
-        if attempt is None:
-            raise StopAsyncIteration
-        return attempt
+        return self.turn(StopAsyncIteration)

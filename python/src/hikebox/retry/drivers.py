@@ -1,4 +1,8 @@
-"""The two drivers of a retry's steps: one that blocks, and one for coroutines."""
+"""The two drivers of a retry's steps: one that blocks, and one for coroutines.
+
+What a call goes through that succeeds at once stands in both, since each function more would show there:
+`tests/test_costs.py` names those that it may enter.
+"""
 
 from __future__ import annotations
 
@@ -33,34 +37,31 @@ __all__ = [
 ]
 
 
-def settle(driven: Steps, want: Any) -> Settled:
-    """Makes the calls that a retry wants, of which nothing is awaited, up to a wait or a signal."""
-    while type(want) is tuple:
-        function, argument = want
-        want = driven.send(not_awaitable(function(argument)))
-    return want  # type: ignore[no-any-return]
-
-
-def slept(progress: Progress, driven: Steps, seconds: float) -> Settled:
-    """Waits so many seconds, and goes on up to the next attempt, or the end."""
-    if seconds > 0.0:
-        answer = progress.settings.sleeps(seconds)
-        if answer is not None:
-            not_awaitable(answer)
-    want = driven.send(None)
-    return settle(driven, want) if type(want) is tuple else want  # type: ignore[return-value]
-
-
 def advance(driven: Steps, want: Any) -> Tuple[Settled, Any]:
     """Makes the calls that a retry wants, up to a wait or a signal, or up to something that has to be awaited, which is
     then the second."""
     while type(want) is tuple:
         function, argument = want
         answer = function(argument)
-        if hasattr(type(answer), "__await__"):
+        if answer is not None and hasattr(type(answer), "__await__"):
             return RUN, answer
         want = driven.send(answer)
     return want, None
+
+
+def settle(driven: Steps, want: Any) -> Settled:
+    """Makes the calls that a retry wants, of which nothing is awaited, up to a wait or a signal."""
+    settled, awaitable = advance(driven, want)
+    not_awaitable(awaitable)
+    return settled
+
+
+def slept(progress: Progress, driven: Steps, seconds: float) -> Settled:
+    """Waits so many seconds, and goes on up to the next attempt, or the end."""
+    if seconds > 0.0 and (answer := progress.settings.sleeps(seconds)) is not None:
+        not_awaitable(answer)
+    want = driven.send(None)
+    return settle(driven, want) if type(want) is tuple else want  # type: ignore[return-value]
 
 
 async def settle_async(driven: Steps, want: Any) -> Settled:
@@ -87,8 +88,8 @@ def run(owner: BaseRetrying, fn: Callable[..., Any], args: Any, kwargs: Any) -> 
     start = settings.clock()
     deadline = _NONE if settings.deadline_millis is None else settings.deadline_from(start)
     token = None if deadline is None else enter(deadline)
-    # until something is to be done for it, a retry is only its start, or its request of a limit
-    progress = request = refusal = place = _NONE
+    # until something is to be done for it, a retry is only its start, and what it holds of its limit
+    progress = holding = place = refusal = _NONE
     tells_success = settings.deposit_won
     want: Any = RUN
     try:
@@ -96,9 +97,9 @@ def run(owner: BaseRetrying, fn: Callable[..., Any], args: Any, kwargs: Any) -> 
             if settings.deposit is not None:
                 settings.deposit()
             elif (ask := settings.asks_first) is not None:
-                place, request, refusal, tells_success = ask()
+                holding = place, request, refusal, tells_success = ask()
         if refusal is not None or not settings.is_quiet:
-            progress = Progress(owner, fn, args, kwargs, start, deadline, request, refusal)
+            progress = Progress(owner, fn, args, kwargs, start, deadline, holding)
             driven = steps(progress)
             want = settle(driven, driven.send(None))
         while want is RUN:
@@ -106,10 +107,8 @@ def run(owner: BaseRetrying, fn: Callable[..., Any], args: Any, kwargs: Any) -> 
                 result = fn(*args, **kwargs)
             except BaseException as error:
                 if progress is None:
-                    if place is not None:
-                        found, place = place, None
-                        request = settings.drawing(found)
-                    progress = Progress(owner, fn, args, kwargs, start, deadline, request)
+                    place = None  # (which is the request's now)
+                    progress = Progress(owner, fn, args, kwargs, start, deadline, holding)
                     driven = steps(progress, True)
                     driven.send(None)
                 want = driven.send(Outcome(None, error))
@@ -128,17 +127,15 @@ def run(owner: BaseRetrying, fn: Callable[..., Any], args: Any, kwargs: Any) -> 
                         tells_success()
                         if place is not None and not place.told[0]:
                             found, place = place, None
-                            request = settings.drawing(found)
-                            request.succeeded()
+                            with settings.drawing(found) as told:
+                                told.succeeded()
                     return result
                 if settings.is_quiet:
-                    progress.state.outcome = Outcome(result, None, progress.state.attempt_number)
-                    progress.wins()
+                    progress.wins(result)
                     return result
                 want = settle(driven, driven.send(Outcome(result)))
-            if type(want) is float:
-                answer = settings.sleeps(want) if want > 0.0 else None
-                if answer is not None:
+            if type(want) is float:  # (as `slept` does, with one function less for each retry)
+                if want > 0.0 and (answer := settings.sleeps(want)) is not None:
                     not_awaitable(answer)
                 want = driven.send(None)
                 if type(want) is tuple:
@@ -151,7 +148,7 @@ def run(owner: BaseRetrying, fn: Callable[..., Any], args: Any, kwargs: Any) -> 
             progress.close()
         elif place is not None:
             place.home.append(place)
-        elif request is not None:
+        elif holding is not None and request is not None:
             request.ended()
 
 
@@ -166,9 +163,9 @@ async def run_async(owner: BaseRetrying, fn: Callable[..., Any], args: Any, kwar
 
         return await run_hedged(owner, fn, args, kwargs)
     start = settings.clock()
-    deadline = None if settings.deadline_millis is None else settings.deadline_from(start)
+    deadline = _NONE if settings.deadline_millis is None else settings.deadline_from(start)
     token = None if deadline is None else enter(deadline)
-    progress = request = refusal = place = awaitable = _NONE
+    progress = holding = place = refusal = awaitable = _NONE
     tells_success = settings.deposit_won
     want: Any = RUN
     try:
@@ -176,9 +173,9 @@ async def run_async(owner: BaseRetrying, fn: Callable[..., Any], args: Any, kwar
             if settings.deposit is not None:
                 settings.deposit()
             elif (ask := settings.asks_first) is not None:
-                place, request, refusal, tells_success = ask()
+                holding = place, request, refusal, tells_success = ask()
         if refusal is not None or not settings.is_quiet:
-            progress = Progress(owner, fn, args, kwargs, start, deadline, request, refusal)
+            progress = Progress(owner, fn, args, kwargs, start, deadline, holding)
             driven = steps(progress)
             want = await settle_async(driven, driven.send(None))
         while want is RUN:
@@ -189,10 +186,8 @@ async def run_async(owner: BaseRetrying, fn: Callable[..., Any], args: Any, kwar
                 result = await awaitable if hasattr(type(awaitable), "__await__") else NOT_AWAITABLE
             except BaseException as error:
                 if progress is None:
-                    if place is not None:
-                        found, place = place, None
-                        request = settings.drawing(found)
-                    progress = Progress(owner, fn, args, kwargs, start, deadline, request)
+                    place = None  # (which is the request's now)
+                    progress = Progress(owner, fn, args, kwargs, start, deadline, holding)
                     driven = steps(progress, True)
                     driven.send(None)
                 if awaitable is None:
@@ -213,8 +208,11 @@ async def run_async(owner: BaseRetrying, fn: Callable[..., Any], args: Any, kwar
                         tells_success()
                         if place is not None and not place.told[0]:
                             found, place = place, None
-                            request = settings.drawing(found)
-                            request.succeeded()
+                            with settings.drawing(found) as told:
+                                told.succeeded()
+                    return result
+                if settings.is_quiet:
+                    progress.wins(result)
                     return result
                 want = await settle_async(driven, driven.send(Outcome(result)))
             awaitable = None  # (the call's coroutine is let go before the wait)
@@ -228,20 +226,14 @@ async def run_async(owner: BaseRetrying, fn: Callable[..., Any], args: Any, kwar
                     want = await settle_async(driven, want)
         return answer_of(progress)
     finally:
-        if place is not None:
+        if token is not None:
+            leave(deadline, token)
+        if progress is not None:
+            progress.close()
+        elif place is not None:
             place.home.append(place)
-        if progress is not None or request is not None or token is not None:
-            _end(progress, request, deadline, token)
-
-
-def _end(progress: Any, request: Any, deadline: Any, token: Any) -> None:
-    """Ends what there is of a retry."""
-    if token is not None:
-        leave(deadline, token)
-    if progress is not None:
-        progress.close()
-    elif request is not None:
-        request.ended()
+        elif holding is not None and request is not None:
+            request.ended()
 
 
 _NONE: Any = None

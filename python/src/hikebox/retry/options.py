@@ -2,7 +2,6 @@
 
 from __future__ import annotations
 
-import math
 import random as _random
 import time
 from functools import partial
@@ -29,8 +28,6 @@ from ..budgets.limit import Limit
 from ..budgets.passes import UNLIMITED, Grants
 from ..budgets.terms import duration_of
 from ..errors import AttemptTimeout, LimitClosed, TermsError, TryAgain, shown
-from ..limits import CallLimit, PerKey
-from ..limits.limit import of_pace
 from ..policy import Policy
 from ..quota import Quota
 from .kinds import hooks_of, parts_of_on, stop_of
@@ -148,9 +145,9 @@ def _hooks_follow(settings: Settings) -> None:
 def _most_wait_follows(settings: Settings) -> None:
     most = settings.max_retry_after
     if most is None:
-        settings.most_wait = math.inf
+        settings.most_wait = float(MAX_NUMBER)
     elif isinstance(most, bool) or not isinstance(most, (int, float)) or not most >= 0:
-        raise TypeError(f"max_retry_after: expected a number of seconds, or None, got {most!r}")
+        raise TypeError(f"max_retry_after: expected a number of seconds, or None, got {shown(most)}")
     else:
         settings.most_wait = float(min(most, MAX_NUMBER))
 
@@ -161,9 +158,10 @@ def _deadline_follows(settings: Settings) -> None:
 
 def _slow_follows(settings: Settings) -> None:
     settings.slow_millis = _above_0("slow", settings.slow)
-    if settings.slow is not None and not isinstance(settings.limit, (CallLimit, PerKey)):
+    limit = settings.limit
+    if settings.slow is not None and not (isinstance(limit, Limit) and (limit.IS_ASKED or limit.HAS_KEYS)):
         wanted = "expected a limit that hears how calls end, such as a Breaker or a Bucket, beside it"
-        raise TypeError(f"slow: {wanted}, got limit={settings.limit!r}")
+        raise TypeError(f"slow: {wanted}, got limit={limit!r}")
 
 
 def _waits_follow(settings: Settings) -> None:
@@ -174,18 +172,18 @@ def _waits_follow(settings: Settings) -> None:
 
 def _drawing_follows(settings: Settings) -> None:
     limit = settings.limit
-    settings.per_key = limit if isinstance(limit, PerKey) else None
-    settings.grants, settings.drawing = _grants_of(limit, settings.clock, settings.awaits)
+    settings.per_key = limit if isinstance(limit, Limit) and limit.HAS_KEYS else None
+    settings.asks_limit = isinstance(limit, Limit) and limit.IS_ASKED
+    settings.grants, settings.drawing = _grants_of(settings, limit)
     settings.deposit, settings.deposit_won = _deposits(limit)
-    settings.asks_limit = isinstance(limit, CallLimit)
     settings.returns_tickets = bool(getattr(limit, "returns_tickets", False))
 
 
-def _grants_of(limit: Any, clock: Any, awaits: bool) -> Tuple[Grants, Any]:
+def _grants_of(settings: Settings, limit: Any) -> Tuple[Grants, Any]:
     """What grants the engine's retry its tickets, and what makes the drawing of a retry that draws elsewhere."""
     if limit is None:
         return UNLIMITED, None
-    if isinstance(limit, PerKey):
+    if settings.per_key is not None:
         if limit.key is None:
             raise TypeError("limit: expected a PerKey with key=.., or per_key[..], the limit of one key")
         return UNLIMITED, None
@@ -195,15 +193,17 @@ def _grants_of(limit: Any, clock: Any, awaits: bool) -> Tuple[Grants, Any]:
     if isinstance(limit, (list, tuple)):
         raise TypeError(f"limit: expected one object, got {limit!r}; both(..) makes one of several limits")
     if not callable(draw):
+        from ..limits.limit import of_pace
+
         why = of_pace(limit)
         raise TypeError(f"limit: expected a limit such as a Budget, or something with draw(), got {limit!r}{why}")
-    if isinstance(limit, Budget) or (isinstance(limit, Quota) and limit.clock == clock):
+    if isinstance(limit, Budget) or (isinstance(limit, Quota) and limit.clock == settings.clock):
         return limit, None
-    if isinstance(limit, CallLimit):
+    if settings.asks_limit:
         return UNLIMITED, partial(limit.REQUEST, limit)
     if hasattr(limit, "retry_drawing"):
-        return UNLIMITED, partial(limit.retry_drawing, awaits)
-    return UNLIMITED, partial(ByCall, getattr(limit, "draw_async", draw) if awaits else draw)
+        return UNLIMITED, partial(limit.retry_drawing, settings.awaits)
+    return UNLIMITED, partial(ByCall, getattr(limit, "draw_async", draw) if settings.awaits else draw)
 
 
 def _deposits(limit: Any) -> Tuple[Optional[Callable[[], Any]], Optional[Callable[[], Any]]]:
@@ -360,9 +360,9 @@ class Options:
         """Only for calls that may be made twice at once: after how long, by the clock of asyncio or trio, an attempt of
         a coroutine function is late, in seconds or as a `timedelta`. To the policy and the `limit` it has failed then,
         with an `AttemptTimeout`, but it goes on. They say whether and when the next attempt begins beside it. The first
-        success is the result; the other attempts are cancelled and awaited. Of a late attempt that fails nobody hears,
-        but if it is the last to fail, the call raises that. For a function, a loop or a repeat it is a `TypeError`. It
-        may not be longer than `attempt_timeout`.""",
+        success is the result; the other attempts are cancelled and awaited. No hook is called when a late attempt
+        fails; if all fail, the call raises the last exception. For a function, a loop or a repeat this option is a
+        `TypeError`. It may not be longer than `attempt_timeout`.""",
         _attempt_timeout_follows,
         _hedge_after_follows,
     )
@@ -376,28 +376,13 @@ class Options:
     )
     before: Hooks = option(
         None,
-        """A function of the `RetryState`, or a list of functions, called before each attempt.""",
+        "A function of the `RetryState`, or a list of functions, called before each attempt.",
         _hooks_follow,
         shapes=True,
     )
-    after: Hooks = option(
-        None,
-        """The same, called after each attempt that failed.""",
-        _hooks_follow,
-        shapes=True,
-    )
-    before_sleep: Hooks = option(
-        None,
-        """The same, called before each wait.""",
-        _hooks_follow,
-        shapes=True,
-    )
-    on_success: Hooks = option(
-        None,
-        """The same, called when a call has succeeded.""",
-        _hooks_follow,
-        shapes=True,
-    )
+    after: Hooks = option(None, "The same, called after each attempt that failed.", _hooks_follow, shapes=True)
+    before_sleep: Hooks = option(None, "The same, called before each wait.", _hooks_follow, shapes=True)
+    on_success: Hooks = option(None, "The same, called when a call has succeeded.", _hooks_follow, shapes=True)
     fallback: Optional[Hook] = option(
         None,
         """A function of the `RetryState` that returns the result when the retry gives up. None raises the last

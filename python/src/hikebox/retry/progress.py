@@ -6,11 +6,12 @@ from math import floor
 from typing import TYPE_CHECKING, Any, Callable, Mapping, Optional, Tuple
 
 from .._engine.calls import NO_DEADLINE, NO_REPORT, OVER, WAIT
-from .._engine.machine import MAX_IDLE, Machine, idle, is_crowded, new_machine, park, resumed, take_machine_back
+from .._engine.machine import MAX_IDLE, Machine, idle, new_machine, park, resumed, take_machine_back
 from .._time import FLOAT_ERROR, GRAIN, MAX_NUMBER, moment
 from ..budgets.passes import Ends
 from ..budgets.tickets import Refusal
 from ..errors import HikeboxError
+from ..limits.limit import Holding
 from ..policy.preview import word_of
 from .deadline import Deadline
 from .marks import DEBUG, late, log_wait
@@ -34,6 +35,17 @@ class Progress:
         *("_machine", "_parked", "_ends_at", "_logs", "_closed"),
     )
 
+    #: When the present attempt began, and how many milliseconds it took, where that is measured.
+    _began: float
+    _took: Optional[float]
+    #: When the first attempt failed, which is the moment that policies count from: by the engine, and in seconds since
+    #: the start. By how many milliseconds the clock may be off, and how many are added to a moment before its part of a
+    #: millisecond is cut off.
+    _origin: int
+    _first: float
+    _float_error: float
+    _rounds: float
+
     def __init__(
         self,
         owner: BaseRetrying,
@@ -42,8 +54,7 @@ class Progress:
         kwargs: Mapping[str, Any] = {},
         start: Optional[float] = None,
         deadline: Optional[Deadline] = None,
-        drawing: Any = None,
-        refusal: Optional[Refusal] = None,
+        holding: Optional[Holding] = None,
     ) -> None:
         settings = self.settings = owner.settings
         state = self.state = RetryState(owner, fn, args, kwargs, settings.clock() if start is None else start)
@@ -55,23 +66,16 @@ class Progress:
         self.ends_now = False
         #: Whether the latest attempt gave a result that `on_result` does not refuse.
         self.is_accepted = False
-        #: What draws where the engine's retry does not, which may have refused the first attempt.
-        self.drawing = drawing
-        state.refusal = refusal
+        #: What draws where the engine's retry does not. It may have been asked before the first attempt.
+        self.drawing: Any = None
+        if holding is not None:
+            place, self.drawing, state.refusal, _ = holding
+            if place is not None:
+                self.drawing = settings.drawing(place)
         #: Whether it has a ticket for an attempt that has not begun.
         self.holds_ticket = False
-        #: When the present attempt began, and how many milliseconds it took, where that is measured.
-        self._began = state.start_time
-        self._took: Optional[float] = None
-        #: By how many milliseconds the clock may be off, and how many are added to a moment before its part of a
-        #: millisecond is cut off.
-        self._float_error = self._rounds = FLOAT_ERROR
         #: Seconds by which a sleep came back before the moment that it was to wait for.
         self.ahead = 0.0
-        #: When the first attempt failed, which is the moment that policies count from: by the engine, and in seconds
-        #: since the start.
-        self._origin = 0
-        self._first = 0.0
         #: The last moment that the engine was told, and the start that it planned: whole milliseconds since then.
         self._last = self._until = 0
         #: The seconds that `retry_after` and `wait` ask for, where they were asked already.
@@ -107,8 +111,8 @@ class Progress:
 
     def succeeds(self) -> None:
         """Tells the limit that an attempt succeeded, or failed where it took too long for a success."""
-        slow, took = self.settings.slow_millis, self._took
-        if slow is not None and took is not None and took > slow + FLOAT_ERROR + abs(self._began) * GRAIN:
+        slow = self.settings.slow_millis
+        if slow is not None and (self._took or 0.0) > slow + FLOAT_ERROR + abs(self._began) * GRAIN:
             self.drawing.failed()
         else:
             self.drawing.succeeded()
@@ -268,10 +272,12 @@ class Progress:
         self.state.ending = Ending.DEADLINE
         return True
 
-    def wins(self) -> None:
-        """An attempt gave a result, of which nothing is asked."""
-        settings = self.settings
-        self.state.ending = Ending.WON
+    def wins(self, result: Any = None) -> None:
+        """An attempt gave a result, of which nothing is asked, where it was not told already."""
+        settings, state = self.settings, self.state
+        if state.outcome is None:
+            state.outcome = Outcome(result, None, state.attempt_number)
+        state.ending = Ending.WON
         if settings.asks_limit:
             self.drawing.succeeded()
         elif settings.deposit_won is not None:
@@ -280,7 +286,7 @@ class Progress:
     def parks(self) -> None:
         """Lets its machine serve others while it waits, where many do, so that a retry that waits is small."""
         machine = self._machine
-        if is_crowded() and machine is not None and machine.loan is None:
+        if machine is not None and machine.loan is None:
             # (it is given up first: a signal handler may raise an exception at any step)
             self._machine = None
             self._parked = park(machine)
@@ -323,7 +329,8 @@ class Progress:
         settings = self.settings
         grants, most, start = settings.grants, settings.deadline_millis, self.state.start_time
         self._float_error = self._rounds = FLOAT_ERROR + abs(start) * GRAIN
-        self._origin = moment(start + seconds) if grants.reads_clock else self._whole(seconds)
+        origin = moment(start + seconds) if grants.reads_clock else 0
+        self._origin = min(origin, MAX_NUMBER - _MOST)
         deadline = NO_DEADLINE if most is None else self._last_start(most - seconds * 1000 + self._float_error)
         try:
             machine = idle.pop()
@@ -374,7 +381,7 @@ class HeldProgress(Progress):
             pass  # it was never begun, or its budget is being freed with it
 
 
-#: No retry that comes this far is near the last moment that there is.
+#: A retry that takes no longer than this does not come to the last moment that there is.
 _MOST = MAX_NUMBER // 4
 #: In the place of an attempt that failed, and of which nobody asks how.
 _FAILED = Outcome()

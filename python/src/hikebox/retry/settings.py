@@ -7,8 +7,6 @@ from typing import TYPE_CHECKING, Any, Callable, Dict, Generic, Iterable, List, 
 
 from .._time import MAX_NUMBER
 from ..budgets.passes import Grants
-from ..limits import CallLimit
-from ..limits.limit import Asked
 from ..policy import Policy
 from ..policy.plan import Plan
 from .deadline import Deadline
@@ -18,6 +16,8 @@ from .state import RetryState, code_of
 __all__ = ["Settings"]
 
 if TYPE_CHECKING:
+    from ..limits.limit import Holding
+
     HasOptions = Options  # whose attributes are those of a Retrying; here they are plain ones
 else:
     HasOptions = object
@@ -81,7 +81,7 @@ class Settings(HasOptions):
     #: but to tell that.
     is_quiet: bool
     #: What asks such a limit before such an attempt.
-    asks_first: Optional[Callable[[], Asked]]
+    asks_first: Optional[Callable[[], Holding]]
     #: Whether `retry_after` or `wait` may ask for a longer wait.
     asks: bool
     #: Whether something may take time between a failure and its wait.
@@ -128,8 +128,9 @@ class Settings(HasOptions):
         self.asks = self.retry_after is not None or self.wait is not None
         looks = self.on_result is not None or self.slow_millis is not None
         self.is_quiet = not (self.repeats or self.hooks_before or self.hooks_on_success or looks)
-        limit, self.asks_first = self.limit, None
-        if isinstance(limit, CallLimit):
+        limit: Any = self.limit
+        self.asks_first = None
+        if self.asks_limit:
             self.asks_first = limit.look_or_ask if limit.rests else limit.ask
         self.draws_elsewhere = self.drawing is not None and not self.asks_limit
         self.takes_time = bool(self.hooks_after or self.asks or self.draws_elsewhere or self.stop is not None)

@@ -14,6 +14,7 @@ from __future__ import annotations
 import enum
 from typing import Any, Callable, Generator, Tuple, Union
 
+from .._engine.machine import is_crowded
 from ..errors import NotAdmitted, ResultRefused
 from .marks import log_end, mark
 from .progress import Progress
@@ -30,9 +31,10 @@ __all__ = [
     "Signal",
     "Steps",
     "Want",
-    "asked",
+    "begins",
     "ended",
     "judged",
+    "relay",
     "steps",
 ]
 
@@ -61,7 +63,7 @@ def steps(progress: Progress, is_counted: bool = False, is_judged: bool = False)
     """The steps of a retry. Its request may be counted already. Where its attempts are judged by others, each outcome
     is one that is retried, and they say what comes of the last one."""
     settings, state = progress.settings, progress.state
-    goes_on = (is_counted and (not settings.asks_limit or progress.drawing)) or _begins(progress, is_counted)
+    goes_on = (is_counted and (not settings.asks_limit or progress.drawing)) or begins(progress, is_counted)
     outcome = None
     is_at_hand = False
     while goes_on:
@@ -91,7 +93,7 @@ def steps(progress: Progress, is_counted: bool = False, is_judged: bool = False)
         for hook in settings.hooks_before_sleep:
             yield hook, state
         outcome, is_at_hand = None, False
-        if settings.awaits and delay > 0.0:
+        if settings.awaits and delay > 0.0 and is_crowded():
             progress.parks()
         yield 0.0 if switch.no_waits else delay
         goes_on = progress.wakes()
@@ -99,7 +101,7 @@ def steps(progress: Progress, is_counted: bool = False, is_judged: bool = False)
     yield OVER if is_judged else (yield from ended(progress, is_at_hand))
 
 
-def _begins(progress: Progress, is_counted: bool) -> bool:
+def begins(progress: Progress, is_counted: bool = False) -> bool:
     """Counts the request, or asks the limit: whether the first attempt is made."""
     settings, state = progress.settings, progress.state
     if settings.asks_limit:
@@ -187,8 +189,8 @@ def ended(progress: Progress, is_at_hand: bool = False) -> Part:
     return OVER
 
 
-def asked(driven: Steps, want: Any) -> Generator[Ask, Any, Settled]:
-    """Hands on the calls that a retry wants, to who drives the steps that it is a part of, up to a wait or a signal."""
+def relay(driven: Steps, want: Any) -> Generator[Ask, Any, Settled]:
+    """Relays the calls that a retry wants to who drives the steps that it is a part of, up to a wait or a signal."""
     while type(want) is tuple:
         function, argument = want
         want = driven.send((yield function, argument))

@@ -100,7 +100,8 @@ def sleep_of_asyncio() -> Sleep:
 
     def wake(waits: Wake) -> None:
         waits.timer = None  # which has it, too
-        _resolve(waits)
+        if not waits.done():
+            waits.set_result(None)
 
     def sleep(seconds: float) -> Any:
         loop = get_running_loop()

@@ -3,6 +3,7 @@
 from __future__ import annotations
 
 import sys
+import threading
 from collections import deque
 from typing import TYPE_CHECKING, Any, Deque, Protocol, Tuple
 
@@ -30,15 +31,18 @@ class Watcher(Protocol):
 class _Watch:
     """The watchers, and what they have not been told yet.
 
-    A finalizer may end a call in the middle of a watcher's work, whose locks the same thread then holds. So what such a
-    call is told by waits for the next one.
+    A finalizer, or the handler of a signal, may end a call in the middle of a watcher's work, whose locks the same
+    thread then holds. So what a finalizer's call is told by waits for the next one, and what a handler's is for the end
+    of that work.
     """
 
-    __slots__ = ("watchers", "_untold")
+    __slots__ = ("watchers", "_untold", "_here")
 
     def __init__(self) -> None:
         self.watchers: Tuple[Watcher, ...] = ()
         self._untold: Deque[Tuple[Any, ...]] = deque()
+        #: Whether this thread tells watchers.
+        self._here = threading.local()
 
     def succeeded(self, fn: Any) -> None:
         """A call succeeded at its first attempt."""
@@ -62,19 +66,30 @@ class _Watch:
         self._tell()
 
     def _tell(self) -> None:
-        """Tells the watchers what they have not been told yet. What they raise is logged, and ends no call."""
-        while True:
-            try:
-                event, *told = self._untold.popleft()
-            except IndexError:
-                return
-            for watcher in self.watchers:
-                try:
-                    getattr(watcher, event)(*told)
-                except Exception:
-                    import logging  # which others need not load
+        """Tells the watchers what they have not been told yet, one call after the other."""
+        here = self._here
+        if getattr(here, "tells", False):
+            return
+        try:
+            here.tells = True
+            while self._untold:
+                self._tell_next()
+        finally:
+            here.tells = False
 
-                    logging.getLogger("hikebox").exception("%r could not count a call", watcher)
+    def _tell_next(self) -> None:
+        """Tells them of the next call, where no other thread does. What they raise is logged, and ends no call."""
+        try:
+            event, *told = self._untold.popleft()
+        except IndexError:
+            return
+        for watcher in self.watchers:
+            try:
+                getattr(watcher, event)(*told)
+            except Exception:
+                import logging  # which others need not load
+
+                logging.getLogger("hikebox").exception("%r could not count a call", watcher)
 
 
 watch = _Watch()

@@ -14,7 +14,7 @@ from ..policy import Policy
 from ..policy import builders
 from ..policy.spelling import duration, spelt_in_rust
 from ..limits.terms import NO_MOST, LimitTerms
-from .parameters import Parameters, Span
+from .parameters import RANGES, TIMES, Parameters, Span
 from .populations import Clients
 
 if TYPE_CHECKING:
@@ -22,8 +22,7 @@ if TYPE_CHECKING:
 
 __all__ = ["imports_of", "in_command", "in_python", "in_rust", "in_scenario"]
 
-_COUNTS = ("rate", "together", "seconds", "capacity", "queue", "replicas", "down", "calls")
-_TIMES = ("patience", "window", "until")
+_COUNTS = [name for name in RANGES if name not in TIMES and name != "words"]
 _PLAIN = Parameters()
 
 
@@ -135,7 +134,7 @@ def imports_of(spelt: str, names: Set[str]) -> str:
 def _python_arguments(policy: Policy, parameters: Parameters) -> List[Tuple[str, str]]:
     changed = _changed(parameters)
     found = [(name, str(changed[name])) for name in _COUNTS if name in changed]
-    found += [(name, seconds_text(changed[name])) for name in _TIMES if changed.get(name) is not None]
+    found += [(name, seconds_text(changed[name])) for name in TIMES if changed.get(name) is not None]
     if "outage" in changed:
         outage = parameters.outage
         found.append(("outage", "None" if outage == Span(0, 0) else f"({', '.join(map(seconds_text, outage))})"))
@@ -205,7 +204,7 @@ def _rust_beside(policy: Policy, parameters: Parameters) -> Tuple[str, List[str]
 def _rust_calls(parameters: Parameters) -> List[str]:
     changed = _changed(parameters)
     found: List[Any] = [f"{name}({changed[name]})" for name in _COUNTS if name in changed]
-    found += [f"{name}({duration(changed[name])})" for name in _TIMES if changed.get(name) is not None]
+    found += [f"{name}({duration(changed[name])})" for name in TIMES if changed.get(name) is not None]
     if "outage" in changed:
         begins, ends = parameters.outage
         found.append("no_outage()" if begins == ends == 0 else f"outage({duration(begins)}..{duration(ends)})")

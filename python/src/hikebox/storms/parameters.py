@@ -16,6 +16,7 @@ __all__ = [
     "MAX_SEED",
     "RANGES",
     "SCENARIOS",
+    "TIMES",
     "Limited",
     "Parameters",
     "RateSpan",
@@ -49,8 +50,8 @@ RANGES: Dict[str, Tuple[int, int]] = {
     "calls": (1, 2**32),
     "words": (0, MAX_SEED),
 }
-#: Those that are milliseconds.
-_TIMES = ("patience", "window", "until", "outage", "slow", "rates")
+#: Those of them that are milliseconds.
+TIMES = ("patience", "window", "until")
 
 
 #: What retries draw on: None, the limit of a budget, the terms of a quota, or a limit of another system.
@@ -333,5 +334,6 @@ def look_at_picture(width: object, title: object) -> None:
 
 def _look_at(name: str, number: int, least: int, most: int) -> None:
     if not least <= number <= most:
-        unit = " ms" if name in _TIMES or name.endswith(".patience") else ""
+        is_time = name in (*TIMES, "outage", "slow", "rates") or name.endswith(".patience")
+        unit = " ms" if is_time else ""
         raise StormError(name, f"expected {least} to {most}{unit}, got {shown(number)}")

@@ -29,8 +29,8 @@ class Population:
     `patience`
         How long they wait for a call. None is the storm's patience.
     `limited`
-        Whether they draw on the storm's limit, as the clients of its own policy do. If not, nothing
-        limits them, and they are not counted.
+        Whether they draw on the storm's limit, as the clients of its own policy do. If not, nothing limits them, and no
+        quota counts their requests.
 
     >>> from hikebox import recurs
     >>> Population(0.3, recurs(3))

@@ -20,8 +20,10 @@ from .populations import MAX_PATIENCE, Clients, Population, percent_of
 
 __all__ = ["Population", "PopulationReport", "Storm", "StormRow", "StormTotals", "storm"]
 
-#: What a storm is played with where nothing is said.
+#: What a storm is played with where nothing is said, and the times of that in seconds.
 _PLAIN = Parameters()
+_PATIENCE, _WINDOW = _PLAIN.patience / 1000, _PLAIN.window / 1000
+_OUTAGE = _PLAIN.outage.begins / 1000, _PLAIN.outage.ends / 1000
 
 
 class StormRow(NamedTuple):
@@ -207,21 +209,21 @@ class Storm(_Report):
 def storm(
     policy: Union[Policy, str, bytes, Dict[str, Any]],
     *,
-    rate: int = 800,
+    rate: int = _PLAIN.rate,
     rates: Sequence[Tuple[Duration, Duration, int]] = (),
-    together: int = 1,
-    seconds: int = 60,
-    capacity: int = 1000,
-    patience: Duration = 0.5,
-    queue: int = 5000,
-    replicas: int = 1,
-    outage: Optional[Tuple[Duration, Duration]] = (10, 20),
+    together: int = _PLAIN.together,
+    seconds: int = _PLAIN.seconds,
+    capacity: int = _PLAIN.capacity,
+    patience: Duration = _PATIENCE,
+    queue: int = _PLAIN.queue,
+    replicas: int = _PLAIN.replicas,
+    outage: Optional[Tuple[Duration, Duration]] = _OUTAGE,
     down: Optional[int] = None,
     slow: Optional[Tuple[Duration, Duration, float]] = None,
-    window: Duration = 1,
+    window: Duration = _WINDOW,
     until: Optional[Duration] = None,
-    calls: int = 16_777_216,
-    seed: int = 0,
+    calls: int = _PLAIN.calls,
+    seed: int = _PLAIN.words,
     limit: Union[None, int, str, Budget, Quota, CallLimit] = None,
     beside: Sequence[Population] = (),
     arrivals: Optional[Iterable[Duration]] = None,

@@ -3,4 +3,4 @@ use Rattle.std.proofs.Common.{inl}
 use Rattle.hikebox_c.proofs.limits.breaker.Goals as goal
 
 pub returns-in-Some : goal.returns-in-Some
-returns-in-Some c = inl (c.in-Some.breaker, c.in-Some.ensures, c.breaker.ensures)
+returns-in-Some c = inl (c.in-Some.breaker, c.in-Some.ensures.some, c.breaker.ensures)

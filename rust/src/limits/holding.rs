@@ -9,7 +9,7 @@ use std::sync::Arc;
 
 /// What a call holds of a limit that it asked before its first run.
 #[derive(Debug, Default)]
-pub enum Asked {
+pub enum Holding {
     /// Nothing, of a limit that is not asked.
     #[default]
     Nothing,
@@ -38,7 +38,7 @@ impl Quiet {
     }
 }
 
-impl Asked {
+impl Holding {
     /// Looks at the limit, and asks it where it is not quiet.
     #[inline]
     pub(crate) fn ask(&mut self, limit: &CallLimit) -> Result<(), Refused> {
@@ -58,7 +58,7 @@ impl Asked {
     }
 }
 
-impl Held for Asked {
+impl Held for Holding {
     #[inline]
     fn succeeded(&mut self, limit: &(impl Limit + ?Sized)) -> bool {
         match (self, limit.call_limit()) {
