@@ -67,7 +67,8 @@ returns g c =
     }
 
 pub invariant_of-self : goal.invariant_of-self
-invariant_of-self g c = (
-  unbegun g.D.Draws.grants c.args.self.now.driver.driver.plan c.args.deadline c.cancel.new.self.drawing,
-  (returns g c).stands,
-)
+invariant_of-self g c =
+    let again = returns g c in (
+      unbegun g.D.Draws.grants c.args.self.now.driver.driver.plan c.args.deadline again.cancelled.drawing,
+      again.stands,
+    )
