@@ -30,10 +30,9 @@
  * handle with HIKEBOX_INIT, which holds nothing. A call that makes something puts it into an empty handle. From then on
  * the handle owns it, until a call frees it, or takes it away and leaves the handle empty. A call is refused by a
  * status if a handle is empty, if it holds another kind (by a cast, or from a language that does not tell them apart),
- * or if the handle to fill already holds something. No call takes a handle as `const`, not even one that only reads:
- * during each call the library takes what the handle holds, and puts it back before the call returns. So two threads
- * must not read through one handle at once; for a policy, hikebox_policy_share gives the second thread a handle of its
- * own.
+ * or if the handle to fill already holds something. No call takes a handle as `const`, not even one that only reads,
+ * since a call may change what the handle holds. So two threads must not read through one handle at once; for a policy,
+ * hikebox_policy_share gives the second thread a handle of its own.
  *
  * STATUSES. Each call returns a hikebox_status. If it is not HIKEBOX_OK, nothing has changed: no handle, nothing that a
  * handle holds, and no result, unless the call's comment says otherwise. Each refusal has one status. If several apply,
@@ -662,9 +661,10 @@ hikebox_status hikebox_leased_free(hikebox_leased *leased);
 /* ---- Limits ------------------------------------------------------------------------------------------------------ */
 
 /*
- * Limits of other systems: a bucket of tokens, a bound on the retries in flight, a circuit breaker, and a throttle. The
- * makers differ, and the calls don't. Each thread asks with a handle of its own, which hikebox_limit_split gives it. A
- * handle serves one request at a time. A call takes no lock and no memory, and never waits.
+ * Limits of other systems: a bucket of tokens, a bound on the retries in flight, an adaptive bound on the requests in
+ * flight, a circuit breaker, and a throttle. The makers differ, and the calls don't. Each thread asks with a handle of
+ * its own, which hikebox_limit_split gives it. A handle serves one request at a time. A call takes no lock and no
+ * memory, and never waits.
  *
  *     won = false;
  *     status = hikebox_limit_admit(&limit, now(), random(), &number);
@@ -685,9 +685,6 @@ hikebox_status hikebox_leased_free(hikebox_leased *leased);
  * when its handle is freed, what it still holds is given back, once. `random` is a random number of 32 bits, which only
  * a throttle reads. `cost` is in thousandths of a token, and only a bucket reads it. `number` is written if the call is
  * refused: the level of the bucket, or the moment until which the breaker is open, and otherwise 0.
- *
- * A handle of a limit is told apart from other handles by its C type alone. No cast may make one of another handle, nor
- * another handle of one.
  */
 
 /* A bucket. Its levels are in thousandths of a token, and it is full at first. */

@@ -318,7 +318,10 @@ impl Quota {
     /// Counts a request at this instant.
     #[inline]
     pub(crate) fn deposit_by_clock(&self, now: Moment) {
-        let count = |own: &mut Option<Counter>| own.as_mut().map_or(false, |counter| counter.count(now, 1));
+        let count = |own: &mut Option<Counter>| match own {
+            Some(counter) => counter.count(now, 1),
+            None => false,
+        };
         if self.passes().own.own(count) != Some(true) {
             self.count(now, 1);
         }

@@ -14,6 +14,6 @@ class Limit:
 
     __slots__ = ()
 
-    #: Whether it is a `CallLimit`, and whether it has a limit for each key.
+    # (whether it is a `CallLimit`, and whether it has a limit for each key)
     IS_ASKED: ClassVar[bool] = False
     HAS_KEYS: ClassVar[bool] = False
