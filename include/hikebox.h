@@ -1235,14 +1235,12 @@ hikebox_status hikebox_retry_cancel(hikebox_retry *retry);
 HIKEBOX_CHECKED hikebox_status hikebox_retry_end(hikebox_retry *retry, hikebox_pass *pass);
 
 /*
- * Begins a retry again in the memory that it has: its pass, with the tickets that it was granted, is joined into
- * `pass`, as by hikebox_retry_end, and it is then one that has not begun, by the same policy, with a pass that is split
- * off and this deadline, as by hikebox_retry_new. One that is not over is cancelled. Where the call is refused nothing
- * changes.
- * HIKEBOX_TOO_LARGE, of the deadline; _EMPTY, of either; _WRONG_KIND, of the retry first, then of the pass;
- * _DRAWS_ELSEWHERE; _TOO_MANY_PASSES.
+ * Begins a retry again with the memory and the pass that it has: it is then one that has not begun, by the same policy,
+ * with this deadline. The pass keeps the tickets that it was granted: `granted` does not count them, and
+ * hikebox_retry_end joins them with the rest. One that is not over is cancelled. Where the call is refused nothing
+ * changes. HIKEBOX_TOO_LARGE, of the deadline; _EMPTY; _WRONG_KIND.
  */
-HIKEBOX_CHECKED hikebox_status hikebox_retry_again(hikebox_retry *retry, hikebox_pass *pass, uint64_t deadline);
+HIKEBOX_CHECKED hikebox_status hikebox_retry_again(hikebox_retry *retry, uint64_t deadline);
 
 /* Frees the retry and its pass: the budget or the quota can't be closed after that. HIKEBOX_EMPTY; _WRONG_KIND. */
 hikebox_status hikebox_retry_free(hikebox_retry *retry);

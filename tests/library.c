@@ -326,8 +326,6 @@ static int handles(void) {
             wants(hikebox_retry_new(&other_policy, handle, HIKEBOX_NO_DEADLINE, (hikebox_retry *)&spare), refused);
             wants(hikebox_retry_end(&other_machine, handle), refused);
             wants(hikebox_retry_end(&quota_machine, handle), refused);
-            wants(hikebox_retry_again(&other_machine, handle, HIKEBOX_NO_DEADLINE), refused);
-            wants(hikebox_retry_again(&quota_machine, handle, 9), refused);
         }
         // A budget has no windows, and a quota no limit.
         if (kind != QUOTA) wants(hikebox_pass_seen(handle, 0, &usage), refused);
@@ -340,8 +338,8 @@ static int handles(void) {
             wants(hikebox_retry_cancel(handle), refused);
             wants(hikebox_retry_end(handle, &other_pass), refused);
             wants(hikebox_retry_end(handle, &other_quota), refused);
-            wants(hikebox_retry_again(handle, &other_pass, HIKEBOX_NO_DEADLINE), refused);
-            wants(hikebox_retry_again(handle, &other_quota, 9), refused);
+            wants(hikebox_retry_again(handle, HIKEBOX_NO_DEADLINE), refused);
+            wants(hikebox_retry_again(handle, 9), refused);
             wants(hikebox_retry_free(handle), refused);
         }
         if (kind != LIMIT) {
@@ -919,10 +917,6 @@ static void drawings(void) {
     wants(hikebox_retry_end(&on_budget, (hikebox_pass *)&often), HIKEBOX_WRONG_KIND);
     wants(hikebox_retry_end(&on_budget, &quota), HIKEBOX_DRAWS_ELSEWHERE);
     wants(hikebox_retry_end(&free_machine, &quota), HIKEBOX_DRAWS_ELSEWHERE);
-    wants(hikebox_retry_again(&machine, &none, 9), HIKEBOX_EMPTY);
-    wants(hikebox_retry_again(&machine, &pass, 9), HIKEBOX_DRAWS_ELSEWHERE);
-    wants(hikebox_retry_again(&free_machine, &quota, 9), HIKEBOX_DRAWS_ELSEWHERE);
-    wants(hikebox_retry_again(&on_budget, &quota, 9), HIKEBOX_DRAWS_ELSEWHERE);
     wants(hikebox_retry_end(&machine, &quota), HIKEBOX_OK);
     wants(hikebox_retry_end(&on_budget, &pass), HIKEBOX_OK);
     closes(&quota, 4);
@@ -942,59 +936,55 @@ static void drawings(void) {
     wants(hikebox_policy_free(&policy), HIKEBOX_OK);
 }
 
-// Retries that begin again: whether they are over or not, with another deadline, from moment 0 on, and with what they
-// drew joined into the pass.
+// Retries that begin again: whether they are over or not, with another deadline, from moment 0 on, and with the pass that
+// they have.
 static void agains(void) {
     hikebox_policy policy = HIKEBOX_INIT;
-    hikebox_pass pass = HIKEBOX_INIT, part = HIKEBOX_INIT, least = HIKEBOX_INIT, quota = HIKEBOX_INIT;
+    hikebox_pass pass = HIKEBOX_INIT, quota = HIKEBOX_INIT;
     hikebox_retry machine = HIKEBOX_INIT;
     wants(read_policy("{\"meet\":[{\"recurs\":2},{\"spaced\":100}]}", &policy), HIKEBOX_OK);
     wants(hikebox_budget_rising(5, &pass), HIKEBOX_OK);
     wants(hikebox_retry_new(&policy, &pass, HIKEBOX_NO_DEADLINE, &machine), HIKEBOX_OK);
     fails(&machine, 50, 70, HIKEBOX_WAIT, 1);
-    counts(&pass, 0);
     // While it waits.
-    wants(hikebox_retry_again(&machine, &pass, HIKEBOX_NO_DEADLINE), HIKEBOX_OK);
-    counts(&pass, 1);
+    wants(hikebox_retry_again(&machine, HIKEBOX_NO_DEADLINE), HIKEBOX_OK);
+    counts(&pass, 0);
     fails(&machine, 0, 10, HIKEBOX_WAIT, 1);
     fails(&machine, 110, 120, HIKEBOX_WAIT, 2);
     fails(&machine, 220, 230, HIKEBOX_OVER, 2);
     ended(&machine, HIKEBOX_ENDED_DONE, 3);
     // Nothing changes where it is refused.
-    wants(hikebox_retry_again(&machine, &pass, HIKEBOX_MAX_NUMBER + 1), HIKEBOX_TOO_LARGE);
-    wants(hikebox_pass_split(&pass, &part), HIKEBOX_OK);
-    wants(hikebox_pass_split(&part, &least), HIKEBOX_OK);
-    wants(hikebox_retry_again(&machine, &least, HIKEBOX_NO_DEADLINE), HIKEBOX_TOO_MANY_PASSES);
+    wants(hikebox_retry_again(&machine, HIKEBOX_MAX_NUMBER + 1), HIKEBOX_TOO_LARGE);
     ended(&machine, HIKEBOX_ENDED_DONE, 3);
-    counts(&least, 0);
     // The start at 110 is in time, and the one at 210 is not.
-    wants(hikebox_retry_again(&machine, &part, 209), HIKEBOX_OK);
-    counts(&part, 2);
+    wants(hikebox_retry_again(&machine, 209), HIKEBOX_OK);
     fails(&machine, 10, 10, HIKEBOX_WAIT, 1);
     fails(&machine, 110, 110, HIKEBOX_OVER, 1);
     ended(&machine, HIKEBOX_ENDED_DEADLINE, 2);
     // The fifth ticket is the last one, until the limit rises.
-    wants(hikebox_retry_again(&machine, &pass, HIKEBOX_NO_DEADLINE), HIKEBOX_OK);
+    wants(hikebox_retry_again(&machine, HIKEBOX_NO_DEADLINE), HIKEBOX_OK);
     fails(&machine, 0, 0, HIKEBOX_WAIT, 1);
     fails(&machine, 100, 100, HIKEBOX_OVER, 1);
     ended(&machine, HIKEBOX_ENDED_LIMIT_REFUSED, 2);
-    wants(hikebox_retry_again(&machine, &pass, HIKEBOX_NO_DEADLINE), HIKEBOX_OK);
+    wants(hikebox_retry_again(&machine, HIKEBOX_NO_DEADLINE), HIKEBOX_OK);
     wants(hikebox_retry_cancel(&machine), HIKEBOX_OK);
-    wants(hikebox_retry_again(&machine, &pass, HIKEBOX_NO_DEADLINE), HIKEBOX_OK);
+    wants(hikebox_retry_again(&machine, HIKEBOX_NO_DEADLINE), HIKEBOX_OK);
     fails(&machine, 0, 0, HIKEBOX_OVER, 0);
     ended(&machine, HIKEBOX_ENDED_LIMIT_REFUSED, 1);
+    // All tickets are in its pass.
+    counts(&pass, 0);
     wants(hikebox_retry_end(&machine, &pass), HIKEBOX_OK);
-    wants(hikebox_pass_join(&pass, &part), HIKEBOX_OK);
-    wants(hikebox_pass_join(&pass, &least), HIKEBOX_OK);
     closes(&pass, 5);
     // The latest ticket of a quota comes back by the pass into which the retry ended.
     wants(hikebox_quota_new(0, 1, 0, 100, false, &quota), HIKEBOX_OK);
     wants(hikebox_retry_new(&policy, &quota, HIKEBOX_NO_DEADLINE, &machine), HIKEBOX_OK);
     fails(&machine, 0, 0, HIKEBOX_WAIT, 1);
+    wants(hikebox_retry_again(&machine, HIKEBOX_NO_DEADLINE), HIKEBOX_OK);
     wants(hikebox_pass_hand_back(&quota), HIKEBOX_NOTHING_TO_HAND_BACK);
-    wants(hikebox_retry_again(&machine, &quota, HIKEBOX_NO_DEADLINE), HIKEBOX_OK);
+    wants(hikebox_retry_end(&machine, &quota), HIKEBOX_OK);
     counts(&quota, 1);
     wants(hikebox_pass_hand_back(&quota), HIKEBOX_OK);
+    wants(hikebox_retry_new(&policy, &quota, HIKEBOX_NO_DEADLINE, &machine), HIKEBOX_OK);
     fails(&machine, 0, 0, HIKEBOX_WAIT, 1);
     wants(hikebox_retry_end(&machine, &quota), HIKEBOX_OK);
     closes(&quota, 1);
@@ -1927,7 +1917,7 @@ static int calls(void) {
     again(hikebox_pass_seen(&quota_part, 0, &usage));
     holds(number == 0 && usage.asked == 1 && usage.given == 1 && usage.left == 1);
     again(hikebox_retry_new(&policy, &quota, HIKEBOX_NO_DEADLINE, &machine));
-    again(hikebox_retry_again(&machine, &quota, HIKEBOX_NO_DEADLINE));
+    again(hikebox_retry_again(&machine, HIKEBOX_NO_DEADLINE));
     again(hikebox_retry_end(&machine, &quota));
     again(hikebox_pass_join(&quota, &quota_part));
     again(hikebox_pass_count(&quota, &number));

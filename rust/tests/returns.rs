@@ -224,6 +224,12 @@ fn the_ticket_that_comes_back_is_none_of_a_retry_before_by_the_same_policy() {
     by_hand(&[None, lost, None, lost, None]);
     by_hand(&[None, lost]);
     assert_eq!(quota.seen().left, 2);
+    // one that succeeds at once drew none
+    let returning = quota.clone().returning_tickets();
+    let mut machine = Machine::new(&policy, &returning).unwrap();
+    assert_eq!(machine.step(at(0), None), Step::Run);
+    assert_eq!(machine.step(at(0), Some(Report::Won(0))), Step::Over(Ending::Won));
+    drop((machine, returning));
     assert_eq!(quota.close().unwrap(), 3);
 }
 

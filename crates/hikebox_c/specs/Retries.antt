@@ -32,17 +32,10 @@ abbrev pub NewRetryBy : Result (Option ℕ) Status → Option Held → Option He
 NewRetryBy (Ok deadline) policy pass left u code v = NewRetry deadline policy pass left u code v
 NewRetryBy (Err s) policy pass left u code v = (left ≡ pass) × Puts u code v (Err s)
 
--- a retry ends into a pass and begins again, where both are there
-abbrev pub AgainHeld : Option ℕ → Option Held → Option Held → ℕ → Option Held → Option Held → Type 0
-AgainHeld deadline (Some x) (Some y) code u v =
-    (r : Result (Unit {0}) Status) × (n e : Held) × (u ≡ Some n) × (v ≡ Some e) × Again deadline x y r n e
-    × (code ≡ told r)
-AgainHeld deadline x y code u v = (u ≡ x) × (v ≡ y) × (code ≡ code_of Empty)
-
--- the same by this deadline, which is looked at first
-abbrev pub AgainBy : Result (Option ℕ) Status → Option Held → Option Held → ℕ → Option Held → Option Held → Type 0
-AgainBy (Ok deadline) x y code u v = AgainHeld deadline x y code u v
-AgainBy (Err s) x y code u v = (u ≡ x) × (v ≡ y) × (code ≡ code_of s)
+-- a retry begins again with this deadline, which is looked at first
+abbrev pub AgainBy : Result (Option ℕ) Status → Option Held → ℕ → Option Held → Type 0
+AgainBy (Ok deadline) u code v = OnHeld (Again deadline) u v (λ r. code ≡ told r)
+AgainBy (Err s) u code v = (v ≡ u) × (code ≡ code_of s)
 
 -- the run that a number and a code report, if any
 abbrev pub Reports : ℕ → ℕ → Result (Option Ran) Status → Type 0

@@ -1,6 +1,7 @@
 //! Retries.
 ghost use Rattle.std.specs.Prelude.{◌≡◌, ◌≢◌, ◌<◌, ◌≤◌, Err};
 ghost use Rattle.sched_time.specs.declared.numbers.TheConstants.{FAR};
+ghost use Rattle.sched_handle.specs.Again.{Again};
 ghost use Rattle.sched_handle.specs.Fills.{Frees};
 ghost use Rattle.sched_handle.specs.Passes.{AreOfOne};
 ghost use Rattle.sched_handle.specs.Retries.{Cancels};
@@ -9,7 +10,7 @@ ghost use Rattle.sched_handle.specs.declared.held.Kind.TheVariants as kind;
 ghost use Rattle.sched_handle.specs.declared.status.Status.TheVariants as status;
 ghost use Rattle.hikebox_c.specs.Calls.{Tells, OnHeld};
 ghost use Rattle.hikebox_c.specs.Passes.{JoinsHeld};
-ghost use Rattle.hikebox_c.specs.Retries.{deadline_of, NewRetry, NewRetryBy, AgainBy, AgainHeld, Reports, PollsAt};
+ghost use Rattle.hikebox_c.specs.Retries.{deadline_of, NewRetry, NewRetryBy, AgainBy, Reports, PollsAt};
 
 use crate::joins::join_into;
 use sched_effect::Ran;
@@ -179,27 +180,22 @@ pub extern "C" fn hikebox_retry_end(alloc: Global, retry: &mut Handle, pass: &mu
 }
 
 #[unsafe(no_mangle)]
-pub extern "C" fn hikebox_retry_again(retry: &mut Handle, pass: &mut Handle, deadline: u64) -> u32
-    requires { AreOfOne pass.old.held retry.old.held }
-    ensures { AgainBy (deadline_of deadline) retry.old.held pass.old.held result retry.new.held pass.new.held }
+pub extern "C" fn hikebox_retry_again(retry: &mut Handle, deadline: u64) -> u32
+    ensures { AgainBy (deadline_of deadline) retry.old.held result retry.new.held }
 {
     match deadline_at(deadline) {
-        Ok(deadline) => begin_again(retry, pass, deadline),
+        Ok(deadline) => begin_again(retry, deadline),
         Err(status) => status.code(),
     }
 }
 
-fn begin_again(retry: &mut Handle, pass: &mut Handle, deadline: Option<Moment>) -> u32
-    requires { AreOfOne pass.old.held retry.old.held }
-    ensures { AgainHeld deadline retry.old.held pass.old.held result retry.new.held pass.new.held }
+fn begin_again(retry: &mut Handle, deadline: Option<Moment>) -> u32
+    ensures { OnHeld (Again deadline) retry.old.held retry.new.held (λ r. result ≡ told r) }
 {
     let Some(held) = retry.as_mut() else {
         return Status::Empty.code();
     };
-    let Some(into) = pass.as_mut() else {
-        return Status::Empty.code();
-    };
-    let begun = held.again(into, deadline);
+    let begun = held.again(deadline);
     tell_status(begun)
 }
 

@@ -1,15 +1,12 @@
 //! Calls on retries.
 ghost use Rattle.std.specs.Prelude.{◌≡◌, [], IfErr};
 ghost use Rattle.sched_driver_stepper.specs.Standing.{standing_after};
-ghost use Rattle.sched_handle.specs.Again.{EndsAndBegins, Again};
-ghost use Rattle.sched_handle.specs.Passes.{drawing_of, DrawOnOne};
+ghost use Rattle.sched_handle.specs.Again.{Again};
 ghost use Rattle.sched_handle.specs.Retries.{IsFresh, Begins, Retries};
 ghost use Rattle.sched_handle.specs.Replies.{answer_in};
-ghost use Rattle.sched_ticket_draws.specs.Passes.{OfOne};
 ghost use Rattle.sched_handle.specs.Retries.{IsPoll, RetryPolls, Polls, Rans, Shows, Cancels};
 ghost use Rattle.sched_handle.specs.Retries.{reply_to, how_number, left_number};
 
-use crate::drawing;
 use crate::held::Held;
 use crate::passes::split_off;
 use crate::replies::Reply;
@@ -94,17 +91,16 @@ impl Held {
         }
     }
 
-    /// Ends the retry into a pass, and begins it again with a pass that is split off that one, and with this deadline
-    /// or none. One that is not over is cancelled first. It takes no memory.
+    /// Begins the retry again with the pass that it has, and with this deadline or none. One that is not over is
+    /// cancelled first. It takes no memory.
     #[inline(always)]
-    pub fn again(&mut self, pass: &mut Held, deadline: Option<Moment>) -> Result<(), Status>
-        requires one { DrawOnOne (drawing_of pass.old) (drawing_of self.old) }
-        ensures { Again deadline self.old pass.old result self.new pass.new }
+    pub fn again(&mut self, deadline: Option<Moment>) -> Result<(), Status>
+        ensures { Again deadline self.old result self.new }
     {
         match self {
             Held::Retry(retry) => {
-                let pass = pass.pass_mut()?;
-                end_and_begin(retry, pass, deadline)
+                retry.again(deadline);
+                Ok(())
             }
             Held::Room => Err(Status::WrongKind),
             Held::Policy(_) => Err(Status::WrongKind),
@@ -165,25 +161,6 @@ fn begun_by_tree(
         Ok(stepper) => begun(alloc, stepper, deadline, pass),
         Err(_) => Err(Status::NoMemory),
     }
-}
-
-// Ends the retry into this pass, and begins it again with a pass that is split off.
-#[inline(always)]
-fn end_and_begin(
-    retry: &mut Machine<Until<Stepper>, Drawing>,
-    pass: &mut Drawing,
-    deadline: Option<Moment>,
-) -> Result<(), Status>
-    requires one { OfOne pass.old retry.old.drawing }
-    ensures { EndsAndBegins deadline retry.old pass.old result retry.new pass.new }
-{
-    if !pass.is_like(retry.drawing()) {
-        return Err(Status::DrawsElsewhere);
-    }
-    let part = drawing::split(pass)?;
-    let drawn = retry.again(deadline, part);
-    pass.take_in(drawn);
-    Ok(())
 }
 
 // A retry that has not begun.

@@ -11,12 +11,12 @@ use Rattle.sched_run_machine.specs.Machine.{Machine, begins, unbegun, Cancels, I
 abbrev pub unstepped_until : Schedule → Option ℕ → Until Standing
 unstepped_until plan deadline = record { driver = standing_after plan []; deadline = deadline }
 
--- It is cancelled where it is not over, and what it drew by comes out. It is then one of the same plan that has not
--- begun, with this deadline, and draws by the other value: the retry that has done nothing yet is among those that it
--- may stand for.
-pub record BeginsAgain {D : Type 0} (grants : Grants D) (deadline : Option ℕ) (drawing : D)
-    (m : Machine (Until Standing) D) (drawn : D) (n : Machine (Until Standing) D) : Type 0 where
-  pub cancels : (k : Machine (Until Standing) D) × Cancels grants m k × (drawn ≡ k.drawing)
-  pub begins_so : n ≡ begins grants (unstepped_until m.driver.driver.plan deadline) drawing
+-- It is cancelled where it is not over. It is then one of the same plan that has not begun, with this deadline, and draws
+-- by what it drew by: the retry that has done nothing yet is among those that it may stand for.
+pub record BeginsAgain {D : Type 0} (grants : Grants D) (deadline : Option ℕ)
+    (m n : Machine (Until Standing) D) : Type 0 where
+  pub cancelled : Machine (Until Standing) D
+  pub cancels : Cancels grants m cancelled
+  pub begins_so : n ≡ begins grants (unstepped_until m.driver.driver.plan deadline) cancelled.drawing
   pub stands : IsMachineOf (by_until by_stepper) (a_retry false) grants n
-      (unbegun grants m.driver.driver.plan deadline drawing)
+      (unbegun grants m.driver.driver.plan deadline cancelled.drawing)

@@ -22,7 +22,6 @@ use sched_ticket_draws::{Draws, Unlimited};
 use sched_time::{Moment, Tick};
 use std::alloc::Global;
 use std::marker::{Model, PhantomData};
-use std::mem;
 
 /// What makes a call that is run again and again, as its driver's schedule says: a retry until it succeeds, with a
 /// ticket for each run after a failure, or a repeat until it fails, without tickets. It says when to run the call and
@@ -85,18 +84,17 @@ impl<R: Drives, D: Draws> Machine<R, D, Retries> {
 
 impl<D: Draws> Machine<Until<Stepper>, D> {
     /// Begins again: it is then the machine of a retry that has not begun, of the same plan, with this deadline or
-    /// none, that draws by this value. What it drew by before comes out; one that is not over is cancelled. It takes no
-    /// memory.
-    pub fn again(&mut self, deadline: Option<Moment>, drawing: D) -> D
-        ensures { BeginsAgain D.grants deadline drawing self.old result self.new }
+    /// none, that draws by what it drew by. One that is not over is cancelled. It takes no memory.
+    #[inline(always)]
+    pub fn again(&mut self, deadline: Option<Moment>)
+        ensures { BeginsAgain D.grants deadline self.old self.new }
     {
         self.cancel();
         self.driver.reset(deadline);
-        self.had = drawing.granted();
+        self.had = self.drawing.granted();
         self.under_way = false;
         self.over = None;
         self.told = 0;
-        mem::replace(&mut self.drawing, drawing)
     }
 }
 

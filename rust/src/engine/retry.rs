@@ -63,11 +63,11 @@ impl Handle<RetryKind> {
         debug_assert!(told);
     }
 
-    /// Gives its pass back to one of the same, and begins again with a new one that is split off that, and with this
-    /// deadline. Where it is refused, it stays as it is.
+    /// Begins again with its pass, which keeps the tickets that it has, and with a deadline as of [`Self::begin`].
     #[inline]
-    pub(crate) fn again(&mut self, pass: &mut Handle<PassKind>, deadline: u64) -> Result<(), Status> {
-        Status::of(unsafe { hikebox_retry_again(self.raw(), pass.raw(), deadline) })
+    pub(crate) fn again(&mut self, deadline: u64) {
+        let status = unsafe { hikebox_retry_again(self.raw(), deadline) };
+        debug_assert_eq!(status, OK);
     }
 
     /// Gives its pass back to one of the same: it holds nothing then.

@@ -507,7 +507,7 @@ extern "C" {
     pub(super) fn hikebox_retry_ran(retry: *mut Raw, run: *const Run, next: *mut Next) -> u32;
     pub(super) fn hikebox_retry_cancel(retry: *mut Raw) -> u32;
     pub(super) fn hikebox_retry_end(retry: *mut Raw, pass: *mut Raw) -> u32;
-    pub(super) fn hikebox_retry_again(retry: *mut Raw, pass: *mut Raw, deadline: u64) -> u32;
+    pub(super) fn hikebox_retry_again(retry: *mut Raw, deadline: u64) -> u32;
     pub(super) fn hikebox_retry_free(retry: *mut Raw) -> u32;
 
     #[cfg(feature = "leased")]

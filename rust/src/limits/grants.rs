@@ -258,9 +258,9 @@ mod sealed {
             Lender::begin_on_nothing(policy, deadline, retry)
         }
 
-        /// Takes back what a retry has, which is over or dropped: whether it waits for a run that never began, or has
-        /// succeeded.
-        fn end(&self, retry: &mut Begun, _waits: bool, _won: bool) {
+        /// Takes back what a retry has, which is over or dropped, and was granted so many tickets: whether it waits for a
+        /// run that never began, or has succeeded.
+        fn end(&self, retry: &mut Begun, _granted: u64, _waits: bool, _won: bool) {
             Lender::end_on_nothing(retry);
         }
     }
@@ -388,9 +388,9 @@ impl Limit for Budget {
         self.lend(retry, |lender, retry| lender.begin(policy, deadline, retry))
     }
 
-    fn end(&self, retry: &mut Begun, _waits: bool, _won: bool) {
+    fn end(&self, retry: &mut Begun, granted: u64, _waits: bool, _won: bool) {
         let ended = self.lend(retry, |lender, retry| {
-            lender.end(retry);
+            lender.end(retry, granted);
             Ok(())
         });
         debug_assert_eq!(ended, Ok(()));
@@ -430,8 +430,11 @@ impl Limit for Quota {
         self.lock().begin(policy, deadline, retry)
     }
 
-    fn end(&self, retry: &mut Begun, waits: bool, won: bool) {
-        self.ends(retry, waits || (won && self.returns_tickets));
+    fn end(&self, retry: &mut Begun, granted: u64, waits: bool, won: bool) {
+        match granted > 0 && (waits || (won && self.returns_tickets)) {
+            true => self.lock().end_returning(retry, granted),
+            false => self.lock().end(retry, granted),
+        }
     }
 }
 
@@ -513,8 +516,8 @@ impl Limit for AnyLimit {
         self.get().begin(policy, deadline, retry)
     }
 
-    fn end(&self, retry: &mut Begun, waits: bool, won: bool) {
-        self.get().end(retry, waits, won);
+    fn end(&self, retry: &mut Begun, granted: u64, waits: bool, won: bool) {
+        self.get().end(retry, granted, waits, won);
     }
 }
 

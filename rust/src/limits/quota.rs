@@ -5,7 +5,7 @@ use crate::clock::{whole_millis, Moment};
 use crate::engine::quota_allows;
 use crate::engine::{Handle, PassKind, Status, Used};
 use crate::limits::error::LimitError;
-use crate::limits::lender::{Begun, Lender};
+use crate::limits::lender::Lender;
 use crate::limits::part::{Part, Passes, Root};
 use crate::limits::per_key::Counted;
 use crate::limits::terms::thousandths;
@@ -394,21 +394,7 @@ impl Quota {
         root.close().map_err(|_| again(Self::of(root, made).shared))
     }
 
-    /// Takes the pass of a retry back, which is over or dropped, and its latest ticket where that comes back.
-    pub(crate) fn ends(&self, retry: &mut Begun, returns_ticket: bool) {
-        let root = &mut *self.lock();
-        match if returns_ticket { root.pass.split().ok() } else { None } {
-            // (the latest ticket of a pass of its own is the retry's)
-            Some(mut part) => {
-                retry.handle.end(&mut part);
-                part.hand_back();
-                root.pass.join(part);
-            }
-            None => root.end(retry),
-        }
-    }
-
-    pub(super) fn lock(&self) -> MutexGuard<'_, Lender> {
+    pub(crate) fn lock(&self) -> MutexGuard<'_, Lender> {
         self.passes().root()
     }
 

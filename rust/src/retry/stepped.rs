@@ -188,7 +188,7 @@ impl Stepped {
         if self.drawn.is_some() {
             self.withdraw(limit);
         }
-        limit.end(&mut self.retry, self.waits, self.won);
+        limit.end(&mut self.retry, self.told.granted, self.waits, self.won);
     }
 }
 

@@ -38,37 +38,37 @@ returns g c =
       driver = (c.reset.ensures.driver ∙ ap (λ (u : Until Standing). standing_after u.driver.plan []) same) i;
       deadline = c.reset.ensures.deadline i;
     }) in
+    let drawing : c.self.inside.drawing ≡ k.drawing =
+    ap (λ (n : Machine (Until Standing) _). n.drawing) c.self.view_is in
     let begun : record {
       driver = c.reset.new.self;
       under_way = false;
       over = None;
-      drawing = c.replace.new.dest;
+      drawing = c.self.inside.drawing;
       had = c.granted-self-inside.result;
       told = 0;
-    } ≡ begins grants (unstepped_until plan c.args.deadline) c.args.drawing =
+    } ≡ begins grants (unstepped_until plan c.args.deadline) k.drawing =
     (λ i. record {
       driver = until i;
       under_way = false;
       over = None;
-      drawing = c.replace.ensures.after i;
-      had = c.granted-self-inside.ensures.granted i;
+      drawing = drawing i;
+      had = (c.granted-self-inside.ensures.granted ∙ ap grants.granted drawing) i;
       told = 0;
     }) in
     record {
-      cancels = (
-        k,
-        c.cancel.ensures.cancelled,
-        c.replace.ensures.value ∙ ap (λ (n : Machine (Until Standing) _). n.drawing) c.self.view_is,
-      );
+      cancelled = k;
+      cancels = c.cancel.ensures.cancelled;
       begins_so = begun;
       stands = subst (λ (n : Machine (Until Standing) _). IsMachineOf (by_until by_stepper) (a_retry false) grants n
-          (unbegun grants plan c.args.deadline c.args.drawing)) (sym begun)
-          (stands grants g.met.D.Draws.lawful plan c.args.deadline c.args.drawing
-          c.granted-self-inside.ensures.stands);
+          (unbegun grants plan c.args.deadline k.drawing)) (sym begun)
+          (stands grants g.met.D.Draws.lawful plan c.args.deadline k.drawing
+          (subst grants.stands drawing c.granted-self-inside.ensures.stands));
     }
 
 pub invariant_of-self : goal.invariant_of-self
-invariant_of-self g c = (
-  unbegun g.D.Draws.grants c.args.self.now.driver.driver.plan c.args.deadline c.args.drawing,
-  (returns g c).stands,
-)
+invariant_of-self g c =
+    let again = returns g c in (
+      unbegun g.D.Draws.grants c.args.self.now.driver.driver.plan c.args.deadline again.cancelled.drawing,
+      again.stands,
+    )
