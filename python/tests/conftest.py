@@ -77,13 +77,16 @@ class RedisServer:
         raise RuntimeError("redis-server did not start")
 
     def _answers(self, port: int, process: Any) -> bool:
-        """Waits until it answers, and not another server on its port: False where it ended."""
+        """Waits until it answers with all its data, and not another server on its port: False where it ended."""
         until = time.monotonic() + 60
         while process.poll() is None and time.monotonic() < until:
             try:
-                return bool(self.client(port).info("server")["process_id"] == process.pid)
+                told = self.client(port).info()
+                if told["process_id"] != process.pid or not told["loading"]:
+                    return bool(told["process_id"] == process.pid)
             except Exception:
-                time.sleep(0.05)
+                pass
+            time.sleep(0.05)
         return False
 
     def stop(self) -> None:

@@ -172,12 +172,17 @@ def looks_the_same(terms: LimitTerms, limit: Candidate) -> None:
     assert set(terms.times) == set(limit.tickets.times) == ({1000 * limit.open_for} - {0}), limit.name
 
 
+def names() -> Dict[str, Any]:
+    """What the package has, as a program that imports all of it sees it."""
+    return {name: getattr(hikebox, name) for name in hikebox.__all__}
+
+
 def test_each_limit_is_spelt_as_it_is_played(tmp_path: Path) -> None:
     tried = candidates(500)
     assert [kind for kind in KINDS if kind not in {each.kind for each in tried}] == []
     assert len(tried) == len({each.name for each in tried}) == 73
     for each in tried:
-        made = eval(each.python, dict(vars(hikebox)))
+        made = eval(each.python, names())
         if isinstance(made, CallLimit):
             looks_the_same(made.on_storm(), each)
         else:
@@ -196,7 +201,7 @@ def test_each_limit_is_spelt_as_it_is_played(tmp_path: Path) -> None:
 
 def test_a_probe_has_as_long_as_the_clients_wait() -> None:
     def deadlines(patience: int) -> List[int]:
-        return [eval(each.python, dict(vars(hikebox))).terms[3] for each in candidates(patience, ["breaker"])]
+        return [eval(each.python, names()).terms[3] for each in candidates(patience, ["breaker"])]
 
     assert set(deadlines(500)) == {1000} and set(deadlines(2345)) == {2345}
 

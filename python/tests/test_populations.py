@@ -227,9 +227,9 @@ def test_the_engine_has_each_policy_and_want_of_memory_is_told(monkeypatch: pyte
         return calls.NO_MEMORY
 
     monkeypatch.setattr(engines_storms, "_patient", {"hikebox_storm_play_populations": no_memory}.__getitem__)
-    for beside in ([], [Population(0.3, FULL)], [Population(0.1, FULL)] * 3):
+    for count in (0, 1, 3):
         with pytest.raises(MemoryError, match="^hikebox_storm_play_populations: "):
-            storm(FULL, beside=beside)
+            storm(FULL, beside=[Population(0.1, FULL)] * count)
     assert asked == [[True, False, False, False], [True, True, False, False], [True] * 4]
 
 

@@ -11,7 +11,6 @@ from .._time import FLOAT_ERROR, GRAIN, MAX_NUMBER, moment
 from ..budgets.passes import Ends
 from ..budgets.tickets import Refusal
 from ..errors import HikeboxError
-from ..limits.limit import Holding
 from ..policy.preview import word_of
 from .deadline import Deadline
 from .marks import DEBUG, late, log_wait
@@ -19,6 +18,7 @@ from .state import ENDINGS, Ending, Outcome, RetryState
 from .watch import watch
 
 if TYPE_CHECKING:
+    from ..limits.limit import Holding
     from ..retrying import BaseRetrying
 
 __all__ = ["HeldProgress", "Progress"]
