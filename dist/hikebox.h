@@ -30,10 +30,9 @@
  * handle with HIKEBOX_INIT, which holds nothing. A call that makes something puts it into an empty handle. From then on
  * the handle owns it, until a call frees it, or takes it away and leaves the handle empty. A call is refused by a
  * status if a handle is empty, if it holds another kind (by a cast, or from a language that does not tell them apart),
- * or if the handle to fill already holds something. No call takes a handle as `const`, not even one that only reads:
- * during each call the library takes what the handle holds, and puts it back before the call returns. So two threads
- * must not read through one handle at once; for a policy, hikebox_policy_share gives the second thread a handle of its
- * own.
+ * or if the handle to fill already holds something. No call takes a handle as `const`, not even one that only reads,
+ * since a call may change what the handle holds. So two threads must not read through one handle at once; for a policy,
+ * hikebox_policy_share gives the second thread a handle of its own.
  *
  * STATUSES. Each call returns a hikebox_status. If it is not HIKEBOX_OK, nothing has changed: no handle, nothing that a
  * handle holds, and no result, unless the call's comment says otherwise. Each refusal has one status. If several apply,
@@ -354,15 +353,19 @@ typedef struct {
  * Writes what the policy does along a course, as `zsched plan` prints it: a line for each event, up to the first at
  * which it does not go on. Event k has the input and the words of number k of the `given` ones at `events`; each event
  * past them has those of the last. The lines go to `lines`, which has room for `capacity`, and their number to `count`.
- * Their outputs go as text to `text`, which has room for `room`, one after another and with no zero byte: `()`, a
- * decimal number, `(a, b)` or `[a, b, c]`. The number of all these bytes goes to `length`. HIKEBOX_WRONG_SIZE;
- * _OUT_OF_RANGE, of a number of the course or an input, and if there is no event; _EMPTY; _WRONG_KIND; _NO_MEMORY;
- * _NO_ROOM, of either, and then `count` and `length` are the room that is needed.
+ * HIKEBOX_WRONG_SIZE; _OUT_OF_RANGE, of a number of the course or an input, and if there is no event; _EMPTY;
+ * _WRONG_KIND; _NO_MEMORY; _NO_ROOM, and then `count` is the room that is needed.
  */
 HIKEBOX_CHECKED hikebox_status hikebox_policy_course(hikebox_policy *policy, const hikebox_course *course,
                                                      const hikebox_event *events, size_t given, hikebox_line *lines,
-                                                     size_t capacity, size_t *count, char *text, size_t room,
-                                                     size_t *length);
+                                                     size_t capacity, size_t *count);
+
+/* Writes the outputs of the same lines as text, one after another and with no zero byte: `()`, a decimal number,
+ * `(a, b)` or `[a, b, c]`. They go to `text`, which has room for `room`, and the number of all their bytes, the last
+ * line's `text_to`, to `length`. The same refusals; with _NO_ROOM, `length` is the room that is needed. */
+HIKEBOX_CHECKED hikebox_status hikebox_policy_outputs(hikebox_policy *policy, const hikebox_course *course,
+                                                      const hikebox_event *events, size_t given, char *text,
+                                                      size_t room, size_t *length);
 
 /* Frees the handle's share of the policy. HIKEBOX_EMPTY; _WRONG_KIND. */
 hikebox_status hikebox_policy_free(hikebox_policy *policy);
@@ -658,9 +661,10 @@ hikebox_status hikebox_leased_free(hikebox_leased *leased);
 /* ---- Limits ------------------------------------------------------------------------------------------------------ */
 
 /*
- * Limits of other systems: a bucket of tokens, a bound on the retries in flight, a circuit breaker, and a throttle. The
- * makers differ, and the calls don't. Each thread asks with a handle of its own, which hikebox_limit_split gives it. A
- * handle serves one request at a time. A call takes no lock and no memory, and never waits.
+ * Limits of other systems: a bucket of tokens, a bound on the retries in flight, an adaptive bound on the requests in
+ * flight, a circuit breaker, and a throttle. The makers differ, and the calls don't. Each thread asks with a handle of
+ * its own, which hikebox_limit_split gives it. A handle serves one request at a time. A call takes no lock and no
+ * memory, and never waits.
  *
  *     won = false;
  *     status = hikebox_limit_admit(&limit, now(), random(), &number);
@@ -681,9 +685,6 @@ hikebox_status hikebox_leased_free(hikebox_leased *leased);
  * when its handle is freed, what it still holds is given back, once. `random` is a random number of 32 bits, which only
  * a throttle reads. `cost` is in thousandths of a token, and only a bucket reads it. `number` is written if the call is
  * refused: the level of the bucket, or the moment until which the breaker is open, and otherwise 0.
- *
- * A handle of a limit is told apart from other handles by its C type alone. No cast may make one of another handle, nor
- * another handle of one.
  */
 
 /* A bucket. Its levels are in thousandths of a token, and it is full at first. */
@@ -1234,14 +1235,12 @@ hikebox_status hikebox_retry_cancel(hikebox_retry *retry);
 HIKEBOX_CHECKED hikebox_status hikebox_retry_end(hikebox_retry *retry, hikebox_pass *pass);
 
 /*
- * Begins a retry again in the memory that it has: its pass, with the tickets that it was granted, is joined into
- * `pass`, as by hikebox_retry_end, and it is then one that has not begun, by the same policy, with a pass that is split
- * off and this deadline, as by hikebox_retry_new. One that is not over is cancelled. Where the call is refused nothing
- * changes.
- * HIKEBOX_TOO_LARGE, of the deadline; _EMPTY, of either; _WRONG_KIND, of the retry first, then of the pass;
- * _DRAWS_ELSEWHERE; _TOO_MANY_PASSES.
+ * Begins a retry again with the memory and the pass that it has: it is then one that has not begun, by the same policy,
+ * with this deadline. The pass keeps the tickets that it was granted: `granted` does not count them, and
+ * hikebox_retry_end joins them with the rest. One that is not over is cancelled. Where the call is refused nothing
+ * changes. HIKEBOX_TOO_LARGE, of the deadline; _EMPTY; _WRONG_KIND.
  */
-HIKEBOX_CHECKED hikebox_status hikebox_retry_again(hikebox_retry *retry, hikebox_pass *pass, uint64_t deadline);
+HIKEBOX_CHECKED hikebox_status hikebox_retry_again(hikebox_retry *retry, uint64_t deadline);
 
 /* Frees the retry and its pass: the budget or the quota can't be closed after that. HIKEBOX_EMPTY; _WRONG_KIND. */
 hikebox_status hikebox_retry_free(hikebox_retry *retry);
@@ -1284,6 +1283,18 @@ typedef struct {
      * limit refuses its first calls, and no quota counts its requests: 0. */
     uint64_t limited;
 } hikebox_population;
+
+/* The policies of a storm's populations. A further handle that is empty stands for the policy of the first. */
+typedef struct {
+    hikebox_policy first;
+    hikebox_policy second;
+    hikebox_policy third;
+    hikebox_policy fourth;
+} hikebox_policies;
+
+/* No policies yet. */
+#define HIKEBOX_POLICIES                                                                                               \
+    { HIKEBOX_INIT, HIKEBOX_INIT, HIKEBOX_INIT, HIKEBOX_INIT }
 
 /* A storm: many requests, on a peer that fails for a while. All are under one policy, or they are of up to four
  * populations of clients, each with its policy. Moments and durations are in milliseconds, from 0 on. HIKEBOX_STORM has
@@ -1404,6 +1415,8 @@ typedef struct {
 typedef struct {
     /* The size of this struct. */
     size_t size;
+    /* The windows of the report. */
+    uint64_t windows;
     /* The requests, and how they ended: won; lost, if the policy was done; denied, if there was no ticket, or if a
      * limit refused them; or open. */
     uint64_t requests;
@@ -1433,42 +1446,36 @@ typedef struct {
 } hikebox_totals;
 
 #define HIKEBOX_TOTALS                                                                                                 \
-    { sizeof(hikebox_totals), 0, 0, 0, 0, 0, 0, 0, 0, 0, 0, 0, 0, 0, 0, false, false }
+    { sizeof(hikebox_totals), 0, 0, 0, 0, 0, 0, 0, 0, 0, 0, 0, 0, 0, 0, 0, false, false }
 
 /* Plays a storm of requests under the policy, as `zsched storm` does; all populations have it. The windows of its
- * report go to `windows`, which has room for `capacity`, their number to `count`, and its totals to `totals`. The room
- * that is needed is until / window, rounded down, and one more. A report on one population counts its requests and
- * their calls alone, and its last window is that of their last event. Two calls with the same parameters write the
- * same. The call returns once the whole storm is played; only `calls` cuts it short. HIKEBOX_WRONG_SIZE, of the storm
- * or the totals; _OUT_OF_RANGE, of a parameter; _NO_ROOM, and then `count` is the room that is needed; _EMPTY;
- * _WRONG_KIND; _NO_MEMORY. */
+ * report go to `windows`, which has room for `capacity`, and their number with its totals to `totals`. The room that is
+ * needed is until / window, rounded down, and one more. A report on one population counts its requests and their calls
+ * alone, and its last window is that of their last event. Two calls with the same parameters write the same. The call
+ * returns once the whole storm is played; only `calls` cuts it short. HIKEBOX_WRONG_SIZE, of the storm or the totals;
+ * _OUT_OF_RANGE, of a parameter; _NO_ROOM, and then `totals->windows` is the room that is needed; _EMPTY; _WRONG_KIND;
+ * _NO_MEMORY. */
 HIKEBOX_CHECKED hikebox_status hikebox_storm_play(hikebox_policy *policy, const hikebox_storm *storm,
-                                                  hikebox_window *windows, size_t capacity, size_t *count,
-                                                  hikebox_totals *totals);
+                                                  hikebox_window *windows, size_t capacity, hikebox_totals *totals);
 
-/* The same, of populations of which each has its own policy: `policy` is that of the first population. A further
- * handle that is empty stands for the first one's policy. All policies stay in their handles. Pass four different
- * handles, even for the same policy. For a report on each population, play the same storm once for each, with another
- * `of`. HIKEBOX_WRONG_SIZE, of the storm or the totals; _OUT_OF_RANGE, of a parameter; _NO_ROOM, and then `count` is
- * the room that is needed; _EMPTY, of `policy`; _WRONG_KIND, of any of the four; _NO_MEMORY, at any point. */
-HIKEBOX_CHECKED hikebox_status hikebox_storm_play_populations(hikebox_policy *policy, hikebox_policy *second,
-                                                              hikebox_policy *third, hikebox_policy *fourth,
-                                                              const hikebox_storm *storm, hikebox_window *windows,
-                                                              size_t capacity, size_t *count, hikebox_totals *totals);
-
-/* The same, of requests that come at moments of their own: `arrivals` has `arrivals_count` of them, in milliseconds, at
- * most 1,048,576, none before that in front of it and none after 7,200,000. Each is the moment of one request, in the
- * place of the storm's `rate`, `together`, `seconds` and phases, which must be in their ranges all the same. If
- * `arrivals_count` is 0 the requests come by these, and `arrivals` may be any pointer that is not null. A request whose
- * moment is after `until` is none of the storm's. The call reads the moments while it runs, and keeps none.
- * HIKEBOX_WRONG_SIZE, of the storm or the totals; _OUT_OF_RANGE, of a parameter or a moment, or of too many; _NO_ROOM,
- * and then `count` is the room that is needed; _EMPTY, of `policy`; _WRONG_KIND, of any of the four; _NO_MEMORY, at any
- * point. */
-HIKEBOX_CHECKED hikebox_status hikebox_storm_play_arrivals(hikebox_policy *policy, hikebox_policy *second,
-                                                           hikebox_policy *third, hikebox_policy *fourth,
-                                                           const hikebox_storm *storm, const uint64_t *arrivals,
-                                                           size_t arrivals_count, hikebox_window *windows,
-                                                           size_t capacity, size_t *count, hikebox_totals *totals);
+/*
+ * The same, of populations of which each has its own policy. All policies stay in their handles. For a report on each
+ * population, play the same storm once for each, with another `of`.
+ *
+ * The requests may come at moments of their own: `arrivals` has `given` of them, in milliseconds, at most 1,048,576,
+ * none before that in front of it and none after 7,200,000. Each is the moment of one request, in the place of the
+ * storm's `rate`, `together`, `seconds` and phases, which must be in their ranges all the same. If `given` is 0 the
+ * requests come by these, and `arrivals` may be any pointer that is not null. A request whose moment is after `until`
+ * is none of the storm's. The call reads the moments while it runs, and keeps none.
+ *
+ * HIKEBOX_WRONG_SIZE, of the storm or the totals; _OUT_OF_RANGE, of a parameter or a moment, or of too many moments;
+ * _NO_ROOM, and then `totals->windows` is the room that is needed; _EMPTY, of the first policy; _WRONG_KIND, of any of
+ * the four; _NO_MEMORY, at any point.
+ */
+HIKEBOX_CHECKED hikebox_status hikebox_storm_play_populations(hikebox_policies *policies, const hikebox_storm *storm,
+                                                              const uint64_t *arrivals, size_t given,
+                                                              hikebox_window *windows, size_t capacity,
+                                                              hikebox_totals *totals);
 
 #ifdef __cplusplus
 }
