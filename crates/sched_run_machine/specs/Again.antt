@@ -11,8 +11,8 @@ use Rattle.sched_run_machine.specs.Machine.{Machine, begins, unbegun, Cancels, I
 abbrev pub unstepped_until : Schedule → Option ℕ → Until Standing
 unstepped_until plan deadline = record { driver = standing_after plan []; deadline = deadline }
 
--- It is cancelled where it is not over. It is then one of the same plan that has not begun, with this deadline, and draws
--- by what it drew by: the retry that has done nothing yet is among those that it may stand for.
+-- It is cancelled where it is not over. It is then one of the same plan that has not begun, with this deadline, and
+-- draws by what it drew by: the retry that has done nothing yet is among those that it may stand for.
 pub record BeginsAgain {D : Type 0} (grants : Grants D) (deadline : Option ℕ)
     (m n : Machine (Until Standing) D) : Type 0 where
   pub cancelled : Machine (Until Standing) D
