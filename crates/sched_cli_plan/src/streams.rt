@@ -13,8 +13,8 @@ pub trait Source {
     // How many reads have failed, modulo 2^64.
     ghost failures: { Self → ℕ };
 
-    /// Puts some bytes at the front of `buf` and answers how many: none only at the end of the
-    /// input, or where `buf` has no room. A failed read takes no byte, and is counted.
+    /// Puts some bytes at the front of `buf` and answers how many: none only at the end of the input, or where `buf`
+    /// has no room. A failed read takes no byte, and is counted.
     fn read(&mut self, buf: &mut [u8]) -> io::Result<usize>
         ensures bound { ReadsAtMost result buf.new }
         ensures bytes { ReadConsumes (left self.old) (left self.new) result buf.new }
@@ -29,8 +29,8 @@ pub trait Sink {
     // How many writes have failed, modulo 2^64.
     ghost failures: { Self → ℕ };
 
-    /// Takes some bytes from the front of `buf` and answers how many. A failed write takes none. A
-    /// write that takes none of a `buf` that has some is counted as failed too.
+    /// Takes some bytes from the front of `buf` and answers how many. A failed write takes none. A write that takes
+    /// none of a `buf` that has some is counted as failed too.
     fn write(&mut self, buf: &[u8]) -> io::Result<usize>
         ensures bound { WritesAtMost result buf.now }
         ensures bytes { WriteAppends (taken self.old) (taken self.new) result buf.now }

@@ -18,8 +18,8 @@ const CHUNK: usize = 8192;
 
 /// Reads an input to its end, in at most 1,048,577 reads that take at most as many bytes.
 ///
-/// Refused with `ReadFailed` at the first read that fails, `TooLong` where the input has more than
-/// 1,048,576 bytes, and `NoMemory`.
+/// Refused with `ReadFailed` at the first read that fails, `TooLong` where the input has more than 1,048,576 bytes, and
+/// `NoMemory`.
 pub fn read_all<R: Source>(alloc: Global, reader: &mut R) -> Result<Vec<u8>, PrintFault>
     ensures bytes { MatchResult result
         (λ bytes. IsWholeInput (R.left reader.old) (R.left reader.new) bytes.items)

@@ -77,8 +77,8 @@ impl Compiled {
         self.plan.share()
     }
 
-    /// A stepper of the plan before its first event. It takes memory only for a record of more than 8 words, and for
-    /// a plan that has none.
+    /// A stepper of the plan before its first event. It takes memory only for a record of more than 8 words, and for a
+    /// plan that has none.
     pub fn stepper(&self, alloc: Global) -> Result<Stepper, NoMemory>
         ensures { IfOk result (λ stepper. stepper ≡ standing_after self.now []) }
     {

@@ -28,8 +28,8 @@ pub struct Breaker {
 }
 
 impl Breaker {
-    /// A breaker of these open times, of which the first `last + 1` count, whose clock begins at `now`. None where
-    /// it is to open after no failure, with no probe or more than 15, or with more than 64 open times.
+    /// A breaker of these open times, of which the first `last + 1` count, whose clock begins at `now`. None where it
+    /// is to open after no failure, with no probe or more than 15, or with more than 64 open times.
     pub fn new(
         now: Moment,
         failures: u32,

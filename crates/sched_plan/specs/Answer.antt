@@ -37,8 +37,8 @@ abbrev pub next_boundary : ℕ → ℕ → ℕ → ℕ
 next_boundary d f now = capped (now + (d - (now - f) % d))
 
 -- The start that `fixed d` plans at the last of the events, which stand newest first; f is the first moment.
--- At the first event that is f + d. At a later one let prev be the start planned at the event before: where now
--- is past prev + d the schedule is behind and goes on now, else at the next boundary.
+-- At the first event that is f + d. At a later one let prev be the start planned at the event before: where now is past
+-- prev + d the schedule is behind and goes on now, else at the next boundary.
 abbrev pub fixed_plan : ℕ → ℕ → List Event → ℕ
 fixed_plan d f [] = 0
 fixed_plan d f (e ∷ []) = capped (f + d)

@@ -7,8 +7,8 @@ use Rattle.sched_plan.specs.declared.history.Event.{Event}
 abbrev pub is_within : ℕ → ℕ → Event → Bool
 is_within d moment e = nat_lt (e.now - moment) d
 
--- The blocks of the history, where the first k events are passed over since an earlier block has them. A block is
--- its first event and the longest run of events after it that come less than d after that first one.
+-- The blocks of the history, where the first k events are passed over since an earlier block has them. A block is its
+-- first event and the longest run of events after it that come less than d after that first one.
 abbrev pub blocks_past : ℕ → ℕ → List Event → List (List Event)
 blocks_past d k [] = []
 blocks_past d (suc k) (e ∷ h) = blocks_past d k h

@@ -52,8 +52,8 @@ abbrev mutual
 abbrev pub part_of : Data → Part
 part_of d = record { json = d; plan = reading_of d }
 
--- the plan that a JSON value spells, or the first fault: first a node's own form, then its plans from left to
--- right, then what its builder refuses
+-- the plan that a JSON value spells, or the first fault: first a node's own form, then its plans from left to right,
+-- then what its builder refuses
 abbrev pub plan_of : Data → Result Schedule ReadFault
 plan_of d = (reading_of d).answer
 

@@ -10,8 +10,8 @@ use sched_plan::Plan;
 use serde_json::Value;
 use std::alloc::Global;
 
-/// The plan that a JSON value spells, or the first fault found: of each node first its own form is looked at, then
-/// its plans from left to right, then what its builder refuses. Only a node over other plans asks for memory.
+/// The plan that a JSON value spells, or the first fault found: of each node first its own form is looked at, then its
+/// plans from left to right, then what its builder refuses. Only a node over other plans asks for memory.
 #[tactic(auto, using(crate::proofs::Readings::leaf_read, crate::proofs::Readings::lacking_read, crate::proofs::Readings::one_read, crate::proofs::Readings::two_read))]
 pub fn read_plan(alloc: Global, value: &Value) -> Result<Plan, ReadFault>
     ensures { Reads result (reading_of (view value.now)) }

@@ -25,8 +25,7 @@ pub enum JobsChecked<'a> {
 }
 
 /// The jobs that a JSON value spells, or the first fault found, which is that of `read_jobs`, and its place: that of
-/// the whole, of a job, of the runs of a job, of one run, or of a value in a job's plan as
-/// `check_plan` finds it.
+/// the whole, of a job, of the runs of a job, of one run, or of a value in a job's plan as `check_plan` finds it.
 pub fn check_jobs(alloc: Global, value: &Value) -> Result<JobsChecked<'_>, NoMemory>
     ensures { IfOk result (JobsAreChecked (view value.now)) }
 {

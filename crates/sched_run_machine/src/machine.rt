@@ -212,8 +212,8 @@ impl<R: Drives, D: Draws, A: Aims> Machine<R, D, A> {
         self.told = self.told.saturating_add(1);
     }
 
-    /// Ends it as `Broken(NoMemory)`: memory is refused to the run under way or to one that begins at the tick,
-    /// or, where no run has begun, to its beginning.
+    /// Ends it as `Broken(NoMemory)`: memory is refused to the run under way or to one that begins at the tick, or,
+    /// where no run has begun, to its beginning.
     pub fn break_off(&mut self, _tick: &Tick, begun: bool)
         requires looks { Looks R.driving (A.kind R.driving.keeps) D.grants self.old _tick.now false }
         requires in_time { would_be_late (R.driving.ends self.old.driver) self.old _tick.now.now ≡ false }

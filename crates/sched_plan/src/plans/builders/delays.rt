@@ -46,8 +46,8 @@ impl Plan {
     }
 
     /// The plan with each delay times a ratio, rounded down, which the random word of the lane picks between `least`
-    /// and `most` thousandths. Refused as `OutOfRange` at a lane past 3, at a least ratio above the most and at a
-    /// most ratio past 10,000, `TooDeep`, `TooMany` or `NoMemory`.
+    /// and `most` thousandths. Refused as `OutOfRange` at a lane past 3, at a least ratio above the most and at a most
+    /// ratio past 10,000, `TooDeep`, `TooMany` or `NoMemory`.
     pub fn jitter(
         alloc: Global,
         lane: u64,

@@ -40,9 +40,9 @@ impl Plan {
         Ok(Plan::of_leaf(Leaf::Spaced(delay)))
     }
 
-    /// Goes on at the boundaries of intervals of `length` milliseconds, the first of which begins at the first
-    /// event, and at once where it is late by more than one interval; the output is how often it has recurred.
-    /// Refused as `OutOfRange` at 0 and past `FAR`.
+    /// Goes on at the boundaries of intervals of `length` milliseconds, the first of which begins at the first event,
+    /// and at once where it is late by more than one interval; the output is how often it has recurred. Refused as
+    /// `OutOfRange` at 0 and past `FAR`.
     pub fn fixed(length: u64) -> Result<Plan, PlanFault>
         ensures { result ≡ built_plan (leaf (Leaf.Fixed length)) }
     {
