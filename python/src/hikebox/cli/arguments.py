@@ -82,12 +82,15 @@ class Parser(argparse.ArgumentParser):
     def read(self, words: Optional[List[str]]) -> Any:
         """The parsed command line. A word that nobody takes ends the program."""
         words = sys.argv[1:] if words is None else words
+        # (the first one: argparse looks for a command past an option that there is not)
+        name = words[0].partition("=")[0] if words else ""
+        if name.startswith("-") and name.strip("-") and name not in self._option_string_actions:
+            self.refuse(name)
         given, rest = self.parse_known_args(words)
-        if given.parser is self and not rest:
+        if given.parser is self:
             self.error(f"expected a command ({', '.join(self._commands())}), got none")
         if rest:
-            owner = self if words[0] == rest[0] else given.parser
-            owner.refuse(rest[0])
+            given.parser.refuse(rest[0])
         return given
 
     def refuse(self, word: str) -> NoReturn:
@@ -95,8 +98,7 @@ class Parser(argparse.ArgumentParser):
         if not word.startswith("-"):
             self.error(f"unexpected word {word!r}")
         name = word.partition("=")[0]
-        known = [option for action in self._actions for option in action.option_strings]
-        self.error(f"there is no option {name}{_nearest(name, known)}")
+        self.error(f"there is no option {name}{_nearest(name, self._option_string_actions)}")
 
     def _check_value(self, action: argparse.Action, value: Any) -> None:
         if isinstance(action.choices, dict) and value not in action.choices:
