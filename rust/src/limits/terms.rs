@@ -203,7 +203,7 @@ impl Breaker {
     fn times(&self) -> Result<Vec<u64>, LimitError> {
         let course = Course { size: mem::size_of::<Course>(), steps: 64, from: 0, took: 0 };
         let mut policy = self.open_for.share().map_err(fault)?;
-        let (lines, _) = policy.course(course, &[Event { input: 0, words: [0; 4] }]).map_err(fault)?;
+        let lines = policy.course(&course, &[Event { input: 0, words: [0; 4] }]).map_err(fault)?;
         let times: Vec<u64> = lines.iter().filter(|line| line.goes_on).map(|line| line.start - line.moment).collect();
         match times.iter().max() {
             None => Err(out_of_range("open_for", "a policy that goes on at least once")),
