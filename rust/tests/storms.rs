@@ -365,8 +365,8 @@ fn what_is_out_of_range_is_named() {
         (told(storm().rate(20_000)), "expected at most 1048576 requests, got more: rate times seconds"),
         (told(storm().window(millis(1))), "expected at most 65537 windows, got more: until divided by window"),
         (
-            told(storm().quota(1, 20.0, SECOND)),
-            "expected a share of 0, or from 0.001 to 10 retries a request (0.2 is one for every five), got another",
+            told(storm().quota(1, 2000.0, SECOND)),
+            "expected a share of 0, or from 0.001 to 1000 retries a request (0.2 is one for every five), got another",
         ),
         (
             told(storm().quota(1, 0.1, Duration::ZERO)),
@@ -380,8 +380,8 @@ fn what_is_out_of_range_is_named() {
     assert_eq!(error, StormError::Tickets(LimitError::ReserveTooLarge));
     assert_eq!(error.to_string(), LimitError::ReserveTooLarge.to_string());
     assert!(error.source().is_none()); // (its text is that of the cause)
-    assert!(storm().quota(1, 20.0, SECOND).quota(1, 0.1, SECOND).play().is_ok());
-    assert!(storm().quota(1, 20.0, SECOND).budget(1).play().is_ok());
+    assert!(storm().quota(1, 2000.0, SECOND).quota(1, 0.1, SECOND).play().is_ok());
+    assert!(storm().quota(1, 2000.0, SECOND).budget(1).play().is_ok());
 }
 
 #[test]

@@ -115,17 +115,10 @@ def tickets_of(number: int, of: str, bounds: str) -> int:
 
 
 def _share_of(share: float) -> int:
-    if isinstance(share, bool) or not isinstance(share, (int, float)):
-        raise TypeError(f"expected a number of retries a request as the share, got {share!r}")
-    if not 0 <= share <= MAX_SHARE / 1000:
-        raise TermsError(f"expected a share from 0 to {MAX_SHARE // 1000} retries a request, got {shown(share)}")
-    thousandths = round(share * 1000)
-    if share > 0 and thousandths == 0:
-        raise TermsError(f"expected a share of 0 or at least 0.001 retries a request, got {share!r}")
-    return thousandths
+    return thousandths_of("a share", share, MAX_SHARE, " retries a request (0.2 is one for every five)")
 
 
-def thousandths_of(name: str, value: float, most: int) -> int:
+def thousandths_of(name: str, value: float, most: int, unit: str = "") -> int:
     """Returns a number in thousandths, of which there are at most so many, or raises a `TermsError`.
 
     >>> thousandths_of("the ratio", 0.1, 1000)
@@ -133,11 +126,9 @@ def thousandths_of(name: str, value: float, most: int) -> int:
     """
     if isinstance(value, bool) or not isinstance(value, (int, float)):
         raise TypeError(f"expected a number as {name}, got {value!r}")
-    if not (0 <= value <= most and round(value * 1000) <= most):
-        raise TermsError(f"expected {name} from 0 to {most / 1000:.13g}, got {shown(value)}")
-    thousandths = round(value * 1000)
-    if value > 0 and thousandths == 0:
-        raise TermsError(f"expected 0 or at least 0.001 as {name}, got {value!r}")
+    thousandths = round(value * 1000) if 0 <= value <= most else most + 1
+    if thousandths > most or (thousandths == 0 and value > 0):
+        raise TermsError(f"expected {name} of 0, or from 0.001 to {most / 1000:.13g}{unit}, got {shown(value)}")
     return thousandths
 
 
