@@ -7,10 +7,12 @@ import copy
 import gc
 import os
 import pickle
+import random
 import re
 import sys
 import threading
 from datetime import timedelta
+from types import SimpleNamespace
 from typing import Any, Callable, List, Optional
 
 import pytest
@@ -102,6 +104,30 @@ def test_aws() -> None:
         plain.succeeded()
     assert plain.draw() is None
     assert reason(plain.draw()) is RefusalReason.LEVEL_LOW
+
+
+def test_aws_is_the_standard_mode_of_botocore() -> None:
+    standard: Any = pytest.importorskip("botocore.retries.standard")
+    errors: Any = pytest.importorskip("botocore.exceptions")
+    quota, bucket, seed = standard.quota.RetryQuota(), Bucket.aws(), random.Random(20261130)
+    checker = standard.RetryQuotaChecker(quota)
+    kinds = (errors.ReadTimeoutError, errors.ConnectTimeoutError, errors.EndpointConnectionError)
+    refused = 0
+    for _ in range(300):
+        request, context = admitted(bucket), standard.RetryContext(1, request_context={})
+        is_granted = True
+        for _ in range(seed.randrange(4)):
+            if is_granted:
+                context.caught_exception = seed.choice(kinds)(endpoint_url="")
+                is_granted = checker.acquire_retry_quota(context)
+                assert (request.draw(context.caught_exception) is None) is is_granted
+        refused += not is_granted
+        if is_granted and seed.random() < 0.5:
+            checker.release_retry_quota(context.request_context, SimpleNamespace(status_code=200))
+            request.succeeded()
+        request.ended()
+        assert bucket.seen().level == quota.available_capacity
+    assert 0 < refused < 300
 
 
 def test_the_timeouts_of_clients_cost_what_a_timeout_does() -> None:
