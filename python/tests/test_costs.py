@@ -162,13 +162,17 @@ def test_the_policy_counts_from_the_first_attempt_also_where_that_is_slow(clock:
     assert (quota.seen().window, quota.seen().given, quota.granted) == (1, 1, 1)
 
 
-@pytest.mark.parametrize("limit", [Bucket(10**6), Breaker(5, spaced(30))], ids=lambda limit: type(limit).__name__)
-def test_a_success_on_a_quiet_limit_is_two_looks(limit: Any) -> None:
+@pytest.mark.parametrize("limit, looks", [(Bucket(10**6), 1), (Breaker(5, spaced(30)), 2)], ids=["Bucket", "Breaker"])
+def test_a_success_on_a_quiet_limit_is_a_look_and_one_before_where_it_may_refuse(limit: Any, looks: int) -> None:
     retrying, awaiting = Retrying(recurs(3), limit=limit), AsyncRetrying(recurs(3), limit=limit)
     retrying(succeeds)
     assert functions(lambda: retrying(succeeds)) == ["__call__", "run", "look_or_ask"]
     assert functions(lambda: asyncio.run(awaiting(succeeds_later))) == ["__call__", "run_async", "look_or_ask"]
     assert retrying.statistics.won == 2 and awaiting.statistics.won == 1
+    (place,), made = limit.idle, []
+    look = place.look
+    place.look = lambda: made.append(look())
+    assert (retrying(succeeds), len(made)) == (7, looks)
 
 
 @pytest.mark.parametrize("limit", [InFlight.envoy(), Throttle.google()], ids=lambda limit: type(limit).__name__)

@@ -60,7 +60,7 @@ class Bucket(CallLimit):
     __slots__ = ("_terms", "_cost", "_timeout_cost")
 
     has_costs = True
-    rests = True
+    rests = admits_all = True
 
     def __init__(
         self,
