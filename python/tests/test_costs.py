@@ -190,43 +190,35 @@ def test_a_success_on_another_limit_makes_its_three_calls(limit: Any) -> None:
 
 def test_a_failure_that_is_retried_on_a_quota_goes_through_few_functions() -> None:
     left = [1]
+    how: Any = {"policy": recurs(3) & spaced(0.001), "limit": Quota(99, 0, 3600), "sleep": lambda seconds: None}
+    retrying, awaiting = Retrying(**how), AsyncRetrying(**how)
 
     def call() -> None:
         left[0] -= 1
         if left[0] >= 0:
             raise ValueError
 
-    retrying = Retrying(recurs(3) & spaced(0.001), limit=Quota(99, 0, 3600), sleep=lambda seconds: None)
-    for _ in range(3):
-        left[0] = 1
-        seen: Set[Any] = set(codes(lambda: retrying(call)))
-    assert len(seen) <= 20
-    assert len({code.co_filename for code in seen}) <= 9
-
-
-def test_a_coroutine_and_a_loop_go_through_few_more() -> None:
-    left = [1]
-    how: Any = {"policy": recurs(3) & spaced(0.001), "limit": Quota(99, 0, 3600), "sleep": lambda seconds: None}
-    retrying, awaiting = Retrying(**how), AsyncRetrying(**how)
-
-    async def call() -> None:
-        left[0] -= 1
-        if left[0] >= 0:
-            raise ValueError
+    async def call_later() -> None:
+        call()
 
     def loop() -> None:
         for attempt in retrying:
             with attempt:
-                asyncio.run(call())
+                call()
 
     async def loop_later() -> None:
         async for attempt in awaiting:
             with attempt:
-                await call()
+                call()
 
-    runs: List[Any] = [(lambda: asyncio.run(awaiting(call)), 22), (loop, 30), (lambda: asyncio.run(loop_later()), 31)]
-    for run, most in runs:
+    runs: List[Any] = [
+        (lambda: retrying(call), 20, 9),
+        (lambda: asyncio.run(awaiting(call_later)), 22, 9),
+        (loop, 30, 10),
+        (lambda: asyncio.run(loop_later()), 31, 10),
+    ]
+    for run, functions_at_most, files_at_most in runs:
         for _ in range(3):
             left[0] = 1
             seen: Set[Any] = set(codes(run))
-        assert len(seen) <= most
+        assert len(seen) <= functions_at_most and len({code.co_filename for code in seen}) <= files_at_most
