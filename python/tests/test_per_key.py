@@ -531,7 +531,12 @@ def test_the_handler_of_a_signal_may_need_old_limits_alone_while_one_is_made() -
         with pytest.raises(RuntimeError, match="^make: expected a function that makes a limit, got one that asks for"):
             limits["new"]
 
-    limits: PerKey[Quota] = PerKey(lambda key: (key == "made" and signal.raise_signal(signal.SIGUSR1)) or quota_of(key))
+    def make(key: str) -> Quota:
+        if key == "made":
+            signal.raise_signal(signal.SIGUSR1)
+        return quota_of(key)
+
+    limits: PerKey[Quota] = PerKey(make)
     old, before = limits["old"], signal.signal(signal.SIGUSR1, handler)
     try:
         assert limits["made"].draw() and old.granted == 1 and list(limits) == ["old", "made"]

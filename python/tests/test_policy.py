@@ -717,9 +717,16 @@ def test_the_engine_computes_a_course_once_for_its_moments_and_once_for_its_outp
     from hikebox._engine.calls import library
 
     made: List[str] = []
+
+    def counted(name: str, call: Any) -> Any:
+        def counts(*given: Any) -> Any:
+            made.append(name)
+            return call(*given)
+
+        return counts
+
     for name in ("hikebox_policy_course", "hikebox_policy_outputs"):
-        call = getattr(library, name)
-        monkeypatch.setattr(library, name, lambda *given, name=name, call=call: (made.append(name), call(*given))[1])
+        monkeypatch.setattr(library, name, counted(name, getattr(library, name)))
     # 10 outputs of one digit, 90 of two and 200 of three: 790 bytes
     assert [step.output for step in recurs(400).preview(300)] == list(range(300))
     assert made == ["hikebox_policy_course", "hikebox_policy_outputs"]

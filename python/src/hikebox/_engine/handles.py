@@ -180,7 +180,7 @@ class PolicyHandle:
         if status != OK:
             raise refused("hikebox_policy_course", status)
         told = b""
-        if tells:
+        if tells and count.value:
             outputs = library.hikebox_policy_outputs
             told = _text("hikebox_policy_outputs", lambda *room: outputs(*along, *room), lines[count.value - 1].text_to)
         return _decided(ctypes.string_at(lines, count.value * ctypes.sizeof(Line)), told.decode())
