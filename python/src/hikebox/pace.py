@@ -2,10 +2,10 @@
 
 from __future__ import annotations
 
-import math
 import threading
 import time
 from functools import wraps
+from math import floor
 from typing import Any, Callable, List, Optional, Tuple, TypeVar
 
 from ._engine.paces import PaceHandle
@@ -291,7 +291,8 @@ class Pace(Pacing):
 
 def _moment(told: float) -> int:
     """The moment of a pace at which its clock tells this: whole milliseconds."""
-    return max(0, min(math.floor(told * 1000 + FLOAT_ERROR + abs(told) * GRAIN) + _BEFORE, MAX_NUMBER))
+    count = floor(told * 1000 + FLOAT_ERROR + abs(told) * GRAIN) + _BEFORE
+    return count if 0 <= count <= MAX_NUMBER else max(0, min(count, MAX_NUMBER))
 
 
 def _terms_of(calls: int, per: Duration, burst: int, longest: Optional[Duration]) -> PaceTerms:
