@@ -78,8 +78,7 @@ class RedisServer:
 
     def _answers(self, port: int, process: Any) -> bool:
         """Waits until it answers with all its data, and not another server on its port: False where it ended."""
-        until = time.monotonic() + 60
-        while process.poll() is None and time.monotonic() < until:
+        while process.poll() is None:
             try:
                 told = self.client(port).info()
                 if told["process_id"] != process.pid or not told["loading"]:
@@ -88,6 +87,11 @@ class RedisServer:
                 pass
             time.sleep(0.05)
         return False
+
+    def await_uptime(self, seconds: int) -> None:
+        """Waits until it tells that it was started so long ago: by that it grants of windows since then."""
+        while self.client().info("server")["uptime_in_seconds"] < seconds:
+            time.sleep(0.05)
 
     def stop(self) -> None:
         """Ends it at once, with no word to it."""

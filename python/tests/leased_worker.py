@@ -9,12 +9,13 @@ Where the machine held it up for long between two draws it writes that down too:
 from __future__ import annotations
 
 import json
+import math
 import os
 import signal
 import sys
 import threading
 import time
-from typing import Any, Dict
+from typing import Any, Callable, Dict
 
 from hikebox.leased import FileStore, Leased, RedisStore
 
@@ -85,18 +86,23 @@ def options_of(how: Any, *names: str) -> Dict[str, Any]:
     return named
 
 
+def goes_on(how: Any) -> Callable[[], bool]:
+    """Whether a worker goes on: for so many `seconds`, until there is a file `stop`, and as long as its parent does."""
+    until, stop, parent = time.monotonic() + how.get("seconds", math.inf), how.get("stop", ""), os.getppid()
+    return lambda: time.monotonic() < until and not os.path.exists(stop) and os.getppid() == parent
+
+
 def main() -> None:
     how = json.loads(sys.argv[1])
     output = os.open(sys.argv[2], os.O_WRONLY | os.O_CREAT | os.O_APPEND)
     leased = Leased(store_of(how), how["name"], **options_of(how, "limit", "per"))
-    until = time.monotonic() + how.get("seconds", 60)
-    stop = how.get("stop", "/no/such/file")
+    does = goes_on(how)
     most = how["number"] if how.get("kill") == "drawn" else -1
 
     def work() -> None:
         mine = 0
         pauses = Pauses(output)
-        while time.monotonic() < until and not os.path.exists(stop):
+        while does():
             pauses.look()
             before = uptime()
             ticket = leased.draw()

@@ -36,7 +36,7 @@ class Workers:
     def wait(self) -> List[int]:
         """How they ended: by themselves, or killed."""
         for number, process in enumerate(self.processes):
-            output, errors = process.communicate(timeout=100)
+            output, errors = process.communicate()
             assert process.returncode in (0, -9), errors
             if process.returncode == 0:
                 self.look_at(number, output)
@@ -49,12 +49,17 @@ class Workers:
         """How many tickets were drawn so far."""
         raise NotImplementedError
 
+    def await_that(self, holds: Callable[[], bool]) -> None:
+        """Waits until this holds, as long as a process runs."""
+        runs = True
+        while not holds():
+            assert runs
+            runs = any(process.poll() is None for process in self.processes)
+            time.sleep(0.05)
+
     def await_tickets(self, count: int) -> None:
         """Waits until so many tickets were drawn."""
-        until = time.monotonic() + 60
-        while self.count() < count:
-            assert time.monotonic() < until
-            time.sleep(0.02)
+        self.await_that(lambda: self.count() >= count)
 
     def end(self) -> None:
         """Ends those that still run."""

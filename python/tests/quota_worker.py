@@ -15,7 +15,7 @@ import time
 from collections import Counter
 from typing import Any, Counter as Counts
 
-from leased_worker import Pauses, options_of, store_of
+from leased_worker import Pauses, goes_on, options_of, store_of
 
 from hikebox.leased import LeasedQuota, QuotaRange
 
@@ -50,8 +50,7 @@ def main() -> None:
     output = os.open(sys.argv[2], os.O_WRONLY | os.O_CREAT | os.O_APPEND)
     store = Noting(store_of(how), output)
     quota = LeasedQuota(store, how["name"], how["reserve"], how["share"], how["per"], **options_of(how))
-    until = time.monotonic() + how.get("seconds", 60)
-    stop = how.get("stop", "/no/such/file")
+    does = goes_on(how)
     most = how["number"] if how.get("kill") == "drawn" else -1
     made: Counts[int] = Counter()
     drawn = 0
@@ -63,7 +62,7 @@ def main() -> None:
     for _ in range(how.get("first", 0)):
         request()
     pauses = Pauses(output)
-    while time.monotonic() < until and not os.path.exists(stop):
+    while does():
         pauses.look()
         for _ in range(how.get("each", 0)):
             request()

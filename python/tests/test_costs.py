@@ -162,13 +162,17 @@ def test_the_policy_counts_from_the_first_attempt_also_where_that_is_slow(clock:
     assert (quota.seen().window, quota.seen().given, quota.granted) == (1, 1, 1)
 
 
-@pytest.mark.parametrize("limit", [Bucket(10**6), Breaker(5, spaced(30))], ids=lambda limit: type(limit).__name__)
-def test_a_success_on_a_quiet_limit_is_two_looks(limit: Any) -> None:
+@pytest.mark.parametrize("limit, looks", [(Bucket(10**6), 1), (Breaker(5, spaced(30)), 2)], ids=["Bucket", "Breaker"])
+def test_a_success_on_a_quiet_limit_is_a_look_and_one_before_where_it_may_refuse(limit: Any, looks: int) -> None:
     retrying, awaiting = Retrying(recurs(3), limit=limit), AsyncRetrying(recurs(3), limit=limit)
     retrying(succeeds)
     assert functions(lambda: retrying(succeeds)) == ["__call__", "run", "look_or_ask"]
     assert functions(lambda: asyncio.run(awaiting(succeeds_later))) == ["__call__", "run_async", "look_or_ask"]
     assert retrying.statistics.won == 2 and awaiting.statistics.won == 1
+    (place,), made = limit.idle, []
+    look = place.look
+    place.look = lambda: made.append(look())
+    assert (retrying(succeeds), len(made)) == (7, looks)
 
 
 @pytest.mark.parametrize("limit", [InFlight.envoy(), Throttle.google()], ids=lambda limit: type(limit).__name__)
@@ -186,43 +190,35 @@ def test_a_success_on_another_limit_makes_its_three_calls(limit: Any) -> None:
 
 def test_a_failure_that_is_retried_on_a_quota_goes_through_few_functions() -> None:
     left = [1]
+    how: Any = {"policy": recurs(3) & spaced(0.001), "limit": Quota(99, 0, 3600), "sleep": lambda seconds: None}
+    retrying, awaiting = Retrying(**how), AsyncRetrying(**how)
 
     def call() -> None:
         left[0] -= 1
         if left[0] >= 0:
             raise ValueError
 
-    retrying = Retrying(recurs(3) & spaced(0.001), limit=Quota(99, 0, 3600), sleep=lambda seconds: None)
-    for _ in range(3):
-        left[0] = 1
-        seen: Set[Any] = set(codes(lambda: retrying(call)))
-    assert len(seen) <= 20
-    assert len({code.co_filename for code in seen}) <= 9
-
-
-def test_a_coroutine_and_a_loop_go_through_few_more() -> None:
-    left = [1]
-    how: Any = {"policy": recurs(3) & spaced(0.001), "limit": Quota(99, 0, 3600), "sleep": lambda seconds: None}
-    retrying, awaiting = Retrying(**how), AsyncRetrying(**how)
-
-    async def call() -> None:
-        left[0] -= 1
-        if left[0] >= 0:
-            raise ValueError
+    async def call_later() -> None:
+        call()
 
     def loop() -> None:
         for attempt in retrying:
             with attempt:
-                asyncio.run(call())
+                call()
 
     async def loop_later() -> None:
         async for attempt in awaiting:
             with attempt:
-                await call()
+                call()
 
-    runs: List[Any] = [(lambda: asyncio.run(awaiting(call)), 22), (loop, 30), (lambda: asyncio.run(loop_later()), 31)]
-    for run, most in runs:
+    runs: List[Any] = [
+        (lambda: retrying(call), 20, 9),
+        (lambda: asyncio.run(awaiting(call_later)), 22, 9),
+        (loop, 30, 10),
+        (lambda: asyncio.run(loop_later()), 31, 10),
+    ]
+    for run, functions_at_most, files_at_most in runs:
         for _ in range(3):
             left[0] = 1
             seen: Set[Any] = set(codes(run))
-        assert len(seen) <= most
+        assert len(seen) <= functions_at_most and len({code.co_filename for code in seen}) <= files_at_most

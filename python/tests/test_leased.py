@@ -369,10 +369,7 @@ def in_windows(workers: Drawers, folder: Path, limit: int, period: int, offset: 
             found.setdefault((after + offset) // period, []).append(first == last)
         return found
 
-    until = time.monotonic() + 60
-    while sum(len(draws) >= 0.9 * limit for draws in by_windows().values()) < 3:
-        assert time.monotonic() < until
-        time.sleep(0.1)
+    workers.await_that(lambda: sum(len(draws) >= 0.9 * limit for draws in by_windows().values()) >= 3)
     (folder / "stop").touch()
     workers.wait()
     by_window = by_windows()
@@ -387,7 +384,7 @@ def in_windows(workers: Drawers, folder: Path, limit: int, period: int, offset: 
 def test_windows_of_many_processes_one_with_a_clock_an_hour_off(workers: Drawers, tmp_path: Path) -> None:
     how = {"file": str(tmp_path / "counts"), "name": "a", "limit": 50, "lease": 5, "per": 0.5}
     for off in (0, 0, 3600, -3600):
-        workers.start({**how, "clock_off": off, "patient": True, "seconds": 90, "stop": str(tmp_path / "stop")})
+        workers.start({**how, "clock_off": off, "patient": True, "stop": str(tmp_path / "stop")})
     in_windows(workers, tmp_path, 50, 500)
 
 
@@ -668,7 +665,7 @@ def test_windows_of_redis_one_process_with_a_clock_an_hour_off(
     time.sleep(3.2)
     for off in (0, 0, 3600, -3600):
         how = {"port": server.port, "name": "a", "limit": 50, "lease": 5, "per": 0.5, "clock_off": off}
-        workers.start({**how, "patient": True, "seconds": 90, "stop": str(tmp_path / "stop")})
+        workers.start({**how, "patient": True, "stop": str(tmp_path / "stop")})
     in_windows(workers, tmp_path, 50, 500, since_1970())
     # -2 is a key that has just gone
     left = [server.client().pttl(key) for key in server.client().keys("hikebox:{a}:*")]

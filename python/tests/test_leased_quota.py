@@ -3,6 +3,7 @@
 from __future__ import annotations
 
 import asyncio
+import itertools
 import math
 import pickle
 import random
@@ -419,15 +420,11 @@ def check_windows(workers: Drawers, folder: Path, reserve: int, share: float, of
     def allowed(told: Counts[int], window: int) -> int:
         return reserve + int(share * 1000) * told[window] // 1000
 
-    until = time.monotonic() + 60
-    full = 0
-    while full < 3:
-        assert time.monotonic() < until
-        time.sleep(0.1)
-        told = workers.sums("told")
-        full = sum(
-            len(drawn) >= 0.8 * allowed(told, window) for window, drawn in workers.tickets().items() if window >= 0
-        )
+    def full() -> int:
+        told, drawn = workers.sums("told"), workers.tickets()
+        return sum(len(drawn[window]) >= 0.8 * allowed(told, window) for window in drawn if window >= 0)
+
+    workers.await_that(lambda: full() >= 3)
     (folder / "stop").touch()
     workers.wait()
     told, by_window = workers.sums("told"), workers.tickets()
@@ -445,7 +442,7 @@ def check_windows(workers: Drawers, folder: Path, reserve: int, share: float, of
 def test_windows_of_many_processes_two_with_a_clock_an_hour_off(workers: Drawers, tmp_path: Path) -> None:
     how = {"file": str(tmp_path / "counts"), "name": "a", "reserve": 20, "share": 0.5, "per": 0.5, "lease": 2}
     for off in (0, 0, 3600, -3600):
-        more = {"clock_off": off, "patient": True, "seconds": 90, "stop": str(tmp_path / "stop")}
+        more = {"clock_off": off, "patient": True, "stop": str(tmp_path / "stop")}
         workers.start({**how, **more, "each": 1, "again_after": 0.05})
     check_windows(workers, tmp_path, 20, 0.5)
     # each request counts once at most, and in the window in which it was made
@@ -465,7 +462,7 @@ def test_a_quota_in_redis(redis_server: Any) -> None:
     # no ticket of a window that may have begun before the server did
     assert not LeasedQuota(store, "a", 9, 1, 60).draw()
     assert server.client().keys("*") == []
-    time.sleep(5.2)
+    server.await_uptime(5)
     decoding = redis.Redis(host="127.0.0.1", port=server.port, decode_responses=True)
 
     def in_one_window(name: str) -> Any:
@@ -487,7 +484,7 @@ def test_a_quota_in_redis(redis_server: Any) -> None:
         kept = (server.client().pttl(key), server.client().hgetall(key))
         return first, drawn, seen, kept, window if time.monotonic() - began < 1 else None
 
-    for name in "abcdefghijkl":
+    for name in map(str, itertools.count()):
         first, drawn, (of_second, of_first), (milliseconds, counts), window = in_one_window(name)
         if window is not None:
             break
@@ -615,8 +612,9 @@ def test_a_window_that_is_known_is_asked_once(redis_server: Any) -> None:
 def test_a_redis_that_answers_something_else_grants_nothing(redis_server: Any) -> None:
     from hikebox.leased import redis_store
 
-    store = RedisStore(redis_server().client())
-    time.sleep(3.2)
+    server = redis_server()
+    store = RedisStore(server.client())
+    server.await_uptime(3)
     quota = LeasedQuota(store, "a", 9, 0, 0.5, lease=2, again_after=0)
     for answer in ("{0, -2, 0}", "{-5, 2, 0}", "{0, 2, -1}", "{0, 3, 0}", "{8, 2, 0}", "{0, 2}", "'abc'", "3", "nil"):
         store._grant = redis_store._Script(f"{redis_store.IN_WINDOW}return {answer}")
@@ -656,10 +654,10 @@ def test_a_client_that_repeats_tells_requests_once(lost_at: str, redis_server: A
             raise redis.TimeoutError("it was lost")
         return answer
 
-    port = redis_server().port
-    client = redis.Redis(port=port, retry=Retry(NoBackoff(), 3), retry_on_error=[redis.TimeoutError])
-    time.sleep(8.2)
-    for name in "abcdefghijkl":
+    server = redis_server()
+    client = redis.Redis(port=server.port, retry=Retry(NoBackoff(), 3), retry_on_error=[redis.TimeoutError])
+    server.await_uptime(8)
+    for name in map(str, itertools.count()):
         while not 1 < time.time() % 5 < 2:
             time.sleep(0.01)
         began = time.monotonic()
@@ -685,10 +683,10 @@ def test_windows_of_redis_two_processes_with_a_clock_an_hour_off(
     workers: Drawers, redis_server: Any, tmp_path: Path
 ) -> None:
     server = redis_server()
-    time.sleep(3.2)
+    server.await_uptime(3)
     how = {"port": server.port, "name": "a", "reserve": 20, "share": 0.5, "per": 0.5, "lease": 2, "each": 1}
     for off in (0, 0, 3600, -3600):
-        more = {"clock_off": off, "patient": True, "seconds": 90, "stop": str(tmp_path / "stop")}
+        more = {"clock_off": off, "patient": True, "stop": str(tmp_path / "stop")}
         workers.start({**how, **more, "again_after": 0.05})
     offset = int(time.time() * 1000) - int(time.clock_gettime(time.CLOCK_BOOTTIME) * 1000)
     check_windows(workers, tmp_path, 20, 0.5, offset)
@@ -699,10 +697,10 @@ def test_windows_of_redis_two_processes_with_a_clock_an_hour_off(
 
 def test_processes_killed_at_points_of_a_lease_of_redis(workers: Drawers, redis_server: Any) -> None:
     server = redis_server()
-    time.sleep(3.2)
+    server.await_uptime(3)
     how = {"port": server.port, "name": "a", "reserve": 100, "share": 0.5, "per": 0.5, "lease": 10, "each": 1}
     for point, number in KILLS:
-        workers.start({**how, "patient": True, "seconds": 60, "kill": point, "number": number})
+        workers.start({**how, "patient": True, "kill": point, "number": number})
     for _ in range(2):
         workers.start({**how, "patient": True, "seconds": 2.5, "again_after": 0.05})
     ends = workers.wait()
@@ -720,22 +718,18 @@ def test_processes_killed_at_points_of_a_lease_of_redis(workers: Drawers, redis_
 def test_redis_stopped_and_started_under_load(durable: bool, workers: Drawers, redis_server: Any) -> None:
     options = ("--appendonly", "yes", "--appendfsync", "always") if durable else ()
     server = redis_server(*options)
-    time.sleep(3.2)
+    server.await_uptime(3)
     how = {"port": server.port, "name": "a", "reserve": 1000, "share": 1, "per": 0.5, "lease": 20, "each": 1}
     how.update({"patient": True, "stop": str(workers.folder / "stop"), "spare": 3, "again_after": 0.05})
     for _ in range(4):
         workers.start(how)
     workers.await_tickets(2000)
     server.stop()
-    until = time.monotonic() + 60
-    while -1 not in workers.tickets():
-        assert time.monotonic() < until
-        time.sleep(0.05)
+    workers.await_that(lambda: -1 in workers.tickets())
     stopped_at = time.time()
     server.start()
     drawn = len(workers.notes("ticket"))
-    # the windows that may have begun before it was started give nothing; three and a half seconds later it goes on
-    time.sleep(3.5)
+    # the windows that may have begun before it was started give nothing; then it goes on
     workers.await_tickets(drawn + 2000)
     (workers.folder / "stop").touch()
     assert workers.wait() == [0] * 4

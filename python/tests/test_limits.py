@@ -7,10 +7,12 @@ import copy
 import gc
 import os
 import pickle
+import random
 import re
 import sys
 import threading
 from datetime import timedelta
+from types import SimpleNamespace
 from typing import Any, Callable, List, Optional
 
 import pytest
@@ -102,6 +104,30 @@ def test_aws() -> None:
         plain.succeeded()
     assert plain.draw() is None
     assert reason(plain.draw()) is RefusalReason.LEVEL_LOW
+
+
+def test_aws_is_the_standard_mode_of_botocore() -> None:
+    standard: Any = pytest.importorskip("botocore.retries.standard")
+    errors: Any = pytest.importorskip("botocore.exceptions")
+    quota, bucket, seed = standard.quota.RetryQuota(), Bucket.aws(), random.Random(20261130)
+    checker = standard.RetryQuotaChecker(quota)
+    kinds = (errors.ReadTimeoutError, errors.ConnectTimeoutError, errors.EndpointConnectionError)
+    refused = 0
+    for _ in range(300):
+        request, context = admitted(bucket), standard.RetryContext(1, request_context={})
+        is_granted = True
+        for _ in range(seed.randrange(4)):
+            if is_granted:
+                context.caught_exception = seed.choice(kinds)(endpoint_url="")
+                is_granted = checker.acquire_retry_quota(context)
+                assert (request.draw(context.caught_exception) is None) is is_granted
+        refused += not is_granted
+        if is_granted and seed.random() < 0.5:
+            checker.release_retry_quota(context.request_context, SimpleNamespace(status_code=200))
+            request.succeeded()
+        request.ended()
+        assert bucket.seen().level == quota.available_capacity
+    assert 0 < refused < 300
 
 
 def test_the_timeouts_of_clients_cost_what_a_timeout_does() -> None:
@@ -553,7 +579,7 @@ def test_terms_out_of_range(make: Callable[[], Any]) -> None:
 @pytest.mark.parametrize(
     "make, told",
     [
-        (lambda: InFlight.envoy(-5), "expected budget_percent from 0 to 100, got -5"),
+        (lambda: InFlight.envoy(-5), "budget_percent: expected 0, or from 0.001 to 100, got -5"),
         (lambda: InFlight.envoy(0.05), "budget_percent: expected per cent, 0 or from 1 to 100, got 0.05"),
         (lambda: InFlight.envoy(0.2), "got 0.2: write 20 for a share of 0.2"),
         (lambda: Bucket(500, refund=ANY_NO), "refund: expected True or False, got 'no'"),
@@ -561,10 +587,10 @@ def test_terms_out_of_range(make: Callable[[], Any]) -> None:
         (lambda: Bucket(0), "expected a capacity of at least the cost, 1, got 0"),
         (lambda: Bucket(5, timeout_cost=10), "expected a capacity of at least the timeout_cost, 10, got 5"),
         (lambda: Bucket(5, floor=6), "expected a capacity of at least the floor, 6, got 5"),
-        (lambda: Bucket.grpc(0, 0.1), "max_tokens: expected 1 token or more, got 0"),
-        (lambda: Bucket.grpc(10, 11), "expected token_ratio from 0 to 10, got 11"),
+        (lambda: Bucket.grpc(0, 0.1), "max_tokens: expected 1 to 1099511627.776, got 0"),
+        (lambda: Bucket.grpc(10, 11), "token_ratio: expected 0, or from 0.001 to 10, got 11"),
         (lambda: InFlight.envoy(20, -1), "min_retry_concurrency: expected 0 to 4294967295, got -1"),
-        (lambda: InFlight(3, 20), "expected the share from 0 to 1, got 20"),
+        (lambda: InFlight(3, 20), "share: expected 0, or from 0.001 to 1, got 20"),
         (lambda: Breaker(1, spaced(1), probe_deadline=-1), "probe_deadline: expected 0 to 4611686018427387.903 sec"),
         (lambda: Breaker(5, 30), "open_for: expected a policy, as spaced(30), got 30"),
         (lambda: Breaker(5, timedelta(minutes=1)), "open_for: expected a policy, as spaced(60), got datetime."),

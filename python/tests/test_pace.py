@@ -127,6 +127,20 @@ def test_a_call_sleeps_until_its_moment(clock: Any) -> None:
     assert clock.slept == pytest.approx([0.1, 0.1, 0.1])
 
 
+def test_a_clock_may_begin_below_0() -> None:
+    # every two seconds from the first call on, as on a clock that begins at 0
+    clock = VirtualClock(-3.0)
+    pace = Pace(1, 2, longest=3, clock=clock, sleep=clock.sleep)
+    assert [(pace.seen(), pace.wait(), clock()) for _ in range(3)] == [(-3, 0, -3), (-1, 2, -1), (1, 2, 1)]
+    clock.advance(-3.5)
+    with pytest.raises(TooSoon) as raised:
+        pace.wait()
+    # the next one is at 3, and waits three seconds at most
+    assert (raised.value.wait, raised.value.longest, raised.value.again_at) == (5.5, 3, 0)
+    clock.advance(2.5)
+    assert (pace.wait(), clock()) == (3, 3)
+
+
 def test_each_attempt_waits_and_a_deadline_bounds_the_wait(clock: Any) -> None:
     pace, begun = Pace(1, 10, clock=clock, sleep=clock.sleep), []
 

@@ -525,6 +525,25 @@ def test_a_factory_makes_one_limit() -> None:
             wrong["a"]
 
 
+def test_the_handler_of_a_signal_may_need_old_limits_alone_while_one_is_made() -> None:
+    def handler(*_: Any) -> None:
+        limits["old"].draw()
+        with pytest.raises(RuntimeError, match="^make: expected a function that makes a limit, got one that asks for"):
+            limits["new"]
+
+    def make(key: str) -> Quota:
+        if key == "made":
+            signal.raise_signal(signal.SIGUSR1)
+        return quota_of(key)
+
+    limits: PerKey[Quota] = PerKey(make)
+    old, before = limits["old"], signal.signal(signal.SIGUSR1, handler)
+    try:
+        assert limits["made"].draw() and old.granted == 1 and list(limits) == ["old", "made"]
+    finally:
+        signal.signal(signal.SIGUSR1, before)
+
+
 def test_keys_that_can_not_be_hashed() -> None:
     limits: PerKey[Quota] = PerKey(quota_of, key=lambda tenant: tenant)
     told = r"^key: expected a key that can be hashed, got \['a'\]$"

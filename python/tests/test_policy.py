@@ -713,6 +713,27 @@ def test_a_preview_has_so_many_steps_at_most() -> None:
     assert listed[-1].output == list(range(299))
 
 
+def test_the_engine_computes_a_course_once_for_its_moments_and_once_for_its_outputs(monkeypatch: Any) -> None:
+    from hikebox._engine.calls import library
+
+    made: List[str] = []
+
+    def counted(name: str, call: Any) -> Any:
+        def counts(*given: Any) -> Any:
+            made.append(name)
+            return call(*given)
+
+        return counts
+
+    for name in ("hikebox_policy_course", "hikebox_policy_outputs"):
+        monkeypatch.setattr(library, name, counted(name, getattr(library, name)))
+    # 10 outputs of one digit, 90 of two and 200 of three: 790 bytes
+    assert [step.output for step in recurs(400).preview(300)] == list(range(300))
+    assert made == ["hikebox_policy_course", "hikebox_policy_outputs"]
+    hikebox.Breaker(1, spaced(1))
+    assert made[2:] == ["hikebox_policy_course"]
+
+
 def test_a_preview_asks_for_four_numbers_an_event() -> None:
     asked: List[float] = []
 

@@ -210,6 +210,8 @@ def test_the_nearest_word_is_named() -> None:
         (["plan", "--xyzzy"], " plan", "there is no option --xyzzy"),
         (["check", "recurs(1)", "recurs(2)"], " check", "unexpected word 'recurs(2)'"),
         (["--versoin", "plan", "recurs(1)"], "", "there is no option --versoin; did you mean --version?"),
+        (["--polcy", "x"], "", "there is no option --polcy"),
+        (["--versoin=1", "x"], "", "there is no option --versoin; did you mean --version?"),
     ]
     for words, command, said in wrong:
         status, output, errors = hikebox(*words)

@@ -151,13 +151,14 @@ def test_terms() -> None:
     assert repr(quota) == "<Quota(10, 0.25, per=60), closed at 0>"
 
 
+SHARE_WANTED = "expected a share of 0, or from 0.001 to 1000 retries a request (0.2 is one for every five)"
 BAD_TERMS: List[Any] = [
     ((-1, 0, 1), "expected a reserve from 0 to 4294967296 retries a window, got -1"),
     ((2**32 + 1, 0, 1), "expected a reserve from 0 to 4294967296 retries a window, got 4294967297"),
-    ((0, -0.1, 1), "expected a share from 0 to 1000 retries a request, got -0.1"),
-    ((0, 1000.1, 1), "expected a share from 0 to 1000 retries a request, got 1000.1"),
-    ((0, float("nan"), 1), "expected a share from 0 to 1000 retries a request, got nan"),
-    ((0, 0.0004, 1), "expected a share of 0 or at least 0.001 retries a request, got 0.0004"),
+    ((0, -0.1, 1), f"{SHARE_WANTED}, got -0.1"),
+    ((0, 1000.1, 1), f"{SHARE_WANTED}, got 1000.1"),
+    ((0, float("nan"), 1), f"{SHARE_WANTED}, got nan"),
+    ((0, 0.0004, 1), f"{SHARE_WANTED}, got 0.0004"),
     ((0, 0, 0), "expected a window of at least 0.1 s, got 0"),
     ((0, 0, 0.099), "expected a window of at least 0.1 s, got 0.099"),
     ((0, 0, 0.0001), "the window of a quota: 0.0001 s is less than a millisecond"),

@@ -132,12 +132,15 @@ def test_terms_that_are_changed_count_for_the_next_draw(clock: VirtualClock) -> 
         quota.set_terms(reserve=4)
 
 
+SHARE_WANTED = "expected a share of 0, or from 0.001 to 1000 retries a request (0.2 is one for every five)"
+
+
 def test_terms_that_are_refused_change_nothing(clock: VirtualClock) -> None:
     quota = Quota(2, 0.5, 10, clock=clock)
     for reserve, share, text in (
         (2**32 + 1, None, "expected a reserve from 0 to 4294967296 retries a window, got 4294967297"),
-        (9, 1000.5, "expected a share from 0 to 1000 retries a request, got 1000.5"),
-        (9, 0.0001, "expected a share of 0 or at least 0.001 retries a request, got 0.0001"),
+        (9, 1000.5, f"{SHARE_WANTED}, got 1000.5"),
+        (9, 0.0001, f"{SHARE_WANTED}, got 0.0001"),
     ):
         with pytest.raises(TermsError) as caught:
             quota.set_terms(reserve, share)

@@ -214,8 +214,7 @@ fn a_success_counts_where_another_call_failed_meanwhile() {
         });
         assert_eq!(answer, Ok(()));
     }
-    let bucket =
-        CallLimit::new(Bucket { capacity: 3.0, debit: 2.0, credit: 1.0, cost: 1.0, floor: 1.0, refund: false });
+    let bucket = CallLimit::new(Bucket { capacity: 3.0, debit: 2.0, credit: 1.0, floor: 1.0, ..Bucket::default() });
     let bucket = bucket.unwrap();
     let answer: Answer<()> = retry(&once, &bucket, || {
         let _: Answer<u32> = retry(&once, &bucket, fails(1));

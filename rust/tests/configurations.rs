@@ -51,7 +51,7 @@ fn what_is_no_quota_is_told() {
     tells(r#"{"reserve":3,"share":"a","per":10}"#, "share: expected a number, got \"a\"");
     tells(r#"{"reserve":3,"share":0.5,"per":-1}"#, "per: expected a number of seconds, got -1");
     tells(r#"{"reserve":3,"share":0.5,"per":10,"carries":1}"#, "carries: expected true or false, got 1");
-    tells(r#"{"reserve":3,"share":20.0,"per":10}"#, "expected a share of 0, or from 0.001 to 10");
+    tells(r#"{"reserve":3,"share":2000.0,"per":10}"#, "expected a share of 0, or from 0.001 to 1000");
     tells(
         r#"{"reserve":3,"share":0.5,"per":0.05}"#,
         "expected a window of at least 100 milliseconds, got a shorter one",

@@ -6,8 +6,8 @@ mod common;
 
 use common::{at_once, policy, polled};
 use hikebox::{
-    AttemptTimeout, Breaker, Bucket, Budget, CallLimit, Grants, InFlight, NoTicket, Policy, Quota, RefusalReason,
-    Refused, RetryError, Retryable, Retrying, SharedRetrying, Ticket, Tickets, Timed, Unlimited,
+    AttemptTimeout, Breaker, Bucket, Budget, CallLimit, Grants, InFlight, LimitState, NoTicket, Policy, Quota,
+    RefusalReason, Refused, RetryError, Retryable, Retrying, SharedRetrying, Ticket, Tickets, Timed, Unlimited,
 };
 use std::cell::{Cell, RefCell};
 use std::future::{pending, ready, Future};
@@ -468,6 +468,18 @@ async fn a_run_that_takes_too_long_is_dropped_and_has_failed() {
     assert_eq!(answer, Err(RetryError::ScheduleDone(TookTooLong(late(2_000)))));
     assert_eq!((peer.moment(), peer.runs(), peer.under_way()), (5_100, vec![0, 2_500, 3_100], 0));
     assert_eq!(heard.into_inner(), [(TookTooLong(late(2_000)), 500, 0), (Run(2), 500, 0)]);
+}
+
+// Of 500 tokens a retry takes ten after a timeout, and beside a run that is late, and five after another failure.
+#[tokio::test(start_paused = true)]
+async fn a_retry_after_a_timeout_costs_more() {
+    let (waits, limit) = (twice(50), CallLimit::new(Bucket::aws()).unwrap());
+    let retrying = Retrying::new(&waits, &limit);
+    for (retrying, level) in [(retrying.clone().attempt_timeout(LATE), 485.0), (retrying.hedge_after(LATE), 470.0)] {
+        let peer = Peer::new(&[(400, Fails), (10, Fails), (10, Fails)]);
+        assert!(retrying.call_async_with(|attempt| peer.clone().answer(attempt.number())).await.is_err());
+        assert_eq!(limit.seen(), [LimitState::Bucket { level, capacity: 500.0 }]);
+    }
 }
 
 // One that is ready as its time is over has succeeded.

@@ -324,6 +324,10 @@ fn terms_of_a_quota_out_of_their_ranges_are_refused() {
     assert_eq!(refused(0, 1001.0, 1), LimitError::ShareOutOfRange);
     assert_eq!(refused(0, 0.0, 0), LimitError::PeriodTooShort);
     assert_eq!(refused(0, 0.0, 1 << 62), LimitError::PeriodTooLong);
+    let scratch = Scratch::new("shares");
+    let quota = long_quota(&scratch.0, 5, 1000.0).lease(2000);
+    quota.deposit();
+    assert_eq!(std::iter::repeat_with(|| quota.draw()).take_while(Result::is_ok).count(), 1005);
 }
 
 #[test]

@@ -168,6 +168,8 @@ fn several_buckets_have_one_cost() {
     let joined = both(&CallLimit::new(flights).unwrap(), &aws).unwrap();
     assert_eq!(both(&joined, &grpc).unwrap_err(), LimitError::CostsDiffer);
     assert!(both(&joined, &limit(Bucket::aws())).is_ok());
+    let other = limit(Bucket { timeout_cost: None, ..Bucket::aws() });
+    assert_eq!(both(&aws, &other).unwrap_err(), LimitError::CostsDiffer);
 }
 
 // gRPC's proposal A6: "Decimal places beyond 3 are ignored. (eg. .5466 is treated as .546.)"
@@ -313,6 +315,7 @@ fn terms_out_of_range() {
     }
     is_refused(Bucket { debit: 500.001, ..Bucket::aws() }, &of_capacity("debit"));
     is_refused(Bucket { credit: 501.0, ..Bucket::aws() }, &of_capacity("credit"));
+    is_refused(Bucket { timeout_cost: Some(501.0), ..Bucket::aws() }, &of_capacity("timeout_cost"));
     is_refused(Bucket { capacity: 4.0, ..Bucket::aws() }, &of_capacity("cost")); // a retry takes five tokens
                                                                                  // a retry takes a token, and there is none
     is_refused(Bucket::default(), &of_capacity("cost"));

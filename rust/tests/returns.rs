@@ -63,7 +63,7 @@ fn terms_are_set_while_a_quota_is_used() {
     // one, and a half of ten, of which three were given
     assert_eq!(told(quota.seen()), [10, 3, 3]);
     assert_eq!(quota.set_terms(4_294_967_297, 0.0), Err(LimitError::ReserveTooLarge));
-    assert_eq!(quota.set_terms(9, 20.0), Err(LimitError::ShareOutOfRange));
+    assert_eq!(quota.set_terms(9, 2000.0), Err(LimitError::ShareOutOfRange));
     assert_eq!(told(quota.seen()), [10, 3, 3]);
     // what was given stays given
     assert_eq!(quota.set_terms(0, 0.0), Ok(()));

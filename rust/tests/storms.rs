@@ -158,10 +158,7 @@ fn a_storm_under_each_limit() {
         (Throttle::google().into(), "throttle:2000/60000"),
     ];
     for (terms, word) in cases {
-        let mut storm = Storm::new(&full()).rate(80).capacity(100).queue(500).limit(terms);
-        if word == "aws" {
-            storm = storm.late_cost(10.0);
-        }
+        let storm = Storm::new(&full()).rate(80).capacity(100).queue(500).limit(terms);
         let options = format!("--rate 80 --capacity 100 --queue 500 --limit {word}");
         let report = storm.play().unwrap();
         assert_eq!(report.to_json() + "\n", zsched("--json", &options, &full()), "{word}");
@@ -171,9 +168,9 @@ fn a_storm_under_each_limit() {
         let denies_first_calls = word.starts_with("breaker") || word.starts_with("throttle");
         assert_eq!(said.contains("; the most requests and retries in a window "), denies_first_calls, "{said}");
     }
-    let dear = Storm::new(&full()).limit(Bucket { capacity: 1.0, cost: 2.0, ..Bucket::default() });
-    for (storm, number) in [(dear, "cost"), (Storm::new(&full()).limit(Bucket::aws()).late_cost(501.0), "late_cost")] {
-        let error = storm.play().unwrap_err();
+    let dear = Bucket { capacity: 1.0, cost: 2.0, ..Bucket::default() };
+    for (bucket, number) in [(dear, "cost"), (Bucket { timeout_cost: Some(501.0), ..Bucket::aws() }, "timeout_cost")] {
+        let error = Storm::new(&full()).limit(bucket).play().unwrap_err();
         assert!(matches!(error, StormError::Tickets(LimitError::OutOfRange { parameter, .. }) if parameter == number));
         assert_eq!(error.to_string(), format!("{number}: expected 0, or from 0.001 to the capacity, got another"));
     }
@@ -365,8 +362,8 @@ fn what_is_out_of_range_is_named() {
         (told(storm().rate(20_000)), "expected at most 1048576 requests, got more: rate times seconds"),
         (told(storm().window(millis(1))), "expected at most 65537 windows, got more: until divided by window"),
         (
-            told(storm().quota(1, 20.0, SECOND)),
-            "expected a share of 0, or from 0.001 to 10 retries a request (0.2 is one for every five), got another",
+            told(storm().quota(1, 2000.0, SECOND)),
+            "expected a share of 0, or from 0.001 to 1000 retries a request (0.2 is one for every five), got another",
         ),
         (
             told(storm().quota(1, 0.1, Duration::ZERO)),
@@ -380,8 +377,8 @@ fn what_is_out_of_range_is_named() {
     assert_eq!(error, StormError::Tickets(LimitError::ReserveTooLarge));
     assert_eq!(error.to_string(), LimitError::ReserveTooLarge.to_string());
     assert!(error.source().is_none()); // (its text is that of the cause)
-    assert!(storm().quota(1, 20.0, SECOND).quota(1, 0.1, SECOND).play().is_ok());
-    assert!(storm().quota(1, 20.0, SECOND).budget(1).play().is_ok());
+    assert!(storm().quota(1, 2000.0, SECOND).quota(1, 0.1, SECOND).play().is_ok());
+    assert!(storm().quota(1, 2000.0, SECOND).budget(1).play().is_ok());
 }
 
 #[test]

@@ -233,7 +233,9 @@ fn what_is_no_sweep_is_refused() {
     for (axis, wanted) in cases {
         assert_eq!(told(along(axis)).to_string(), wanted);
     }
-    assert_eq!(told(along(Axis::share([0.1, f64::NAN]))), StormError::Tickets(LimitError::ShareOutOfRange));
+    for share in [f64::NAN, 1000.5] {
+        assert_eq!(told(along(Axis::share([0.1, share]))), StormError::Tickets(LimitError::ShareOutOfRange));
+    }
     assert_eq!(told(Sweep::along(Axis::rate([1]))).to_string(), "expected a line of the sweep, got none");
 }
 

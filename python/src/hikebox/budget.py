@@ -8,8 +8,9 @@ from typing import Union
 from ._engine.calls import MAX_TICKETS
 from ._engine.handles import Pass
 from .budgets.granting import Granting
+from .budgets.terms import tickets_of
 from .budgets.tickets import Refusal, RefusalReason, Ticket
-from .errors import EngineError, LimitError, TermsError, TicketError, shown
+from .errors import EngineError, LimitError, TicketError
 
 __all__ = ["Budget"]
 
@@ -50,8 +51,7 @@ class Budget(Granting):
         return made
 
     def _begin(self, limit: int, rising: bool) -> None:
-        _look_at_limit(limit)
-        self._limit = limit
+        self._limit = _checked(limit)
         self._rising = rising
         self.begin_with("budget", partial(Pass.of_budget, limit, rising))
 
@@ -84,7 +84,7 @@ class Budget(Granting):
         """Raises the limit of a rising budget to this one, unless it is higher already, and returns it."""
         if not self._rising:
             raise LimitError("this budget keeps its limit: Budget.rising makes one that can be raised")
-        _look_at_limit(limit)
+        _checked(limit)
         with self.passes.root() as root:
             now = root.raise_to(limit)
             assert now is not None, "the budget is a rising one"
@@ -95,8 +95,5 @@ class Budget(Granting):
         return f"Budget.rising({self._limit})" if self._rising else f"Budget({self._limit})"
 
 
-def _look_at_limit(limit: int) -> None:
-    if isinstance(limit, bool) or not isinstance(limit, int):
-        raise TypeError(f"expected a whole number of tickets, got {limit!r}")
-    if not 0 <= limit <= MAX_TICKETS:
-        raise TermsError(f"expected a limit from 0 to {MAX_TICKETS}, got {shown(limit)}")
+def _checked(limit: int) -> int:
+    return tickets_of(limit, "tickets", f"a limit from 0 to {MAX_TICKETS}")

@@ -5,12 +5,13 @@ from __future__ import annotations
 import threading
 import time
 from functools import wraps
+from math import floor
 from typing import Any, Callable, List, Optional, Tuple, TypeVar
 
 from ._engine.paces import PaceHandle
 from ._forks import OfOneProcess, begins_anew_in_a_child
 from ._functions import is_async, is_generator
-from ._time import Duration, Milliseconds, moment, seconds, seconds_text
+from ._time import FLOAT_ERROR, GRAIN, MAX_NUMBER, Duration, Milliseconds, seconds, seconds_text
 from ._values import NamedTuple
 from .budgets.terms import count_of
 from .errors import PolicyError, TermsError, TooSoon, shown
@@ -25,6 +26,8 @@ Function = TypeVar("Function", bound=Callable[..., Any])
 _MAX_EACH = 2**40
 _MAX_BURST = 2**20
 _MAX_WAIT = 2**37
+#: A pace's moment 0 is so many milliseconds before that of its clock, which may tell less than 0.
+_BEFORE = 2**50
 
 
 class PaceTerms(NamedTuple):
@@ -257,14 +260,15 @@ class Pace(Pacing):
         is_granted = False
         try:
             now = self.clock()
-            is_granted, millis = handle.take(moment(now), cost)
+            is_granted, millis = handle.take(_moment(now), cost)
+            at = (millis - _BEFORE) / 1000
             if not is_granted:
                 longest = self.terms.longest / 1000
-                raise TooSoon(millis / 1000 - now + longest, longest, millis / 1000)
+                raise TooSoon(at - now + longest, longest, at)
         finally:
             if not is_granted:
                 handle.home.append(handle)
-        return Wait(millis / 1000, handle.give_back, lambda: handle.home.append(handle))
+        return Wait(at, handle.give_back, lambda: handle.home.append(handle))
 
     def seen(self) -> float:
         """Returns when a call would begin now, in seconds by the pace's clock. It takes nothing.
@@ -277,12 +281,18 @@ class Pace(Pacing):
         """
         handle = self._lend()
         try:
-            return handle.seen(moment(self.clock())) / 1000
+            return (handle.seen(_moment(self.clock())) - _BEFORE) / 1000
         finally:
             handle.home.append(handle)
 
     def __repr__(self) -> str:
         return f"<Pace({self.spelt()})>"
+
+
+def _moment(told: float) -> int:
+    """The moment of a pace at which its clock tells this: whole milliseconds."""
+    count = floor(told * 1000 + FLOAT_ERROR + abs(told) * GRAIN) + _BEFORE
+    return count if 0 <= count <= MAX_NUMBER else max(0, min(count, MAX_NUMBER))
 
 
 def _terms_of(calls: int, per: Duration, burst: int, longest: Optional[Duration]) -> PaceTerms:

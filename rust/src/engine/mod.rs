@@ -99,9 +99,9 @@ impl Status {
     }
 }
 
-/// The text that a call writes into the room that it is given.
-fn text(mut call: impl FnMut(*mut u8, usize, &mut usize) -> u32) -> Result<String, Status> {
-    let mut text = vec![0; 64];
+/// The text that a call writes into the room that it is given: first this, then what it needs.
+fn text(room: usize, mut call: impl FnMut(*mut u8, usize, &mut usize) -> u32) -> Result<String, Status> {
+    let mut text = vec![0; room];
     loop {
         let mut length = 0;
         match Status::of(call(text.as_mut_ptr(), text.len(), &mut length)) {

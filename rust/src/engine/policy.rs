@@ -37,7 +37,7 @@ impl Handle<PolicyKind> {
 
     /// Its JSON, without spaces.
     pub(crate) fn json(&mut self) -> Result<String, Status> {
-        text(|text, room, length| unsafe { hikebox_policy_json(self.raw(), text, room, length) })
+        text(64, |text, room, length| unsafe { hikebox_policy_json(self.raw(), text, room, length) })
     }
 
     pub(crate) fn size(&mut self) -> Size {
@@ -55,18 +55,23 @@ impl Handle<PolicyKind> {
         reads & !READS_INPUT != 0
     }
 
-    /// What it does along a course: its lines, and their outputs, one after another.
-    pub(crate) fn course(&mut self, course: Course, events: &[Event]) -> Result<(Vec<Line>, String), Status> {
-        let (course, given, count) = (&course, events.as_ptr(), events.len());
+    /// What it does along a course.
+    pub(crate) fn course(&mut self, course: &Course, events: &[Event]) -> Result<Vec<Line>, Status> {
         let (mut lines, mut told) = (vec![Line::default(); course.steps as usize], 0);
+        let (given, count) = (events.as_ptr(), events.len());
         Status::of(unsafe {
             hikebox_policy_course(self.raw(), course, given, count, lines.as_mut_ptr(), lines.len(), &mut told)
         })?;
         lines.truncate(told);
-        let outputs = text(|text, room, length| unsafe {
-            hikebox_policy_outputs(self.raw(), course, given, count, text, room, length)
-        })?;
-        Ok((lines, outputs))
+        Ok(lines)
+    }
+
+    /// The outputs of these lines of it, one after another. The engine computes the course again.
+    pub(crate) fn outputs(&mut self, course: &Course, events: &[Event], lines: &[Line]) -> Result<String, Status> {
+        let bytes = lines.last().map_or(1, |line| line.text_to as usize);
+        text(bytes, |text, room, length| unsafe {
+            hikebox_policy_outputs(self.raw(), course, events.as_ptr(), events.len(), text, room, length)
+        })
     }
 
     /// Plays a storm under it, and under these policies of the populations beside the first one, of which there are three
@@ -124,5 +129,5 @@ pub(crate) struct Size {
 
 /// What is wrong with a text that is no policy, and where.
 pub(crate) fn fault(json: &str) -> Result<String, Status> {
-    text(|text, room, length| unsafe { hikebox_policy_fault(json.as_ptr(), json.len(), text, room, length) })
+    text(64, |text, room, length| unsafe { hikebox_policy_fault(json.as_ptr(), json.len(), text, room, length) })
 }

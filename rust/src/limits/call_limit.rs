@@ -170,7 +170,8 @@ impl CallLimit {
             Some(handle) => handle,
             None => lock(&self.handles().root).split().map_err(fault)?,
         };
-        Ok(Request { limit: self.clone(), handle: Some(handle), generation: generation(), is_admitted: false })
+        let (limit, handle, generation) = (self.clone(), Some(handle), generation());
+        Ok(Request { limit, handle, generation, is_admitted: false, timed_out: false })
     }
 
     /// The state of each of its limits now, in the order in which they are asked. It changes nothing.
@@ -270,11 +271,12 @@ impl CallLimit {
         Ok(request)
     }
 
-    fn cost(&self) -> u64 {
+    /// What a retry takes, after a timeout or another failure.
+    fn cost(&self, timed_out: bool) -> u64 {
         match &self.shared.made {
-            Made::Of(Terms::Bucket(bucket)) => thousandths(bucket.cost).unwrap_or(0),
+            Made::Of(Terms::Bucket(bucket)) => thousandths(bucket.cost(timed_out)).unwrap_or(0),
             Made::Of(_) => 0,
-            Made::All(limits) => limits.iter().map(CallLimit::cost).max().unwrap_or(0),
+            Made::All(limits) => limits.iter().map(|limit| limit.cost(timed_out)).max().unwrap_or(0),
         }
     }
 
@@ -336,10 +338,11 @@ pub fn both(first: &CallLimit, second: &CallLimit) -> Result<CallLimit, LimitErr
     if (1..limits.len()).any(|place| limits[..place].iter().any(|one| is_one(one, &limits[place]))) {
         return Err(LimitError::SameLimit);
     }
-    let mut buckets = limits.iter().filter(|limit| matches!(limit.shared.made, Made::Of(Terms::Bucket(_))));
-    let cost = buckets.next().map_or(0, CallLimit::cost);
+    let buckets = limits.iter().filter(|limit| matches!(limit.shared.made, Made::Of(Terms::Bucket(_))));
+    let mut costs = buckets.map(|bucket| [bucket.cost(false), bucket.cost(true)]);
+    let first = costs.next();
     // (the engine has one cost for all of them)
-    if buckets.any(|bucket| bucket.cost() != cost) {
+    if costs.any(|other| Some(other) != first) {
         return Err(LimitError::CostsDiffer);
     }
     let tells = match limits.iter().all(|limit| matches!(limit.shared.tells, Tells::Nobody)) {
@@ -435,6 +438,8 @@ pub struct Request {
     generation: u64,
     /// Whether the limit admitted it.
     is_admitted: bool,
+    /// Whether its last run failed by a timeout.
+    timed_out: bool,
 }
 
 impl Request {
@@ -478,7 +483,7 @@ impl Request {
     ///
     /// [`Refused`] says why the limit does not grant it.
     pub fn draw(&mut self) -> Result<(), Refused> {
-        let cost = self.limit.cost();
+        let cost = self.limit.cost(self.timed_out);
         self.draw_of(cost)
     }
 
@@ -548,8 +553,11 @@ impl Admitted {
         lock(&self.request).succeeded();
     }
 
-    pub(crate) fn failed(&self) {
-        lock(&self.request).failed();
+    /// The run under way failed, by a timeout or otherwise.
+    pub(crate) fn failed(&self, timed_out: bool) {
+        let mut request = lock(&self.request);
+        request.timed_out = timed_out;
+        request.failed();
     }
 
     #[cfg(any(feature = "prometheus", feature = "tracing"))]

@@ -14,7 +14,7 @@ pub enum LimitError {
     Fixed,
     /// The reserve is above 4,294,967,296 retries a window.
     ReserveTooLarge,
-    /// The share is below 0, above 10 retries for each request, not a number, or above 0 and below half a thousandth.
+    /// The share is below 0, above 1000 retries for each request, not a number, or above 0 and below half a thousandth.
     ShareOutOfRange,
     /// The window is shorter than 100 milliseconds.
     PeriodTooShort,
@@ -73,7 +73,7 @@ impl fmt::Display for LimitError {
             Self::Fixed => "expected a budget that can rise, got one with a fixed limit",
             Self::ReserveTooLarge => "expected a reserve of at most 4294967296 retries a window, got more",
             Self::ShareOutOfRange => {
-                "expected a share of 0, or from 0.001 to 10 retries a request (0.2 is one for every five), got another"
+                "expected a share of 0, or from 0.001 to 1000 retries a request (0.2 is one for every five), got another"
             }
             Self::PeriodTooShort => "expected a window of at least 100 milliseconds, got a shorter one",
             Self::PeriodTooLong => "expected a window of at most 2^62 - 1 milliseconds, got a longer one",

@@ -65,7 +65,7 @@ struct Made {
     from: u64,
 }
 
-/// A reserve and a share, in the lower 16 bits, that are changed as one.
+/// A reserve and a share, in the lower 20 bits, that are changed as one.
 #[derive(Debug)]
 pub(crate) struct AtomicTerms(AtomicU64);
 
@@ -133,7 +133,7 @@ pub(crate) struct QuotaTerms {
 impl Quota {
     /// A quota of `reserve` retries in each window of length `per` (whole milliseconds, at least 100), and of `share`
     /// retries for each request of the window: 0.2 is one for every five. The share is counted in thousandths and is at
-    /// most 10, so a number that was meant as per cent, such as 20.0, is an error.
+    /// most 1000.
     ///
     /// # Errors
     ///
@@ -439,16 +439,16 @@ impl Counter {
 
 impl AtomicTerms {
     pub(crate) fn new(reserve: u64, share: u64) -> Self {
-        Self(AtomicU64::new(reserve << 16 | share))
+        Self(AtomicU64::new(reserve << 20 | share))
     }
 
     pub(crate) fn get(&self) -> (u64, u64) {
         let both = self.0.load(Ordering::Relaxed);
-        (both >> 16, both & 0xffff)
+        (both >> 20, both & 0xf_ffff)
     }
 
     pub(crate) fn set(&self, reserve: u64, share: u64) {
-        self.0.store(reserve << 16 | share, Ordering::Relaxed);
+        self.0.store(reserve << 20 | share, Ordering::Relaxed);
     }
 }
 
@@ -568,9 +568,6 @@ fn usage(used: Used) -> Usage {
     Usage { window, asked, given, left, next: Duration::from_millis(next) }
 }
 
-/// The greatest share, in thousandths of a ticket: 20.0 is 20 per cent by mistake.
-const MAX_SHARE: u64 = 10_000;
-
 impl QuotaTerms {
     /// The terms in the engine's units, where they have such.
     pub(crate) fn new(reserve: u64, share: f64, per: Duration) -> Result<Self, LimitError> {
@@ -593,5 +590,5 @@ impl QuotaTerms {
 
 /// Thousandths of a ticket, of a share that is such a number.
 pub(crate) fn share_of(share: f64) -> Result<u64, LimitError> {
-    thousandths(share).filter(|share| *share <= MAX_SHARE).ok_or(LimitError::ShareOutOfRange)
+    thousandths(share).ok_or(LimitError::ShareOutOfRange)
 }

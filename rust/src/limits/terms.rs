@@ -47,6 +47,9 @@ pub struct Bucket {
     pub credit: f64,
     /// The tokens that a retry takes: at most the capacity, and 1 by default.
     pub cost: f64,
+    /// What it takes after a timeout, if that differs. Of errors, which may have any type, a retry knows an
+    /// [`AttemptTimeout`](crate::AttemptTimeout) alone; in a storm it is a call that its client gave up.
+    pub timeout_cost: Option<f64>,
     /// Whether a success gives back what the call's last retry took, in the place of the credit.
     pub refund: bool,
 }
@@ -110,7 +113,7 @@ pub struct Adaptive {
 impl Default for Bucket {
     /// A retry takes one token, and all else is 0: give it a capacity.
     fn default() -> Self {
-        Self { capacity: 0.0, floor: 0.0, debit: 0.0, credit: 0.0, cost: 1.0, refund: false }
+        Self { capacity: 0.0, floor: 0.0, debit: 0.0, credit: 0.0, cost: 1.0, timeout_cost: None, refund: false }
     }
 }
 
@@ -130,19 +133,23 @@ impl Bucket {
         // (a float may be short of its last decimal; a ratio below the third one is left for `thousandths` to judge)
         let whole = (token_ratio * 1000.0 + 1e-6).floor();
         let credit = if whole >= 1.0 { whole / 1000.0 } else { token_ratio };
-        Ok(Self { capacity, floor: capacity / 2.0 + 0.001, debit: 1.0, credit, cost: 0.0, refund: false })
+        Ok(Self { capacity, floor: capacity / 2.0 + 0.001, debit: 1.0, credit, cost: 0.0, ..Self::default() })
     }
 
-    /// The AWS SDKs' standard mode: 500 tokens, of which a retry takes 5. A success gives back what the call's last
-    /// retry took, or else 1. (The SDKs take 10 after a timeout: [`Request::draw_at`](crate::Request::draw_at) takes any
-    /// number.)
+    /// The AWS SDKs' standard mode: 500 tokens, of which a retry takes 5, and 10 after a timeout. A success gives back
+    /// what the call's last retry took, or else 1.
     #[must_use]
     pub fn aws() -> Self {
-        Self { capacity: 500.0, floor: 0.0, debit: 0.0, credit: 1.0, cost: 5.0, refund: true }
+        Self { capacity: 500.0, credit: 1.0, cost: 5.0, timeout_cost: Some(10.0), refund: true, ..Self::default() }
     }
 
-    /// Its numbers in thousandths, and what a retry takes.
-    fn checked(&self) -> Result<(BucketTerms, u64), LimitError> {
+    /// The tokens that a retry takes, after a timeout or another failure.
+    pub(crate) fn cost(&self, timed_out: bool) -> f64 {
+        self.timeout_cost.filter(|_| timed_out).unwrap_or(self.cost)
+    }
+
+    /// Its numbers in thousandths, and what a retry takes, and takes after a timeout.
+    fn checked(&self) -> Result<(BucketTerms, u64, u64), LimitError> {
         let capacity = within(thousandths(self.capacity), MAX_CAPACITY, "capacity", CAPACITY)?;
         let terms = BucketTerms {
             size: 0,
@@ -152,7 +159,7 @@ impl Bucket {
             credit: tokens(self.credit, capacity, "credit")?,
             refund: self.refund,
         };
-        Ok((terms, tokens(self.cost, capacity, "cost")?))
+        Ok((terms, tokens(self.cost, capacity, "cost")?, tokens(self.cost(true), capacity, "timeout_cost")?))
     }
 }
 
@@ -203,7 +210,7 @@ impl Breaker {
     fn times(&self) -> Result<Vec<u64>, LimitError> {
         let course = Course { size: mem::size_of::<Course>(), steps: 64, from: 0, took: 0 };
         let mut policy = self.open_for.share().map_err(fault)?;
-        let (lines, _) = policy.course(course, &[Event { input: 0, words: [0; 4] }]).map_err(fault)?;
+        let lines = policy.course(&course, &[Event { input: 0, words: [0; 4] }]).map_err(fault)?;
         let times: Vec<u64> = lines.iter().filter(|line| line.goes_on).map(|line| line.start - line.moment).collect();
         match times.iter().max() {
             None => Err(out_of_range("open_for", "a policy that goes on at least once")),
@@ -295,8 +302,8 @@ impl Terms {
     pub(crate) fn on_storm(&self, storm: &mut engine::Storm) -> Result<(), LimitError> {
         match self {
             Self::Bucket(bucket) => {
-                let (terms, cost) = bucket.checked()?;
-                (storm.draws_on, storm.cost, storm.late_cost) = (ON_BUCKET, cost, cost);
+                let (terms, cost, late_cost) = bucket.checked()?;
+                (storm.draws_on, storm.cost, storm.late_cost) = (ON_BUCKET, cost, late_cost);
                 (storm.bucket_capacity, storm.bucket_floor) = (terms.capacity, terms.floor);
                 (storm.bucket_debit, storm.bucket_credit) = (terms.debit, terms.credit);
                 storm.bucket_refund = terms.refund.into();
@@ -352,7 +359,7 @@ pub(crate) fn thousandths(number: f64) -> Option<u64> {
 }
 
 /// Tokens in thousandths, at most as many as the capacity.
-pub(crate) fn tokens(number: f64, capacity: u64, parameter: &'static str) -> Result<u64, LimitError> {
+fn tokens(number: f64, capacity: u64, parameter: &'static str) -> Result<u64, LimitError> {
     within(thousandths(number), capacity, parameter, TOKENS)
 }
 

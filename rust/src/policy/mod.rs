@@ -187,9 +187,10 @@ impl Policy {
     pub fn preview(&self, steps: usize) -> Result<Vec<Line>, PolicyError> {
         let steps = u64::try_from(steps).unwrap_or(MAX_STEPS).min(MAX_STEPS);
         let course = engine::Course { size: mem::size_of::<engine::Course>(), steps, from: 0, took: 0 };
-        let event = Event { input: 0, words: [1 << 31; 4] };
+        let events = [Event { input: 0, words: [1 << 31; 4] }];
         let mut policy = self.share().map_err(PolicyError::of)?;
-        let (lines, text) = policy.course(course, &[event]).map_err(PolicyError::of)?;
+        let lines = policy.course(&course, &events).map_err(PolicyError::of)?;
+        let text = policy.outputs(&course, &events, &lines).map_err(PolicyError::of)?;
         let ends = lines.iter().map(|line| line.text_to as usize);
         let begins = std::iter::once(0).chain(ends);
         Ok(lines.iter().zip(begins).map(|(line, begin)| Line::of(line, begin, &text)).collect())

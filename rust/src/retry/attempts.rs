@@ -10,6 +10,7 @@ use crate::retry::machine::Ending;
 use crate::retry::progress::{Lost, Progress};
 use crate::retry::retrying::Retrying;
 use crate::retry::rules::CowLimit;
+use crate::retry::runs::Loss;
 use std::mem;
 use std::time::Duration;
 
@@ -96,37 +97,31 @@ impl<E, H: Hooked<E>, K: Clock, S, R: Random, T, L: MayRefuse> Retrying<'_, E, (
     /// How long it is until the next run after one that failed with this error, or how the retry ended.
     #[inline]
     pub(crate) fn fails(&self, progress: &mut Progress<'_>, course: &Course, error: &E) -> Result<Duration, Ending> {
-        self.hears(progress, course, error, false)
+        self.loses(progress, course, error, Loss::Failed)
     }
 
-    /// The same of a run that is late, and goes on: this error says that it is. It is no error of the call, so nothing
-    /// asks whether it is retried.
-    pub(crate) fn is_late(&self, progress: &mut Progress<'_>, course: &Course, error: &E) -> Result<Duration, Ending> {
-        self.hears(progress, course, error, true)
-    }
-
-    /// The same of a run that is late, or failed.
+    /// The same of a run that was lost so.
     #[inline(always)]
-    fn hears(
+    pub(crate) fn loses(
         &self,
         progress: &mut Progress<'_>,
         course: &Course,
         error: &E,
-        is_late: bool,
+        loss: Loss,
     ) -> Result<Duration, Ending> {
         let now = self.host.clock.moment();
         if L::HOLDS {
-            progress.failed();
+            progress.failed(loss != Loss::Failed);
         }
-        if !is_late && !self.hooks.when(error) {
+        if loss != Loss::Late && !self.hooks.when(error) {
             return Err(Ending::Cancelled);
         }
         let (retry_after, code) = (self.hooks.retry_after(error), self.hooks.code(error));
         let words = self.rules.policy.words(|| self.host.random.draw());
         let wait = progress.lost(&self.rules, now, &mut Lost::new(code, words, retry_after))?;
-        match is_late {
-            true => course.is_late(wait),
-            false => course.waits(wait),
+        match loss {
+            Loss::Late => course.is_late(wait),
+            Loss::Failed | Loss::TimedOut => course.waits(wait),
         }
         self.hooks.notify(error, wait);
         if wait.is_zero() || !self.rules.options.notifies {

@@ -122,15 +122,16 @@ impl<'a> Progress<'a> {
         running.lost(ended, lost, on)
     }
 
-    /// Tells a limit that was asked that the run under way failed, whether it is retried or not.
+    /// Tells a limit that was asked that the run under way failed, by a timeout or otherwise, whether it is retried or
+    /// not.
     #[inline]
-    pub(crate) fn failed(&mut self) {
+    pub(crate) fn failed(&mut self, timed_out: bool) {
         let On { limit, quiet, request } = &mut self.on;
         if let Some(quiet) = quiet.take() {
             *request = limit.get().call_limit().map(|limit| Admitted::of(limit.begun(&quiet)));
         }
         if let Some(request) = request {
-            request.failed();
+            request.failed(timed_out);
         }
     }
 
@@ -150,7 +151,7 @@ impl<'a> Progress<'a> {
         let last = self.running.as_mut().and_then(|running| running.retry.succeeded());
         let was_slow = self.has_request() && options.was_slow(self.run_began, clock);
         if was_slow {
-            self.failed();
+            self.failed(false);
         }
         let On { limit, quiet, request } = &mut self.on;
         let limit = limit.get();

@@ -18,12 +18,23 @@ pub(super) struct Runs<'h, P, E, S: AsyncSleep> {
     timer: Timer<S::Sleeping>,
 }
 
+/// How a run was lost.
+#[derive(Clone, Copy, PartialEq)]
+pub(crate) enum Loss {
+    /// Its call failed.
+    Failed,
+    /// It took too long, and was dropped.
+    TimedOut,
+    /// It is late, and goes on. The error that says so is none of the call, so nothing asks whether it is retried.
+    Late,
+}
+
 /// What happened.
 pub(super) enum Event<T, E> {
     /// A run succeeded, which began then, if somebody wants to know.
     Won(T, Option<Moment>),
     /// A run failed, or took too long.
-    Lost { error: E, was_late: bool },
+    Lost { error: E, loss: Loss, was_late: bool },
     /// The latest run is late, and goes on.
     Late(AttemptTimeout),
     /// The next run is due.
@@ -37,7 +48,7 @@ struct Run<P, E, Z> {
     ends: Timer<Z>,
     is_late: bool,
     /// Its error, once it failed.
-    lost: Option<E>,
+    lost: Option<(E, Loss)>,
 }
 
 /// A sleep, if there is one.
@@ -96,12 +107,12 @@ where
             }
         }
         for place in 0..runs.under_way.len() {
-            if let Some(error) = runs.under_way[place].lost.take() {
+            if let Some((error, loss)) = runs.under_way[place].lost.take() {
                 let was_late = runs.under_way.remove(place).is_late;
                 if !was_late {
                     runs.timer = Timer::NONE;
                 }
-                return Poll::Ready(Event::Lost { error, was_late });
+                return Poll::Ready(Event::Lost { error, loss, was_late });
             }
         }
         if !is_due {
@@ -132,8 +143,10 @@ impl<P, E, Z: Future<Output = ()>> Run<P, E, Z> {
         let is_over = self.ends.is_over(cx);
         match (self.call.as_mut().poll(cx), timed.attempt_timeout) {
             (Poll::Ready(Ok(value)), _) => return Some(value),
-            (Poll::Ready(Err(error)), _) => self.lost = Some(error),
-            (Poll::Pending, Some(after)) if is_over => self.lost = Some(AttemptTimeout { after }.into()),
+            (Poll::Ready(Err(error)), _) => self.lost = Some((error, Loss::Failed)),
+            (Poll::Pending, Some(after)) if is_over => {
+                self.lost = Some((AttemptTimeout { after }.into(), Loss::TimedOut));
+            }
             (Poll::Pending, _) => {}
         }
         None

@@ -167,7 +167,7 @@ impl<S: Service<Request>, Request, L: MayRefuse> Retries<S, Request, L> {
     fn failed(&mut self, code: Option<u64>, result: Result<&S::Response, &S::Error>) -> Result<Duration, Ending> {
         let Self { settings, began, held, progress, next, .. } = self;
         let progress = begun(progress, &settings.rules.limit, *began, held);
-        progress.failed();
+        progress.failed(false);
         match (next, code) {
             (Some(_), Some(code)) => settings.wait(progress, code, result),
             _ => Err(Ending::Cancelled),

@@ -9,7 +9,7 @@ use crate::retry::hooks::Hooked;
 use crate::retry::host::{Host, Random};
 use crate::retry::machine::Ending;
 use crate::retry::retrying::Retrying;
-use crate::retry::runs::{Event, Runs};
+use crate::retry::runs::{Event, Loss, Runs};
 use std::error::Error;
 use std::fmt;
 use std::future::Future;
@@ -186,11 +186,11 @@ impl<E, H: Hooked<E>, K: Clock, S: AsyncSleep, R: Random, L: MayRefuse>
                     self.succeeds(&mut progress, &mut course);
                     return Ok(value);
                 }
-                Event::Late(timeout) => self.is_late(&mut progress, &course, &timeout.into()).map(Some),
-                Event::Lost { error, was_late: false } => {
-                    self.fails(&mut progress, &course, last.insert(error)).map(Some)
+                Event::Late(timeout) => self.loses(&mut progress, &course, &timeout.into(), Loss::Late).map(Some),
+                Event::Lost { error, loss, was_late: false } => {
+                    self.loses(&mut progress, &course, last.insert(error), loss).map(Some)
                 }
-                Event::Lost { error, was_late: true } => match self.hooks.when(last.insert(error)) {
+                Event::Lost { error, was_late: true, .. } => match self.hooks.when(last.insert(error)) {
                     true => Ok(None),
                     false => Err(Ending::Cancelled),
                 },

@@ -3,7 +3,7 @@
 use crate::clock::whole_millis;
 use crate::engine::{self, MAX_TICKETS, ON_BUDGET, ON_QUOTA};
 use crate::limits::error::LimitError;
-use crate::limits::quota::share_of;
+use crate::limits::quota::QuotaTerms;
 use crate::storms::population::MAX_SHARES;
 use crate::storms::report::StormReport;
 use crate::storms::storm::{within, Storm, StormError};
@@ -88,6 +88,7 @@ impl Axis {
     /// The share of the quota, for the storms that have one: 0.2 is a retry for every five requests. It is counted in
     /// thousandths.
     pub fn share(values: impl IntoIterator<Item = f64>) -> Self {
+        let share_of = |share| Ok(QuotaTerms::new(0, share, Duration::from_secs(1))?.checked()?.share);
         let shares: Vec<Result<u64, LimitError>> = values.into_iter().map(share_of).collect();
         let fault = shares.iter().find_map(|share| share.err());
         let put = |storm, share| engine::Storm { share, ..storm };

@@ -4,7 +4,7 @@ use crate::clock::whole_millis;
 use crate::engine::{self, Handle, PassKind, Phase, Status, ON_BUDGET, ON_NOTHING, ON_QUOTA};
 use crate::limits::error::LimitError;
 use crate::limits::quota::QuotaTerms;
-use crate::limits::terms::{tokens as in_thousandths, Terms};
+use crate::limits::terms::Terms;
 use crate::policy::Policy;
 use crate::storms::population::{self, Population};
 use crate::storms::report::{PopulationReport, StormReport, StormTotals, StormWindow};
@@ -331,20 +331,9 @@ impl Storm {
         self
     }
 
-    /// Requests ask a limit of another system, with these terms, before their first call and for each retry. A retry
-    /// takes the cost of a [`Bucket`](crate::Bucket) after a late call too: see [`late_cost`](Self::late_cost).
+    /// Requests ask a limit of another system, with these terms, before their first call and for each retry.
     pub fn limit(mut self, terms: impl Into<Terms>) -> Self {
         self.fault = terms.into().on_storm(&mut self.parameters).err();
-        self
-    }
-
-    /// The tokens that a retry takes of a bucket after a call that its client gave up: the AWS SDKs take 10. Call it
-    /// after [`limit`](Self::limit).
-    pub fn late_cost(mut self, tokens: f64) -> Self {
-        match in_thousandths(tokens, self.parameters.bucket_capacity, "late_cost") {
-            Ok(cost) => self.parameters.late_cost = cost,
-            Err(fault) => self.fault = Some(fault),
-        }
         self
     }
 

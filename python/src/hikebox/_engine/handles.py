@@ -57,9 +57,8 @@ class Refusal(NamedTuple):
     hint: str
 
 
-def _text(call: str, fill: Callable[[Any, int, Any], int]) -> bytes:
-    """The bytes that a call writes into the room that it is given."""
-    room = 256
+def _text(call: str, fill: Callable[[Any, int, Any], int], room: int = 256) -> bytes:
+    """The bytes that a call writes into the room that it is given: first this, then what it needs."""
     while True:
         text = (c_uint8 * room)()
         length = c_size_t()
@@ -169,18 +168,22 @@ class PolicyHandle:
         """The policy as JSON, without spaces."""
         return _text("hikebox_policy_json", lambda *room: library.hikebox_policy_json(self.at, *room)).decode()
 
-    def course(self, steps: int, start: int, took: int, events: Sequence[Given]) -> List[Decided]:
+    def course(self, steps: int, start: int, took: int, events: Sequence[Given], tells: bool = True) -> List[Decided]:
         """What the policy does at its first events, at most so many: up to the one at which it does not go on. The
         first event is at the moment `start`, and each other one `took` after the start planned at the one before.
-        Events past those given are as the last of them."""
+        Events past those given are as the last of them. Their outputs are empty unless it `tells` them, for which the
+        engine computes the course again."""
         course = Course(steps, start, took)
         given = (Event * len(events)).from_buffer_copy(b"".join([_pack_event(*event) for event in events]))
         along, lines, count = (self.at, byref(course), given, len(events)), (Line * steps)(), c_size_t()
         status = library.hikebox_policy_course(*along, lines, steps, byref(count))
         if status != OK:
             raise refused("hikebox_policy_course", status)
-        outputs = _text("hikebox_policy_outputs", lambda *room: library.hikebox_policy_outputs(*along, *room))
-        return _decided(ctypes.string_at(lines, count.value * ctypes.sizeof(Line)), outputs.decode())
+        told = b""
+        if tells and count.value:
+            outputs = library.hikebox_policy_outputs
+            told = _text("hikebox_policy_outputs", lambda *room: outputs(*along, *room), lines[count.value - 1].text_to)
+        return _decided(ctypes.string_at(lines, count.value * ctypes.sizeof(Line)), told.decode())
 
     def __del__(self, free: Any = _policy_free) -> None:
         handle = getattr(self, "handle", None)  # (which an exception of a signal handler may have left out)

@@ -115,29 +115,22 @@ def tickets_of(number: int, of: str, bounds: str) -> int:
 
 
 def _share_of(share: float) -> int:
-    if isinstance(share, bool) or not isinstance(share, (int, float)):
-        raise TypeError(f"expected a number of retries a request as the share, got {share!r}")
-    if not 0 <= share <= MAX_SHARE / 1000:
-        raise TermsError(f"expected a share from 0 to {MAX_SHARE // 1000} retries a request, got {shown(share)}")
-    thousandths = round(share * 1000)
-    if share > 0 and thousandths == 0:
-        raise TermsError(f"expected a share of 0 or at least 0.001 retries a request, got {share!r}")
-    return thousandths
+    told = "expected {} of {} retries a request (0.2 is one for every five)"
+    return thousandths_of("a share", share, MAX_SHARE, told=told)
 
 
-def thousandths_of(name: str, value: float, most: int) -> int:
-    """Returns a number in thousandths, of which there are at most so many, or raises a `TermsError`.
+def thousandths_of(name: str, value: float, most: int, least: int = 0, told: str = "{}: expected {}") -> int:
+    """Returns a number in thousandths, from `least` to `most` of them, or raises a `TermsError` that tells this.
 
-    >>> thousandths_of("the ratio", 0.1, 1000)
+    >>> thousandths_of("ratio", 0.1, 1000)
     100
     """
     if isinstance(value, bool) or not isinstance(value, (int, float)):
         raise TypeError(f"expected a number as {name}, got {value!r}")
-    if not (0 <= value <= most and round(value * 1000) <= most):
-        raise TermsError(f"expected {name} from 0 to {most / 1000:.13g}, got {shown(value)}")
-    thousandths = round(value * 1000)
-    if value > 0 and thousandths == 0:
-        raise TermsError(f"expected 0 or at least 0.001 as {name}, got {value!r}")
+    thousandths = round(value * 1000) if 0 <= value <= most else -1
+    if not least <= thousandths <= most or (thousandths == 0 and value > 0):
+        bounds = f"{least / 1000:g} to {most / 1000:.13g}" if least else f"0, or from 0.001 to {most / 1000:.13g}"
+        raise TermsError(f"{told.format(name, bounds)}, got {shown(value)}")
     return thousandths
 
 

@@ -82,12 +82,15 @@ class Parser(argparse.ArgumentParser):
     def read(self, words: Optional[List[str]]) -> Any:
         """The parsed command line. A word that nobody takes ends the program."""
         words = sys.argv[1:] if words is None else words
+        # (the first one: argparse looks for a command past an option that there is not)
+        name = words[0].partition("=")[0] if words else ""
+        if name.startswith("-") and name.strip("-") and name not in self._options():
+            self.refuse(name)
         given, rest = self.parse_known_args(words)
-        if given.parser is self and not rest:
+        if given.parser is self:
             self.error(f"expected a command ({', '.join(self._commands())}), got none")
         if rest:
-            owner = self if words[0] == rest[0] else given.parser
-            owner.refuse(rest[0])
+            given.parser.refuse(rest[0])
         return given
 
     def refuse(self, word: str) -> NoReturn:
@@ -95,14 +98,16 @@ class Parser(argparse.ArgumentParser):
         if not word.startswith("-"):
             self.error(f"unexpected word {word!r}")
         name = word.partition("=")[0]
-        known = [option for action in self._actions for option in action.option_strings]
-        self.error(f"there is no option {name}{_nearest(name, known)}")
+        self.error(f"there is no option {name}{_nearest(name, self._options())}")
 
     def _check_value(self, action: argparse.Action, value: Any) -> None:
         if isinstance(action.choices, dict) and value not in action.choices:
             names = ", ".join(action.choices)
             self.error(f"expected a command ({names}), got {value!r}{_nearest(value, action.choices)}")
         super()._check_value(action, value)
+
+    def _options(self) -> List[str]:
+        return [option for action in self._actions for option in action.option_strings]
 
     def _commands(self) -> List[str]:
         return [name for action in self._actions if isinstance(action.choices, dict) for name in action.choices]

@@ -148,7 +148,7 @@ class _Script:
 
     def __init__(self, text: str) -> None:
         self.text = text
-        self.digest = hashlib.sha1(text.encode()).hexdigest()
+        self.digest = hashlib.sha1(text.encode()).hexdigest().encode()
 
     def by(self, send: Callable[..., Any], *words: Any) -> Any:
         """What it answers to these keys and arguments, before which their number stands. A server that lacks it does
@@ -206,7 +206,8 @@ class RedisStore:
         with _errors:
             send = self.client.execute_command
             if period is None:
-                given = self._take.by(send, 1, self._key(name), count, limit)
+                # (bytes, which a client packs as they are)
+                given = self._take.by(send, b"1", self._key(name).encode(), b"%d" % count, b"%d" % limit)
                 return Range(*_leased(given, name, count, limit), None)
             before, key = clock(), f"{self._key(name)}:{period}"
             found = self._take_of_window.by(send, 1, key, period * 1000, count, limit, 2 * period)

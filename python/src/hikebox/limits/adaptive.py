@@ -2,12 +2,11 @@
 
 from __future__ import annotations
 
-import contextlib
 import time
 
 from .._engine.limits import LimitHandle
 from ..budgets.terms import count_of, thousandths_of, thousandths_text
-from ..errors import TermsError, shown
+from ..errors import TermsError
 from .limit import CallLimit
 from .seen import AdaptiveSeen
 from .terms import LimitTerms, adaptive
@@ -45,7 +44,7 @@ class Adaptive(CallLimit):
         if not count_of("least", least, 1, _MOST) <= count_of("first", first, 1, _MOST) <= most:
             default = " (first is 20 by default)" if first == 20 else ""
             raise TermsError(f"expected least <= first <= most, got {least}, {first} and {most}{default}")
-        self._terms = (least, most, first, _share_of(backoff))
+        self._terms = (least, most, first, thousandths_of("backoff", backoff, 999, least=1))
         super().__init__(time.monotonic)
 
     def make(self) -> LimitHandle:
@@ -62,16 +61,6 @@ class Adaptive(CallLimit):
     def expression(self) -> str:
         least, most, first, share = self._terms
         return f"Adaptive(least={least}, most={most}, first={first}, backoff={thousandths_text(share)})"
-
-
-def _share_of(backoff: float) -> int:
-    """What a failure leaves, in thousandths."""
-    share = 0
-    with contextlib.suppress(TermsError):
-        share = thousandths_of("backoff", backoff, 999)
-    if share == 0:
-        raise TermsError(f"backoff: expected 0.001 to 0.999, got {shown(backoff)}")
-    return share
 
 
 #: The most calls at once.

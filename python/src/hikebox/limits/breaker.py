@@ -217,7 +217,7 @@ def _policy_of(open_for: Any) -> Policy:
 def times_of(policy: Policy, name: str = "open_for") -> List[int]:
     """The open times of a breaker: the first waits of a policy, in milliseconds, on a course whose events have the
     input 0 and the random words 0."""
-    lines = policy.plan.course(_MAX_TIMES, 0, 0, [(0, 0, 0, 0, 0)])
+    lines = policy.plan.course(_MAX_TIMES, 0, 0, [(0, 0, 0, 0, 0)], tells=False)
     times = [line.start - line.moment for line in lines if line.start is not None]
     if not times:
         raise TermsError(f"{name}: expected a policy that goes on, got {policy!r}")

@@ -60,7 +60,7 @@ class Bucket(CallLimit):
     __slots__ = ("_terms", "_cost", "_timeout_cost")
 
     has_costs = True
-    rests = True
+    rests = admits_all = True
 
     def __init__(
         self,
@@ -73,12 +73,12 @@ class Bucket(CallLimit):
         timeout_cost: Optional[float] = None,
         refund: bool = False,
     ) -> None:
-        most = thousandths_of("the capacity", capacity, _MAX_CAPACITY)
+        most = thousandths_of("capacity", capacity, _MAX_CAPACITY)
         if not isinstance(refund, bool):
             raise TypeError(f"refund: expected True or False, got {refund!r}")
         late = cost if timeout_cost is None else timeout_cost
         parts = {"floor": floor, "debit": debit, "credit": credit, "cost": cost, "timeout_cost": late}
-        counts = [thousandths_of(f"the {name}", value, _MAX_CAPACITY) for name, value in parts.items()]
+        counts = [thousandths_of(name, value, _MAX_CAPACITY) for name, value in parts.items()]
         for (name, value), count in zip(parts.items(), counts):
             if count > most:
                 raise TermsError(f"expected a capacity of at least the {name}, {value!r}, got {capacity!r}")
@@ -95,9 +95,7 @@ class Bucket(CallLimit):
         """gRPC's `retryThrottling`: a failure takes one token, a success gives `token_ratio` of one, and a retry is
         granted while more than half of `max_tokens` are left. As in gRPC, what follows the third decimal of the ratio
         is ignored."""
-        most = thousandths_of("max_tokens", max_tokens, _MAX_CAPACITY)
-        if most < 1000:
-            raise TermsError(f"max_tokens: expected 1 token or more, got {max_tokens!r}")
+        most = thousandths_of("max_tokens", max_tokens, _MAX_CAPACITY, least=1000)
         made = cls.__new__(cls)
         credit = thousandths_of("token_ratio", token_ratio, most)
         if credit > 1 and credit > token_ratio * 1000 + FLOAT_ERROR:
@@ -180,7 +178,7 @@ class InFlight(CallLimit):
 
     def __init__(self, least: int, share: float, *, most: Optional[int] = None) -> None:
         bound = MAX_COUNT if most is None else count_of("most", most, 1, MAX_COUNT)
-        self._terms = (count_of("least", least, 0, MAX_COUNT), thousandths_of("the share", share, 1000), bound)
+        self._terms = (count_of("least", least, 0, MAX_COUNT), thousandths_of("share", share, 1000), bound)
         super().__init__(time.monotonic)
 
     @classmethod
@@ -246,10 +244,8 @@ class Throttle(CallLimit):
         clock: Callable[[], float] = time.monotonic,
         random: Callable[[], float] = _random.random,
     ) -> None:
-        self._ratio = thousandths_of("the ratio", ratio, MAX_COUNT)
+        self._ratio = thousandths_of("ratio", ratio, MAX_COUNT, least=1000)
         self._period = duration_of("period", period)
-        if self._ratio < 1000:
-            raise TermsError(f"expected a ratio of 1 or more, got {ratio!r}")
         if self._period == 0:
             raise TermsError(f"expected a period of at least a millisecond, got {period!r}")
         super().__init__(clock, random)

@@ -66,12 +66,14 @@ class CallLimit(OfOneProcess, Limit):
     __slots__ = ("_clock", "_random", "now", "word", "generation", "root", "idle", "_split", "lock", "__weakref__")
 
     #: Whether it looks at its clock, and that also at a success; whether it draws random numbers; whether a retry may
-    #: cost something; and whether it is quiet at times, so that a call which succeeds at once leaves it as it is.
+    #: cost something; whether it is quiet at times, so that a call which succeeds at once leaves it as it is; and
+    #: whether it then admits each call, of which it need not hear before the first attempt.
     reads_clock = False
     times_successes = False
     reads_random = False
     has_costs = False
     rests = False
+    admits_all = False
 
     IS_ASKED = True
 
@@ -190,11 +192,12 @@ class CallLimit(OfOneProcess, Limit):
         except IndexError:
             place = self.lend()
         look = place.look
-        look()
-        if place.told[0]:
-            return place, None, None, look
-        place.home.append(place)
-        return self.ask()
+        if not self.admits_all:
+            look()
+            if not place.told[0]:
+                place.home.append(place)
+                return self.ask()
+        return place, None, None, look
 
     def cost_of(self, error: Optional[BaseException]) -> int:
         """What a retry after this error costs, in thousandths."""
@@ -237,14 +240,14 @@ class Request(OfOneProcess):
     __slots__ = ("_limit", "_handle", "_is_admitted", "_refusal")
 
     def __init__(self, limit: CallLimit, found: Optional[Place] = None) -> None:
-        """Begins none, or one that the limit admitted as it was found quiet."""
+        """Begins none, or one that the limit admitted as it was found quiet, or admits now as it does each."""
         self._limit = limit
         self._handle = found
-        self._is_admitted = found is not None
+        self._is_admitted = found is not None and not limit.admits_all
         #: Why the limit of a forked child did not admit it.
         self._refusal: Optional[Refusal] = None
         if found is not None:
-            found.begin()
+            self.admit() if limit.admits_all else found.begin()
 
     def _held(self) -> Place:
         """Its place, of this process."""

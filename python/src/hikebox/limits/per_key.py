@@ -43,8 +43,9 @@ class PerKey(OfOneProcess, Limit, Generic[Made]):
     limit from then on, in all threads.
 
     `make`
-        A function of the key that returns a limit. It is called once for each key, and may not ask for limits of this
-        `PerKey`. If it raises, so does the call that needs the limit, and the next such call calls it again.
+        A function of the key that returns a limit. It is called once for each key. Until it returns, neither it nor the
+        handler of a signal may need another new limit of this `PerKey`. If it raises, so does the call that needs the
+        limit, and the next such call calls it again.
     `key`
         A function of the arguments of a call that returns its key. With it, the `PerKey` can be the `limit` of a retry.
     `most`

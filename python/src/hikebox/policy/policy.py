@@ -258,15 +258,15 @@ class Policy:
 
     def __and__(self, other: Policy) -> Policy:
         """Goes on while both do, at the later start; gives the pair. ZIO's `&&`, JSON's `meet`."""
-        return self._with("meet", other)
+        return Policy.of_node("meet", (), self, other) if isinstance(other, Policy) else NotImplemented
 
     def __or__(self, other: Policy) -> Policy:
         """Goes on while one does, at the earlier start; gives the pair. ZIO's `||`, JSON's `join`."""
-        return self._with("join", other)
+        return Policy.of_node("join", (), self, other) if isinstance(other, Policy) else NotImplemented
 
     def __rshift__(self, other: Policy) -> Policy:
         """The other one, whose inputs are this one's outputs; goes on while both do. ZIO's `>>>`, JSON's `feed`."""
-        return self._with("feed", other)
+        return Policy.of_node("feed", (), self, other) if isinstance(other, Policy) else NotImplemented
 
     def and_then(self, other: Policy) -> Policy:
         """This one until it is done; that event and all later ones go to the other. JSON's `follow`.
@@ -275,15 +275,9 @@ class Policy:
         >>> [step.next_ms for step in recurs(2).and_then(spaced(0.05)).preview(steps=4)]
         [0, 0, 50, 100]
         """
-        made = self._with("follow", other)
-        if made is NotImplemented:
-            raise TypeError(f"expected a policy, got {other!r}")
-        return made
-
-    def _with(self, name: str, other: object) -> Policy:
         if not isinstance(other, Policy):
-            return NotImplemented
-        return Policy.of_node(name, (), self, other)
+            raise TypeError(f"expected a policy, got {other!r}")
+        return Policy.of_node("follow", (), self, other)
 
     # One policy
 

@@ -236,8 +236,8 @@ def _rust_limit(limit: LimitTerms) -> List[str]:
     if limit.draws_on == ON_BUCKET:
         levels = {name: f"bucket_{name}" for name in ("capacity", "floor", "debit", "credit")}
         refund = str(bool(numbers["bucket_refund"])).lower()
-        found = [f"limit(Bucket {{ {members(**levels, cost='cost')}, refund: {refund} }})"]
-        return found + [f"late_cost({numbers['late_cost'] / 1000!r})"] * (numbers["cost"] != numbers["late_cost"])
+        late = f"Some({numbers['late_cost'] / 1000!r})" if numbers["cost"] != numbers["late_cost"] else "None"
+        return [f"limit(Bucket {{ {members(**levels, cost='cost')}, timeout_cost: {late}, refund: {refund} }})"]
     if limit.draws_on == ON_IN_FLIGHT:
         most = "None" if numbers["most"] == NO_MOST else f"Some({numbers['most']})"
         return [f"limit(InFlight {{ least: {numbers['least']}, {members(share='share')}, most: {most} }})"]
