@@ -32,6 +32,7 @@ impl<S: Drives, D: Draws, A: Aims> Turns for Machine<S, D, A> {
         self.over()
     }
 
+    #[inline(always)]
     fn tell(&mut self, alloc: Global, tick: &Tick, ran: Ran) -> Option<How> {
         let _ = self.report(alloc, tick, ran);
         self.over()
