@@ -416,14 +416,15 @@ def test_control_z_stops_both_and_fg_continues_both(shell: Shell, tmp_path: Path
     shell.types("line\n")
     shell.expects("got line")
     # in the background it goes on, and is stopped where it reads the terminal
-    file = tmp_path / "file"
-    waits = f"until [ -e {file} ]; do sleep 0.05; done"
-    shell.types(f"{RUN} -- sh -c 'echo up $$.; {waits}; echo slept; read x; echo got $x'\n")
+    # (it waits without a fork: while dash starts another program it can't stop, and that one can, which ends in nothing)
+    pipe = tmp_path / "pipe"
+    os.mkfifo(pipe)
+    shell.types(f"{RUN} -- sh -c 'echo up $$.; read w < {pipe}; echo slept; read x; echo got $x'\n")
     command = shell.begins()
     shell.types("\x1a")
     shell.expects("Stopped")
     shell.types("bg\n")
-    file.touch()
+    pipe.write_text("\n")
     shell.expects("\nslept")
     stopped(shell)
     shell.types("fg\n")
