@@ -114,9 +114,7 @@ where
         board.add(retry(alloc, drawing, runs)?).ok()?;
     }
     let stations = stations(alloc, workers)?;
-    let end = board
-        .run(rt, alloc, pass, stations, &OpenGate, 4294967296)
-        .ok()?;
+    let end = board.run(rt, pass, stations, &OpenGate, 4294967296).ok()?;
     Some(end.granted)
 }
 

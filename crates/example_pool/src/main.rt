@@ -97,7 +97,7 @@ where
         let station = Station::new(SystemClock::new(rt)?, SystemWords::new(rt)?, 50);
         stations.push(station.context("the hold is out of range")?)?;
     }
-    match board.run(rt, alloc, pass, stations, &OpenGate, u64::MAX) {
+    match board.run(rt, pass, stations, &OpenGate, u64::MAX) {
         Ok(end) => Ok(end.granted),
         Err(_) => bail!("the board stopped"),
     }

@@ -62,7 +62,7 @@ where
         budget,
         turns,
     } = *options;
-    let Batch { ends, granted } = match run_batch(rt, alloc, jobs, budget, workers, turns) {
+    let Batch { ends, granted } = match run_batch(rt, jobs, budget, workers, turns) {
         Ok(batch) => batch,
         Err(BatchFault::NoMemory) => return Err(PoolFault::Print(PrintFault::NoMemory)),
         Err(BatchFault::NotStarted) => return Err(PoolFault::NotStarted),

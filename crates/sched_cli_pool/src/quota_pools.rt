@@ -58,7 +58,7 @@ where
         ends,
         granted,
         windows,
-    } = match run_on_quota(rt, alloc, jobs, terms, turns) {
+    } = match run_on_quota(rt, jobs, terms, turns) {
         Ok(batch) => batch,
         Err(QuotaBatchFault::NoMemory) => return Err(PoolFault::Print(PrintFault::NoMemory)),
         Err(QuotaBatchFault::Mixed) => return Err(PoolFault::Mixed),

@@ -1,5 +1,5 @@
 //! A line for each window: the share of its requests that were won, what happened in it, and a bar of its calls.
-use crate::lines::{digits, push_right};
+use crate::lines::{digits, push_numbers, push_right};
 use crate::totals::share_of;
 use sched_cli_plan::push_count;
 use sched_storm::{Report, Window};
@@ -31,7 +31,7 @@ pub(crate) fn push_bars(
     text.push_str("  # request, + retry\n")?;
     for window in &report.windows {
         push_share(alloc, text, window)?;
-        push_numbers(alloc, text, window, &widths)?;
+        push_numbers(alloc, text, &numbers(window), &widths)?;
         push_bar(text, window, report.totals.most_calls, bar)?;
         text.push('\n')?;
     }
@@ -87,22 +87,6 @@ fn push_share(alloc: Global, text: &mut String, window: &Window) -> Result<(), N
         None => word.push('-')?,
     }
     push_right(text, word.as_str(), SHARE.len())
-}
-
-// Adds the numbers of a window.
-fn push_numbers(
-    alloc: Global,
-    text: &mut String,
-    window: &Window,
-    widths: &[usize],
-) -> Result<(), NoMemory> {
-    let mut word = String::new(alloc);
-    for (number, width) in numbers(window).iter().zip(widths) {
-        word.clear();
-        write!(word, "{number}")?;
-        push_right(text, word.as_str(), *width)?;
-    }
-    Ok(())
 }
 
 // Adds a bar of the calls that began, of which so many are as long as the longest bar: requests, and then retries.

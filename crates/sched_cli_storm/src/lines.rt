@@ -17,7 +17,7 @@ pub(crate) fn push_lines(
     }
     text.push('\n')?;
     for window in &report.windows {
-        push_numbers(alloc, text, window, &widths)?;
+        push_numbers(alloc, text, &row(window), &widths)?;
         text.push('\n')?;
     }
     Ok(())
@@ -60,15 +60,15 @@ pub(crate) fn push_right(text: &mut String, word: &str, width: usize) -> Result<
     Ok(())
 }
 
-// Adds the numbers of a window.
-fn push_numbers(
+/// Adds numbers, each at the right of its column.
+pub(crate) fn push_numbers(
     alloc: Global,
     text: &mut String,
-    window: &Window,
+    numbers: &[u64],
     widths: &[usize],
 ) -> Result<(), NoMemory> {
     let mut word = String::new(alloc);
-    for (number, width) in row(window).iter().zip(widths) {
+    for (number, width) in numbers.iter().zip(widths) {
         word.clear();
         write!(word, "{number}")?;
         push_right(text, word.as_str(), *width)?;

@@ -130,7 +130,6 @@ impl<'a, X: Effect, N: Naming> Board<'a, X, N> {
     pub fn run<R, C, G, Q>(
         mut self,
         rt: &R,
-        alloc: Global,
         pass: Pass,
         stations: Vec<Station<C, G>>,
         gate: &Q,
@@ -148,13 +147,14 @@ impl<'a, X: Effect, N: Naming> Board<'a, X, N> {
         ensures over { IfOk result (λ e. all_over e.jobs.items ≡ true) }
         ensures err { IfErr result (λ stop. StopFits N.budget self.entry pass (vec_len stations) stop) }
     {
+        let alloc = rt.alloc();
         let shares = match self.shares(alloc, stations.len()) {
             Ok(shares) => shares,
             Err(ShareFault::BadWorkers) => return Err(PoolStop::BadWorkers(self, pass)),
             Err(ShareFault::Sealed) => return Err(PoolStop::Sealed(self, pass)),
             Err(ShareFault::NoMemory) => return Err(PoolStop::NoMemory(self, pass)),
         };
-        match work_beside(rt, alloc, &self, shares, stations, gate, turns) {
+        match work_beside(rt, &self, shares, stations, gate, turns) {
             Effort::Worked => {}
             Effort::NoMemory => return Err(PoolStop::NoMemory(self, pass)),
             Effort::NotStarted => return Err(PoolStop::NotStarted(self, pass)),
@@ -219,7 +219,6 @@ fn start_all<R: Threads + Wait, D: Duty + Send + Drop>(rt: &R, duties: Vec<D>) -
 // Each share is worked through by a thread of its own.
 fn work_beside<'a, R, X, N, C, G, Q>(
     rt: &R,
-    alloc: Global,
     board: &Board<'a, X, N>,
     shares: Vec<Share>,
     stations: Vec<Station<C, G>>,
@@ -241,7 +240,7 @@ where
         turns,
         no_memory: AtomicBool::new(false),
     };
-    let Ok(workers) = crew(alloc, &shift, board, shares, stations) else {
+    let Ok(workers) = crew(rt.alloc(), &shift, board, shares, stations) else {
         return Effort::NoMemory;
     };
     let started = start_all(rt, workers);

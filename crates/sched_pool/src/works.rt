@@ -9,7 +9,7 @@ use crate::boards::Board;
 use rand_core::Rng;
 use sched_effect::Effect;
 use sched_pool_claim::Share;
-use sched_pool_worker::{Gate, Station, Worked, work_through};
+use sched_pool_worker::{Gate, Station, Work, Worked, work_through};
 use sched_task::Clock;
 use sched_ticket::Naming;
 use std::alloc::AllocGlobal;
@@ -42,6 +42,10 @@ impl<'a, X: Effect, N: Naming> Board<'a, X, N> {
             (result.turns ≡ turns) × (0 < length share.new.active) }
         ensures hold { station.new.hold ≡ station.old.hold }
     {
-        work_through(rt, &self.jobs, self, share, station, gate, turns)
+        let work = Work {
+            jobs: self.jobs.as_slice(),
+            claims: self,
+        };
+        work_through(rt, &work, share, station, gate, turns)
     }
 }

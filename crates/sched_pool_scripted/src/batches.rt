@@ -68,7 +68,6 @@ impl From<NoMemory> for BatchFault {
 /// one that was read at its place, or the budget does not count as it should: no right run meets that.
 pub fn run_batch<R>(
     rt: &R,
-    alloc: Global,
     jobs: &[JobRead],
     limit: u64,
     workers: u64,
@@ -81,12 +80,12 @@ where
     requires crew { (1 ≤ workers) × (workers ≤ 16) }
     ensures { IfOk result (λ batch. AreRun jobs.now limit batch.ends.items batch.granted) }
 {
-    let (budget, pass) = match Budget::new(alloc, limit) {
+    let (budget, pass) = match Budget::new(rt.alloc(), limit) {
         Ok(made) => made,
         Err(TicketFault::NoMemory) => return Err(BatchFault::NoMemory),
         Err(_) => unreachable!(),
     };
-    let end = run_on::<Brand, R>(rt, alloc, jobs, &budget, pass, workers, turns)?;
+    let end = run_on::<Brand, R>(rt, jobs, &budget, pass, workers, turns)?;
     if !are_ends_of(jobs, &end.jobs) {
         return Err(BatchFault::Mixed);
     }
@@ -98,7 +97,6 @@ where
 // Runs the jobs on the budget that the type names.
 fn run_on<N: Naming + Send + Sync, R>(
     rt: &R,
-    alloc: Global,
     jobs: &[JobRead],
     budget: &Budget,
     mut pass: Pass,
@@ -115,9 +113,10 @@ where
     ensures end { IfOk result (λ end. IsNewEnd budget.now (length jobs.now) end.jobs.items end.pass end.granted) }
     ensures of { IfOk result (λ end. IsOf budget.now end.pass) }
 {
+    let alloc = rt.alloc();
     let stations = stations(alloc, workers)?;
     let board = boarded::<N>(alloc, jobs, budget, &mut pass)?;
-    match board.run(rt, alloc, pass, stations, &OpenGate, turns) {
+    match board.run(rt, pass, stations, &OpenGate, turns) {
         Ok(end) => Ok(end),
         Err(PoolStop::TurnsSpent(end)) => Ok(end),
         Err(PoolStop::NoMemory(..)) => Err(BatchFault::NoMemory),

@@ -104,7 +104,6 @@ impl TakenBack {
 /// the quota was not closed.
 pub fn run_on_quota<R>(
     rt: &R,
-    alloc: Global,
     jobs: &[JobRead],
     terms: Terms,
     turns: u64,
@@ -117,7 +116,7 @@ where
     let Some(start) = Moment::new(0) else {
         unreachable!()
     };
-    let (quota, pass) = match Quota::new(alloc, start, copied(&terms)) {
+    let (quota, pass) = match Quota::new(rt.alloc(), start, copied(&terms)) {
         Ok(made) => made,
         Err(QuotaFault::NoMemory) => return Err(QuotaBatchFault::NoMemory),
         Err(_) => unreachable!(),
@@ -126,7 +125,7 @@ where
         ends,
         pass,
         mut windows,
-    } = run_beside(rt, alloc, jobs, &quota, pass, turns)?;
+    } = run_beside(rt, jobs, &quota, pass, turns)?;
     windows.sort_unstable();
     if !are_ends_of(jobs, &ends) {
         return Err(QuotaBatchFault::Mixed);
@@ -157,7 +156,6 @@ fn copied(terms: &Terms) -> Terms
 // Runs the jobs on the quota, and takes them back.
 fn run_beside<R>(
     rt: &R,
-    alloc: Global,
     jobs: &[JobRead],
     quota: &Quota,
     mut pass: Pass,
@@ -172,6 +170,7 @@ where
     let Some(start) = Moment::new(0) else {
         unreachable!()
     };
+    let alloc = rt.alloc();
     let mut retries = retries_of(alloc, jobs, quota, &mut pass, start)?;
     drive(rt, &mut retries, start, turns)?;
     take_back(alloc, retries, quota, pass)

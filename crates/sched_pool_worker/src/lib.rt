@@ -13,4 +13,4 @@ mod works;
 
 pub use gates::{Gate, OpenGate};
 pub use stations::Station;
-pub use works::{Finish, Worked, work_through};
+pub use works::{Finish, Work, Worked, work_through};

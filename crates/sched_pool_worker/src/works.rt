@@ -18,6 +18,15 @@ use std::alloc::{AllocGlobal, Global};
 use std::random::RandomSource;
 use std::sync::{Mutex, Wait};
 
+/// What there is to work through.
+#[derive(Drop)]
+pub struct Work<'b, T, J> {
+    /// The jobs, each behind its lock, in the order of their numbers.
+    pub jobs: &'b [Mutex<T>],
+    /// What has the claims of them.
+    pub claims: &'b J,
+}
+
 /// How far a worker got.
 #[derive(Clone, Copy, Debug, PartialEq, Eq, Drop)]
 pub struct Worked {
@@ -49,8 +58,7 @@ pub enum Finish {
 /// call goes on with them.
 pub fn work_through<R, T: Task, J: Claimed, C: Clock, G: Rng, Q: Gate>(
     rt: &R,
-    jobs: &[Mutex<T>],
-    claims: &J,
+    work: &Work<'_, T, J>,
     share: &mut Share,
     station: &mut Station<C, G>,
     gate: &Q,
@@ -58,9 +66,10 @@ pub fn work_through<R, T: Task, J: Claimed, C: Clock, G: Rng, Q: Gate>(
 ) -> Worked
 where
     R: Wait + RandomSource + AllocGlobal,
-    requires of { IsShareOf (J.claims claims.now) share.old }
-    requires places { ForSome (J.claims claims.now) (λ claims. claims.terms.limit ≤ length jobs.now) }
-    ensures of { IsShareOf (J.claims claims.now) share.new }
+    requires of { IsShareOf (J.claims work.now.claims.now) share.old }
+    requires places { ForSome (J.claims work.now.claims.now)
+        (λ claims. claims.terms.limit ≤ length work.now.jobs.now) }
+    ensures of { IsShareOf (J.claims work.now.claims.now) share.new }
     ensures went_on { WentOn share.old share.new }
     ensures turns { result.turns ≤ turns }
     ensures polls { IsLeft turns (G.stream station.old.rng) (G.stream station.new.rng) }
@@ -72,9 +81,10 @@ where
     ensures held { length share.new.active ≤ max (length share.old.active) station.old.hold }
     ensures hold { station.new.hold ≡ station.old.hold }
 {
+    let claims = work.claims;
     let mut used = 0;
     while claim_some(claims, share, station.hold) {
-        match work_some(rt, jobs, share, station, gate, turns - used) {
+        match work_some(rt, work.jobs, share, station, gate, turns - used) {
             Ok(more) => used += more,
             Err(LoopStop::TurnsSpent) => {
                 return Worked {

@@ -131,24 +131,20 @@ fn are_told(rt: &impl Abort, ends: &[RetryEnd<Call>], want: &[&str]) {
 }
 
 // Two calls on a thread each: one is answered at its third run, and one fails three times.
-fn calls_two<R, N: Naming + Send + Sync>(
-    rt: &R,
-    alloc: Global,
-    budget: &Budget,
-    mut pass: Pass,
-) -> Pass
+fn calls_two<R, N: Naming + Send + Sync>(rt: &R, budget: &Budget, mut pass: Pass) -> Pass
 where
     R: Threads + Wait + RandomSource + AllocGlobal + Abort + Sync,
     requires name { budget.now ≡ N.budget }
     requires of { IsOf budget.now pass }
     ensures { IsOf budget.entry.now result }
 {
+    let alloc = rt.alloc();
     let mut board: Board<Call, N> = Board::new(alloc, budget);
     adds(rt, alloc, budget, &mut pass, &mut board, 2);
     adds(rt, alloc, budget, &mut pass, &mut board, 3);
     let stations = stations(rt, alloc, 2);
     let end = board
-        .run(rt, alloc, pass, stations, &OpenGate, 100_000_000)
+        .run(rt, pass, stations, &OpenGate, 100_000_000)
         .ok()
         .expect(rt, "all jobs are over");
     are_told(rt, &end.jobs, &["fresh", "timed out"]);
@@ -159,6 +155,6 @@ where
 #[test]
 fn calls_are_answered_or_fail(rt: HostRuntime) {
     let (budget, pass) = Budget::new(rt.alloc(), 10).expect(&rt, "the limit is in range");
-    let pass = calls_two::<_, Brand>(&rt, rt.alloc(), &budget, pass);
+    let pass = calls_two::<_, Brand>(&rt, &budget, pass);
     assert_eq!(rt; budget.close(pass).ok(), Some(4));
 }

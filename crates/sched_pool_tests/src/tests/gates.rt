@@ -46,7 +46,7 @@ fn two_threads_meet(rt: HostRuntime) {
         zero_met: AtomicBool::new(false),
         one_met: AtomicBool::new(false),
     };
-    assert_eq!(rt; total(&rt, rt.alloc(), 100, (2, 2), &gate), 6);
+    assert_eq!(rt; total(&rt, 100, (2, 2), &gate), 6);
     assert!(rt; gate.zero_met.load(Ordering::SeqCst));
     assert!(rt; gate.one_met.load(Ordering::SeqCst));
 }

@@ -14,7 +14,6 @@ use std::thread::Threads;
 // they were granted.
 fn runs_all<R, N: Naming + Send + Sync, Q: Gate + Sync>(
     rt: &R,
-    alloc: Global,
     budget: &Budget,
     mut pass: Pass,
     jobs: usize,
@@ -27,10 +26,11 @@ where
     requires of { IsOf budget.now pass }
     ensures { IsOf budget.entry.now result.0 }
 {
+    let alloc = rt.alloc();
     let board: Board<Scripted, N> = board_of(rt, alloc, budget, &mut pass, jobs, 3);
     let stations = stations(rt, alloc, threads);
     let end = board
-        .run(rt, alloc, pass, stations, gate, 100_000_000)
+        .run(rt, pass, stations, gate, 100_000_000)
         .ok()
         .expect(rt, "all jobs are over");
     assert_eq!(rt; end.jobs.len(), jobs);
@@ -38,18 +38,12 @@ where
 }
 
 /// How many tickets a pool of so many jobs, on so many threads, draws on a budget of its own.
-pub(super) fn total<R, Q: Gate + Sync>(
-    rt: &R,
-    alloc: Global,
-    limit: u64,
-    size: (usize, usize),
-    gate: &Q,
-) -> u64
+pub(super) fn total<R, Q: Gate + Sync>(rt: &R, limit: u64, size: (usize, usize), gate: &Q) -> u64
 where
     R: Threads + Wait + RandomSource + AllocGlobal + Abort + Sync,
 {
-    let (budget, pass) = Budget::new(alloc, limit).expect(rt, "the limit is in range");
-    let (pass, granted) = runs_all::<_, Brand, _>(rt, alloc, &budget, pass, size.0, size.1, gate);
+    let (budget, pass) = Budget::new(rt.alloc(), limit).expect(rt, "the limit is in range");
+    let (pass, granted) = runs_all::<_, Brand, _>(rt, &budget, pass, size.0, size.1, gate);
     assert_eq!(rt; budget.close(pass).ok(), Some(granted));
     granted
 }

@@ -186,18 +186,14 @@ fn cancelled<N: Naming>(
 }
 
 // A board whose job is watched and cancelled while a worker polls it.
-fn watches<R, N: Naming + Send + Sync>(
-    rt: &R,
-    alloc: Global,
-    budget: &Budget,
-    mut pass: Pass,
-) -> Pass
+fn watches<R, N: Naming + Send + Sync>(rt: &R, budget: &Budget, mut pass: Pass) -> Pass
 where
     R: Threads + Wait + RandomSource + AllocGlobal + Abort + Sync,
     requires name { budget.now ≡ N.budget }
     requires of { IsOf budget.now pass }
     ensures { IsOf budget.entry.now result }
 {
+    let alloc = rt.alloc();
     let mut board: Board<Stuck, N> = stuck_board(rt, alloc, budget, &mut pass);
     let share = one_share(rt, alloc, &mut board);
     let worked = works_watched(rt, &board, share);
@@ -208,6 +204,6 @@ where
 #[test]
 fn a_watched_job_is_cancelled(rt: HostRuntime) {
     let (budget, pass) = Budget::new(rt.alloc(), 10).expect(&rt, "the limit is in range");
-    let pass = watches::<_, Brand>(&rt, rt.alloc(), &budget, pass);
+    let pass = watches::<_, Brand>(&rt, &budget, pass);
     assert_eq!(rt; budget.close(pass).ok(), Some(0));
 }

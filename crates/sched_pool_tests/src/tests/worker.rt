@@ -1,5 +1,5 @@
 //! One worker with the jobs of its share, played step by step.
-use sched_pool_worker::{Finish, Gate, OpenGate, Station, Worked, work_through};
+use sched_pool_worker::{Finish, Gate, OpenGate, Station, Work, Worked, work_through};
 
 mod gates;
 mod jobs;

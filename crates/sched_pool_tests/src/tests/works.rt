@@ -64,13 +64,14 @@ fn taken_back<N: Naming>(
 }
 
 // The first of two jobs is cancelled before the work.
-fn cancels_one<R, N: Naming>(rt: &R, alloc: Global, budget: &Budget, mut pass: Pass) -> Pass
+fn cancels_one<R, N: Naming>(rt: &R, budget: &Budget, mut pass: Pass) -> Pass
 where
     R: Wait + RandomSource + AllocGlobal + Abort,
     requires name { budget.now ≡ N.budget }
     requires of { IsOf budget.now pass }
     ensures { IsOf budget.entry.now result }
 {
+    let alloc = rt.alloc();
     let mut board: Board<Scripted, N> = board_of(rt, alloc, budget, &mut pass, 2, 2);
     assert!(rt; board.cancel(rt, 0));
     let mut share = one_share(rt, alloc, &mut board);
@@ -84,6 +85,6 @@ where
 #[test]
 fn cancelled_before_the_work(rt: HostRuntime) {
     let (budget, pass) = Budget::new(rt.alloc(), 10).expect(&rt, "the limit is in range");
-    let pass = cancels_one::<_, Brand>(&rt, rt.alloc(), &budget, pass);
+    let pass = cancels_one::<_, Brand>(&rt, &budget, pass);
     assert_eq!(rt; budget.close(pass).ok(), Some(2));
 }

@@ -108,8 +108,7 @@ fn look<R: Wait + Abort>(rt: &R, jobs: &[Mutex<Paced>], active: &[usize], step: 
 // Works through the share at this gate. Of the run, the first is the turns, and the second what it answers.
 fn drive<R, C: Clock, Q: Gate>(
     rt: &R,
-    jobs: &[Mutex<Paced>],
-    claims: &Claims,
+    work: &Work<'_, Paced, Claims>,
     share: &mut Share,
     worker: &mut Station<C, MidWords>,
     gate: &Q,
@@ -117,19 +116,18 @@ fn drive<R, C: Clock, Q: Gate>(
 )
 where
     R: Wait + RandomSource + AllocGlobal + Abort,
-    requires of { IsPartOf claims.now share.old }
-    requires places { claims.now.terms.limit ≤ length jobs.now }
-    ensures of { IsPartOf claims.now share.new }
+    requires of { IsPartOf work.now.claims.now share.old }
+    requires places { work.now.claims.now.terms.limit ≤ length work.now.jobs.now }
+    ensures of { IsPartOf work.now.claims.now share.new }
 {
-    let worked = work_through(rt, jobs, claims, share, worker, gate, run.0);
+    let worked = work_through(rt, work, share, worker, gate, run.0);
     gets(rt, worked, run.1);
 }
 
 // Takes one step.
 fn take<R, C: Clock, Q: Gate>(
     rt: &R,
-    jobs: &[Mutex<Paced>],
-    claims: &Claims,
+    work: &Work<'_, Paced, Claims>,
     share: &mut Share,
     worker: &mut Station<C, MidWords>,
     gate: &Q,
@@ -137,22 +135,14 @@ fn take<R, C: Clock, Q: Gate>(
 )
 where
     R: Wait + RandomSource + AllocGlobal + Abort,
-    requires of { IsPartOf claims.now share.old }
-    requires places { claims.now.terms.limit ≤ length jobs.now }
-    ensures of { IsPartOf claims.now share.new }
+    requires of { IsPartOf work.now.claims.now share.old }
+    requires places { work.now.claims.now.terms.limit ≤ length work.now.jobs.now }
+    ensures of { IsPartOf work.now.claims.now share.new }
 {
     match step {
-        Step::Gated(turns, want) => drive(rt, jobs, claims, share, worker, gate, (*turns, *want)),
-        Step::Works(turns, want) => drive(
-            rt,
-            jobs,
-            claims,
-            share,
-            worker,
-            &OpenGate,
-            (*turns, *want),
-        ),
-        _ => look(rt, jobs, share.active(), step),
+        Step::Gated(turns, want) => drive(rt, work, share, worker, gate, (*turns, *want)),
+        Step::Works(turns, want) => drive(rt, work, share, worker, &OpenGate, (*turns, *want)),
+        _ => look(rt, work.jobs, share.active(), step),
     }
 }
 
@@ -164,16 +154,15 @@ fn ends(rt: &impl Abort, moment: Moment, at: u64) {
 // Plays with this share of the jobs.
 fn play_share<R, Q: Gate>(
     rt: &R,
-    jobs: &[Mutex<Paced>],
-    claims: &Claims,
+    work: &Work<'_, Paced, Claims>,
     share: &mut Share,
     gate: &Q,
     play: &Play<'_>,
 )
 where
     R: Wait + RandomSource + AllocGlobal + Abort,
-    requires of { IsPartOf claims.now share.old }
-    requires places { claims.now.terms.limit ≤ length jobs.now }
+    requires of { IsPartOf work.now.claims.now share.old }
+    requires places { work.now.claims.now.terms.limit ≤ length work.now.jobs.now }
 {
     let start = Moment::new(0).expect(rt, "the moment is in range");
     let moment = Cell::new(start);
@@ -183,7 +172,7 @@ where
     };
     let mut worker = Station::new(clock, MidWords, play.hold).expect(rt, "the hold is in range");
     for step in play.steps {
-        take(rt, jobs, claims, share, &mut worker, gate, step);
+        take(rt, work, share, &mut worker, gate, step);
     }
     ends(rt, moment.get(), play.ends_at);
 }
@@ -197,7 +186,11 @@ where
         panic!(rt; "more than 4,096 jobs");
     }
     let (claims, mut share) = claimed(rt, rt.alloc(), jobs.len());
-    play_share(rt, jobs, &claims, &mut share, gate, play);
+    let work = Work {
+        jobs,
+        claims: &claims,
+    };
+    play_share(rt, &work, &mut share, gate, play);
 }
 
 /// Plays with the jobs that have these polls and pauses, at this gate.

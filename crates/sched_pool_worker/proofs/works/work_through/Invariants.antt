@@ -5,8 +5,8 @@ use Rattle.sched_wheel.specs.Polled.{IsLeft}
 use Rattle.sched_pool_worker.specs.Working.{WentOn, still_to_do}
 use Rattle.sched_pool_worker.proofs.works.work_through.Given as goal
 
-abbrev pub invariant-loop-station : goal.invariant-loop-station
-invariant-loop-station g l = record {
+abbrev pub invariant-loop-claims : goal.invariant-loop-claims
+invariant-loop-claims g l = record {
   of : IsShareOf (g.J.Claimed.claims l.claims) l.share;
   went_on : WentOn l.fn.share l.share;
   held : length l.share.active ≤ max (length l.fn.share.active) l.fn.station.hold;
@@ -15,5 +15,5 @@ invariant-loop-station g l = record {
   polls : IsLeft l.used (g.G.Rng.stream l.fn.station.rng) (g.G.Rng.stream l.station.rng);
 }
 
-abbrev pub decreases-loop-station : goal.decreases-loop-station
-decreases-loop-station g l = still_to_do l.share
+abbrev pub decreases-loop-claims : goal.decreases-loop-claims
+decreases-loop-claims g l = still_to_do l.share
