@@ -13,11 +13,11 @@ use Rattle.sched_driver_stepper.specs.declared.kept.Kept.{Kept}
 use Rattle.sched_driver_stepper.specs.declared.kept.Kept.TheVariants.{Flat, Tree}
 
 abbrev pub words_in : Kept → List ℕ
-words_in (Flat words) = words
+words_in (Flat words first) = words
 words_in (Tree tree) = []
 
 abbrev pub tree_in : Kept → Option Progress
-tree_in (Flat words) = None
+tree_in (Flat words first) = None
 tree_in (Tree tree) = Some tree
 
 abbrev pub standing_of : Schedule → Kept → Option ℕ → ℕ → Standing
@@ -29,9 +29,14 @@ pub record IsKeptAfter (s : Schedule) (h : List Event) (kept : Kept) : Type 0 wh
   pub words_are : words_in kept ≡ words_after s h
   pub tree_is : tree_in kept ≡ tree_after s h
 
--- it may be stepped at `now`
+-- the record before the first event, of the schedule's width
+abbrev pub IsFirst : Schedule → List ℕ → Type 0
+IsFirst s words = (words ≡ record_after s []) × (length words ≡ width_of s)
+
+-- it may be stepped at `now`, and begin again
 abbrev pub KeptFits : Schedule → Kept → ℕ → Type 0
-KeptFits s (Flat words) now = IsTrue (has_record s) × (length words ≡ width_of s)
+KeptFits s (Flat words first) now = IsTrue (has_record s) × (length words ≡ width_of s)
+    × IfSome first (λ known. IsFirst s known.value)
 KeptFits s (Tree tree) now = (has_record s ≡ false) × IsTrue (fits s tree now)
 
 -- it is what is kept before the first event, which may come at any moment
@@ -43,10 +48,9 @@ pub record IsFirstKept (s : Schedule) (kept : Kept) : Type 0 where
 abbrev pub start_of : Schedule → Option (List ℕ)
 start_of s = if has_record s then Some (record_after s []) else None
 
--- It is that record, of the schedule's width.
 pub record IsStart (s : Schedule) (start : Option (List ℕ)) : Type 0 where
   pub is : start ≡ start_of s
-  pub wide : IfSome start (λ words. length words ≡ width_of s)
+  pub first : IfSome start (IsFirst s)
 
 -- what a step gives where this is the history with the step's event
 pub record KeptSteps (s : Schedule) (h : List Event) (kept : Kept) (decision : Decision) : Type 0 where

@@ -8,18 +8,21 @@ use sched_step_flat::{Record, has_record};
 use sched_time::NoMemory;
 use std::alloc::Global;
 use std::marker::Model;
+use std::sync::Arc;
 
 /// A plan that any number of steppers go by, with what each of them begins with: that is worked out once.
 #[derive(Drop)]
 pub struct Compiled {
     plan: SharedPlan,
     /// The record before the first event, where the plan has one.
-    start: Option<Record>,
+    start: Option<Arc<Record>>,
 }
 
 impl Model for Compiled {
     ghost use Rattle.sched_plan.specs.Schedule.{Schedule};
     ghost use Rattle.sched_plan.specs.ScheduleCode.{coded_schedule};
+    ghost use Rattle.std.specs.Prelude.{option_map};
+    ghost use Rattle.std.specs.Arc.{arc_value};
     ghost use Rattle.sched_driver_stepper.specs.Kept.{IsStart};
 
     ghost Value = { Schedule };
@@ -28,7 +31,7 @@ impl Model for Compiled {
 
     ghost view = { λ c. c.plan };
 
-    ghost invariant = { λ c. IsStart c.plan c.start };
+    ghost invariant = { λ c. IsStart c.plan (option_map arc_value c.start) };
 }
 
 impl Compiled {
@@ -44,20 +47,20 @@ impl Compiled {
         ensures { IfOk result (λ compiled. compiled ≡ plan) }
     {
         let start = if has_record(plan.get()) {
-            Some(Record::new(alloc, plan.get())?)
+            Some(Arc::new(alloc, Record::new(alloc, plan.get())?)?)
         } else {
             None
         };
         Ok(Compiled { plan, start })
     }
 
-    /// The same plan for one more owner. It takes memory only for a record of more than 8 words.
+    /// The same plan for one more owner. It takes no memory, and fails with `NoMemory` only where 2^63 own it.
     pub fn again(&self) -> Result<Compiled, NoMemory>
         ensures { IfOk result (λ compiled. compiled ≡ self.now) }
     {
         let plan = self.plan.share()?;
         let start = match &self.start {
-            Some(start) => Some(start.copied()?),
+            Some(start) => Some(Arc::try_clone(start)?),
             None => None,
         };
         Ok(Compiled { plan, start })
@@ -86,7 +89,8 @@ impl Compiled {
         match &self.start {
             Some(start) => {
                 let record = start.copied()?;
-                Ok(Stepper::unstepped(plan, Kept::Flat(record)))
+                let first = Arc::try_clone(start)?;
+                Ok(Stepper::unstepped(plan, Kept::Flat(record, Some(first))))
             }
             None => Stepper::of_shared(alloc, plan),
         }
@@ -106,6 +110,9 @@ impl Compiled {
         let Ok(plan) = self.plan.share() else {
             return None;
         };
-        Some(Stepper::unstepped(plan, Kept::Flat(record)))
+        let Ok(first) = Arc::try_clone(start) else {
+            return None;
+        };
+        Some(Stepper::unstepped(plan, Kept::Flat(record, Some(first))))
     }
 }

@@ -10,12 +10,13 @@ use sched_step::{State, initial};
 use sched_step_flat::{Record, has_record};
 use sched_time::{Decision, NoMemory, Tick};
 use std::alloc::Global;
+use std::sync::Arc;
 
 /// How far a plan has come.
 #[derive(Drop)]
 pub(crate) enum Kept {
-    /// As words, of which a step takes no memory.
-    Flat(Record),
+    /// As words, of which a step takes no memory; and those before the first event, where they are known.
+    Flat(Record, Option<Arc<Record>>),
     /// As a tree, where the plan's decisions read more of an output than a number.
     Tree(State),
 }
@@ -26,7 +27,7 @@ impl Kept {
         ensures { IfOk result (λ kept. IsFirstKept plan.now kept) }
     {
         if has_record(plan) {
-            return Ok(Kept::Flat(Record::new(alloc, plan)?));
+            return Ok(Kept::Flat(Record::new(alloc, plan)?, None));
         }
         Ok(Kept::Tree(initial(alloc, plan)?))
     }
@@ -50,19 +51,23 @@ impl Kept {
         ensures unchanged { IfErr result (λ _. self.new ≡ self.old) }
     {
         match self {
-            Kept::Flat(record) => Ok(record.advance(plan, tick, input)),
+            Kept::Flat(record, _) => Ok(record.advance(plan, tick, input)),
             Kept::Tree(state) => advance_tree(state, alloc, plan, tick, input),
         }
     }
 
     /// Back to before the first event. It takes no memory.
+    #[inline(always)]
     pub(crate) fn renew(&mut self, plan: &Plan)
         requires { KeptFits plan.now self.old FAR }
         ensures value { IsKeptAfter plan.now [] self.new }
         ensures fits { (now : ℕ) → KeptFits plan.now self.new now }
     {
         match self {
-            Kept::Flat(record) => record.renew(plan),
+            Kept::Flat(record, first) => match first {
+                Some(first) => record.set_to(&**first),
+                None => record.renew(plan),
+            },
             Kept::Tree(state) => state.renew(plan),
         }
     }

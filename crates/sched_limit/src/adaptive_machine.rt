@@ -87,6 +87,7 @@ impl Machine for Adaptive {
         1000 * self.first as u64
     }
 
+    #[inline(always)]
     fn next(&self, call: Call, word: u64) -> u64 {
         match call {
             Call::Admit(_, _, _) => {
@@ -123,6 +124,7 @@ impl Refuses for Adaptive {
 
     ghost honest = { adaptive_honest };
 
+    #[inline(always)]
     fn refusal(&self, call: Call, word: u64) -> Option<Refusal> {
         match call {
             Call::Admit(_, _, _) => {

@@ -273,6 +273,7 @@ impl Machine for Breaker {
         0
     }
 
+    #[inline(always)]
     fn next(&self, call: Call, word: u64) -> u64 {
         match call {
             Call::Admit(now, _, _) => self.asked(self.since_start(now), word),
@@ -316,6 +317,7 @@ impl Refuses for Breaker {
 
     ghost honest = { λ b. free_honest _ };
 
+    #[inline(always)]
     fn refusal(&self, call: Call, word: u64) -> Option<Refusal> {
         match call {
             Call::Admit(now, _, _) => self.refused(self.since_start(now), word),

@@ -108,6 +108,7 @@ impl Machine for Bucket {
         self.capacity
     }
 
+    #[inline(always)]
     fn next(&self, call: Call, level: u64) -> u64 {
         match call {
             Call::Draw(_, cost, _) => self.drawn(cost, level),
@@ -137,6 +138,7 @@ impl Refuses for Bucket {
 
     ghost honest = { bucket_honest };
 
+    #[inline(always)]
     fn refusal(&self, call: Call, level: u64) -> Option<Refusal> {
         match call {
             Call::Draw(_, cost, _) => {

@@ -77,6 +77,7 @@ impl Machine for InFlight {
         0
     }
 
+    #[inline(always)]
     fn next(&self, call: Call, word: u64) -> u64 {
         let requests = word / REQUEST;
         let retries = word % REQUEST;
@@ -117,6 +118,7 @@ impl Refuses for InFlight {
 
     ghost honest = { flight_honest };
 
+    #[inline(always)]
     fn refusal(&self, call: Call, word: u64) -> Option<Refusal> {
         let requests = word / REQUEST;
         let retries = word % REQUEST;

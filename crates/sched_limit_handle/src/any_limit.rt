@@ -21,11 +21,11 @@ impl Asks for AnyLimit {
     #[inline(always)]
     fn tell(&mut self, told: &Told, random: u32) -> Result<(), Refusal> {
         match self {
-            AnyLimit::Bucket(limit) => limit.tell(told, random),
-            AnyLimit::InFlight(limit) => limit.tell(told, random),
-            AnyLimit::Adaptive(limit) => limit.tell(told, random),
-            AnyLimit::Breaker(limit) => limit.tell(told, random),
-            AnyLimit::Throttle(limit) => limit.tell(told, random),
+            AnyLimit::Bucket(limit) => by_kind(limit, told, random),
+            AnyLimit::InFlight(limit) => by_kind(limit, told, random),
+            AnyLimit::Adaptive(limit) => by_kind(limit, told, random),
+            AnyLimit::Breaker(limit) => by_kind(limit, told, random),
+            AnyLimit::Throttle(limit) => by_kind(limit, told, random),
         }
     }
 
@@ -37,5 +37,20 @@ impl Asks for AnyLimit {
             AnyLimit::Breaker(limit) => Ok(AnyLimit::Breaker(limit.split()?)),
             AnyLimit::Throttle(limit) => Ok(AnyLimit::Throttle(limit.split()?)),
         }
+    }
+}
+
+// What a limit of one kind is told, by a call for each kind: the kind is one jump, and what is told another.
+#[inline(never)]
+fn by_kind<A: Asks>(limit: &mut A, told: &Told, random: u32) -> Result<(), Refusal>
+    ensures { A.asked.tells limit.old told.now random result limit.new }
+{
+    match *told {
+        Told::Admit(now) => limit.tell(&Told::Admit(now), random),
+        Told::Draw(now, cost) => limit.tell(&Told::Draw(now, cost), random),
+        Told::Failed(now) => limit.tell(&Told::Failed(now), random),
+        Told::Succeeded(now) => limit.tell(&Told::Succeeded(now), random),
+        Told::Cancelled => limit.tell(&Told::Cancelled, random),
+        Told::Ended => limit.tell(&Told::Ended, random),
     }
 }

@@ -51,6 +51,7 @@ impl Pass {
     /// Makes a call, and answers the word that it found, of which the machine makes the one that it leaves. Where that
     /// is the same, nothing is written. `RacesLost` where other calls came first so many times. What the call gives
     /// back, this pass has gained, and has not given back before.
+    #[inline(always)]
     pub fn call<M: Machine>(
         &mut self,
         limit: &Limit<M>,
@@ -107,6 +108,7 @@ impl Pass {
 }
 
 /// Makes a call by a pass's seat.
+#[inline(always)]
 fn step<M: Machine>(
     limit: &Limit<M>,
     seat: &mut Seat,

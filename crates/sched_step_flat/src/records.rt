@@ -88,6 +88,18 @@ impl Record {
         self.words.len() == width(plan)
     }
 
+    /// From now on the words of another record, of as many words. It takes no memory.
+    #[inline(always)]
+    pub fn set_to(&mut self, other: &Record)
+        requires { length self.old ≡ length other.now }
+        ensures value { self.new ≡ other.now }
+        ensures fits { length self.new ≡ length self.old }
+    {
+        self.words
+            .as_mut_slice()
+            .copy_from_slice(other.words.as_slice());
+    }
+
     /// Back to before the first event. It takes no memory.
     pub fn renew(&mut self, plan: &Plan)
         requires { length self.old ≡ width_of plan.now }
