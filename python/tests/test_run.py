@@ -416,7 +416,7 @@ def test_control_z_stops_both_and_fg_continues_both(shell: Shell, tmp_path: Path
     shell.types("line\n")
     shell.expects("got line")
     # in the background it goes on, and is stopped where it reads the terminal
-    # (it waits without a fork: while dash starts another program it can't stop, and that one can, which ends in nothing)
+    # (it waits without a fork: while dash starts another program it can't stop, but that one can, and both hang)
     pipe = tmp_path / "pipe"
     os.mkfifo(pipe)
     shell.types(f"{RUN} -- sh -c 'echo up $$.; read w < {pipe}; echo slept; read x; echo got $x'\n")
