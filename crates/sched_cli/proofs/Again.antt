@@ -1,7 +1,7 @@
 -- What is printed of a text that is there as a whole is printed of the input that it is.
 use Rattle.std.specs.Prelude.{◌⊎◌}
 use Rattle.std.proofs.Common.{◌≡◌, inl, inr, Bool, true, false, ℕ, ◌+◌, ◌≤◌, List, ◌++◌, length, Option, Some, None}
-use Rattle.std.proofs.Common.{Result, Ok, Err, sym, ap, subst, ◌∙◌, arith, length-append}
+use Rattle.std.proofs.Common.{Result, Ok, Err, refl, sym, ap, subst, ◌∙◌, arith, length-append}
 use Rattle.std.proofs.lemmas.List.{append-nil}
 use Rattle.std.specs.Io.KnownBytes.{Appends, Consumes, IsAtEnd, Keeps}
 use Rattle.sched_plan.specs.Schedule.{Schedule}
@@ -13,16 +13,17 @@ use Rattle.sched_cli_check.specs.Checking.{PrintsCheck}
 use Rattle.sched_plan_course.specs.Course.{Course}
 use Rattle.sched_cli_plan.specs.PlanText.{plan_text}
 use Rattle.sched_cli_plan.specs.Printing.{Prints, IsInput, SpellsPlan, SpellsFault, SpellsNothing}
-use Rattle.sched_cli_plan.specs.Whole.{IsWholeInput, StopsReading, WritesFront, count_of_reads}
+use Rattle.sched_cli_plan.specs.Whole.{IsWholeInput, StopsReading, WritesFront, count_of_reads, count_of_writes}
 use Rattle.sched_cli_plan.specs.declared.faults.PrintFault.{PrintFault}
 use Rattle.sched_cli_plan.specs.declared.faults.PrintFault.TheVariants.{ReadFailed, TooLong, NotJson, NotAPlan}
 use Rattle.sched_cli_plan.specs.declared.faults.PrintFault.TheVariants.{OutOfRange}
 use Rattle.sched_cli_plan.specs.declared.faults.PrintFault.TheVariants.{TooDeep, TooMany, NoMemory, WriteFailed}
-use Rattle.sched_cli_pool.specs.JobsPrinting.{PrintsJobs, SpellsJobs, SpellsNoJobs, WritesPool, count_of_pool_reads}
+use Rattle.sched_cli_pool.specs.JobsPrinting.{PrintsJobs, SpellsJobs, SpellsNoJobs, WritesPool}
+use Rattle.sched_cli_pool.specs.JobsPrinting.{count_of_pool_reads, count_of_pool_writes}
 use Rattle.sched_cli_pool.specs.declared.faults.PoolFault.{PoolFault}
 use Rattle.sched_cli_pool.specs.declared.faults.PoolFault.TheVariants.{Print, NotStarted, Unfinished, Mixed}
 use Rattle.sched_cli_storm.specs.StormPrinting.{PrintsStorm}
-use Rattle.sched_cli.specs.Answering.{ForInput, AnswersStorm}
+use Rattle.sched_cli.specs.Answering.{ForInput, OfPrint, AnswersStorm, as_answer}
 
 -- what is read of a text up to its end is the text
 whole_is : (text read : List ℕ) (m : Option (List ℕ)) → Consumes (Some text) m read → IsAtEnd m → read ≡ text
@@ -51,6 +52,10 @@ module _ (text given : List ℕ) (m : Option (List ℕ)) (same : given ≡ text)
   or_again K P (inl k) l l' whole = inl k
   or_again K P (inr again) l l' whole = inr (input_again P again l l' whole)
 
+  kept_again : (K : Type 0) (P : List ℕ → Type 0) → IsInput (Some given) m P × K
+      → ForInput text (λ l l'. IsInput l l' P × K)
+  kept_again K P again l l' whole = (input_again P again.0 l l' whole, again.1)
+
   long_again : (l l' : Option (List ℕ)) → IsWholeInput l l' text → StopsReading TooLong (Some given) m → ⊥
   long_again l l' whole stop =
       let fits : length given ≤ 1048576 = rw same whole.fits in
@@ -58,30 +63,26 @@ module _ (text given : List ℕ) (m : Option (List ℕ)) (same : given ≡ text)
 
   module _ (t t' : Option (List ℕ)) where
     pub plan_again : (o : Course) (result : Result (Unit {0}) PrintFault) → Prints o (Some given) m t t' result →
-        0 ≡ count_of_reads result 0 → ForInput text (λ l l'. Prints o l l' t t' result)
+        0 ≡ count_of_reads result 0 → ForInput text (λ l l'. OfPrint (Prints o l l' t t') (as_answer result))
     plan_again o (Ok done) again reads =
         input_again (λ bytes. (s : Schedule) × SpellsPlan bytes s × Appends t t' (plan_text s o)) again
     plan_again o (Err ReadFailed) again reads = absurd (no_failed_read reads)
     plan_again o (Err TooLong) again reads = λ l l' whole. absurd (long_again l l' whole again.0)
-    plan_again o (Err NotJson) again reads = λ l l' whole. (input_again SpellsNothing again.0 l l' whole, again.1)
-    plan_again o (Err NotAPlan) again reads =
-        λ l l' whole. (input_again (λ bytes. SpellsFault bytes reading.NotAPlan) again.0 l l' whole, again.1)
+    plan_again o (Err NotJson) again reads = kept_again _ SpellsNothing again
+    plan_again o (Err NotAPlan) again reads = kept_again _ (λ bytes. SpellsFault bytes reading.NotAPlan) again
     plan_again o (Err OutOfRange) again reads =
-        λ l l' whole.
-        (input_again (λ bytes. SpellsFault bytes (reading.Plan refused.OutOfRange)) again.0 l l' whole, again.1)
+        kept_again _ (λ bytes. SpellsFault bytes (reading.Plan refused.OutOfRange)) again
     plan_again o (Err TooDeep) again reads =
-        λ l l' whole.
-        (input_again (λ bytes. SpellsFault bytes (reading.Plan refused.TooDeep)) again.0 l l' whole, again.1)
+        kept_again _ (λ bytes. SpellsFault bytes (reading.Plan refused.TooDeep)) again
     plan_again o (Err TooMany) again reads =
-        λ l l' whole.
-        (input_again (λ bytes. SpellsFault bytes (reading.Plan refused.TooMany)) again.0 l l' whole, again.1)
+        kept_again _ (λ bytes. SpellsFault bytes (reading.Plan refused.TooMany)) again
     plan_again o (Err NoMemory) again reads =
         or_again _ (λ bytes. (s : Schedule) × SpellsPlan bytes s × WritesFront t t' (plan_text s o)) again
     plan_again o (Err WriteFailed) again reads =
         input_again (λ bytes. (s : Schedule) × SpellsPlan bytes s × WritesFront t t' (plan_text s o)) again
 
     pub check_again : (result : Result (Unit {0}) PrintFault) → PrintsCheck (Some given) m t t' result →
-        0 ≡ count_of_reads result 0 → ForInput text (λ l l'. PrintsCheck l l' t t' result)
+        0 ≡ count_of_reads result 0 → ForInput text (λ l l'. OfPrint (PrintsCheck l l' t t') (as_answer result))
     check_again (Ok done) again reads = input_again _ again
     check_again (Err ReadFailed) again reads = absurd (no_failed_read reads)
     check_again (Err TooLong) again reads = λ l l' whole. absurd (long_again l l' whole again.0)
@@ -112,19 +113,25 @@ module _ (text given : List ℕ) (m : Option (List ℕ)) (same : given ≡ text)
       jobs_again (Err Mixed) again reads = input_again Unprinted again
       jobs_again (Err (Print ReadFailed)) again reads = absurd (no_failed_read reads)
       jobs_again (Err (Print TooLong)) again reads = λ l l' whole. absurd (long_again l l' whole again.0)
-      jobs_again (Err (Print NotJson)) again reads = λ l l' whole.
-          (input_again SpellsNothing again.0 l l' whole, again.1)
-      jobs_again (Err (Print NotAPlan)) again reads =
-          λ l l' whole. (input_again (λ bytes. SpellsNoJobs bytes reading.NotAPlan) again.0 l l' whole, again.1)
+      jobs_again (Err (Print NotJson)) again reads = kept_again _ SpellsNothing again
+      jobs_again (Err (Print NotAPlan)) again reads = kept_again _ (λ bytes. SpellsNoJobs bytes reading.NotAPlan) again
       jobs_again (Err (Print OutOfRange)) again reads =
-          λ l l' whole.
-          (input_again (λ bytes. SpellsNoJobs bytes (reading.Plan refused.OutOfRange)) again.0 l l' whole, again.1)
+          kept_again _ (λ bytes. SpellsNoJobs bytes (reading.Plan refused.OutOfRange)) again
       jobs_again (Err (Print TooDeep)) again reads =
-          λ l l' whole.
-          (input_again (λ bytes. SpellsNoJobs bytes (reading.Plan refused.TooDeep)) again.0 l l' whole, again.1)
+          kept_again _ (λ bytes. SpellsNoJobs bytes (reading.Plan refused.TooDeep)) again
       jobs_again (Err (Print TooMany)) again reads =
-          λ l l' whole.
-          (input_again (λ bytes. SpellsNoJobs bytes (reading.Plan refused.TooMany)) again.0 l l' whole, again.1)
+          kept_again _ (λ bytes. SpellsNoJobs bytes (reading.Plan refused.TooMany)) again
+
+-- a printing and what is answered of it count the same
+pub reads_as_answer : (result : Result (Unit {0}) PrintFault) (n : ℕ)
+    → count_of_reads result n ≡ count_of_pool_reads (as_answer result) n
+reads_as_answer (Ok done) n = refl
+reads_as_answer (Err fault) n = refl
+
+pub writes_as_answer : (result : Result (Unit {0}) PrintFault) (n : ℕ)
+    → count_of_writes result n ≡ count_of_pool_writes (as_answer result) n
+writes_as_answer (Ok done) n = refl
+writes_as_answer (Err fault) n = refl
 
 -- how a storm that was printed is answered
 abbrev pub storm_answer : Result Bool PrintFault → Result (Unit {0}) PoolFault

@@ -33,6 +33,11 @@ use Rattle.sched_cli.specs.declared.stops.Stop.{Stop}
 abbrev pub ForInput : List ℕ → (Option (List ℕ) → Option (List ℕ) → Type 0) → Type 0
 ForInput bytes P = (left left' : Option (List ℕ)) → IsWholeInput left left' bytes → P left left'
 
+-- what is answered of a printing
+abbrev pub as_answer : Result (Unit {0}) PrintFault → Result (Unit {0}) PoolFault
+as_answer (Ok done) = Ok done
+as_answer (Err fault) = Err (Print fault)
+
 -- a fault is one of printing
 abbrev pub OfPrint : (Result (Unit {0}) PrintFault → Type 0) → Result (Unit {0}) PoolFault → Type 0
 OfPrint P (Ok done) = P (Ok done)
