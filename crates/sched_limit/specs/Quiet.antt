@@ -22,7 +22,7 @@ pub record IsQuiet (next : Next) (refusal : Call → ℕ → Option Refusal) (wo
 abbrev pub is_full : Bucket → ℕ → Bool
 is_full b word = word == b.capacity
 
--- a breaker that is closed, and has counted no failure since the last success, of whatever generation
+-- a breaker that is closed, of whatever generation, while no failure counts, also not among its last results
 abbrev pub is_calm : Breaker → ℕ → Bool
 is_calm b word = word % 4503599627370496 == 0
 

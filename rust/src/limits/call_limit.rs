@@ -330,8 +330,7 @@ fn moment_of(began: Moment) -> u64 {
 /// # Errors
 ///
 /// [`LimitError::TooManyLimits`] if they are more than four, [`LimitError::SameLimit`] if one of them comes twice,
-/// [`LimitError::CostsDiffer`] if a retry takes more of one
-/// bucket than of another, and [`LimitError::NoMemory`].
+/// [`LimitError::CostsDiffer`] if a retry takes more of one bucket than of another, and [`LimitError::NoMemory`].
 pub fn both(first: &CallLimit, second: &CallLimit) -> Result<CallLimit, LimitError> {
     let limits = [first.parts(), second.parts()].concat();
     let is_one = |one: &CallLimit, other: &CallLimit| Arc::ptr_eq(&one.shared, &other.shared);

@@ -47,8 +47,9 @@ pub struct Bucket {
     pub credit: f64,
     /// The tokens that a retry takes: at most the capacity, and 1 by default.
     pub cost: f64,
-    /// What it takes after a timeout, if that differs. Of errors, which may have any type, a retry knows an
-    /// [`AttemptTimeout`](crate::AttemptTimeout) alone; in a storm it is a call that its client gave up.
+    /// What it takes after a timeout, if that differs: one that [`attempt_timeout`](crate::Retrying::attempt_timeout)
+    /// or [`hedge_after`](crate::Retrying::hedge_after) made, since other errors may have any type. In a storm it is a
+    /// call that its client gave up.
     pub timeout_cost: Option<f64>,
     /// Whether a success gives back what the call's last retry took, in the place of the credit.
     pub refund: bool,
