@@ -46,8 +46,8 @@ TOO_LATE = "the deadline passed before a redirect was followed"
 #: What `help()` says of each adapter, after its own text.
 _COMMON = """
     `on`, `on_status`
-        The errors and the statuses to retry: broken connections and timeouts, and 429, 502, 503, 504. A 413 is retried
-        too if it has a `Retry-After`.
+        The errors and the statuses to retry: broken connections and timeouts, and 429, 502, 503, 504. A 413, 429 or 503
+        with a `Retry-After` is retried whatever `on_status` says.
     `methods`
         The methods that may be repeated. A request with another method, or with a body that can't be sent again, such
         as a stream, is retried only if no connection was made.
@@ -56,12 +56,12 @@ _COMMON = """
         A `Pace`, or a `LeasedPace`, for which each attempt waits; `slow` does not count the wait. A request that it
         would let wait too long raises a `TooSoon`.
 
-    It takes the options of `Retrying` too, such as `limit` and `deadline`. With a `PerHost` as the limit, each host has
-    one of its own; the key of another `PerKey` is told the request. A request that a limit doesn't admit raises
-    a `NotAdmitted`. Each wait is the policy's, or the `Retry-After` of the response if that is longer, up to
-    `max_retry_after` seconds. The policy's input is the status of the response. When the retry ends, you get the last
-    response, or the last error is raised. With a `deadline`, the time that is left is the timeout of each attempt,
-    unless the client's own is shorter.
+    It takes the options of `Retrying` too, except `on_result`, `attempt_timeout` and `hedge_after`. With a `PerHost` as
+    the limit, each host has one of its own; the key of another `PerKey` is told the request. A request that a limit
+    doesn't admit raises a `NotAdmitted`. Each wait is the policy's, or the `Retry-After` of the response if that is
+    longer, up to `max_retry_after` seconds. The policy's input is the status of the response. When the retry ends, you
+    get the last response, or the last error is raised. With a `deadline`, the time that is left is the timeout of each
+    attempt, unless the client's own is shorter.
     """
 
 Answer = TypeVar("Answer")
