@@ -62,10 +62,10 @@ class PolicyRetry(Retry):
     """Retries requests by a policy, under a limit.
 
     It retries a connection that was not made. For the methods of `allowed_methods` it also retries a connection that
-    broke, and a response with a status of `on_status`, for which `status_forcelist` is urllib3's name, unless the body
-    of the request can't be sent again, such as a generator. Each wait is the policy's, or the `Retry-After` of the
-    response where that is longer, up to `max_retry_after` seconds. The policy's input is the status of the response,
-    and 0 for a connection.
+    broke, a response with a status of `on_status` (urllib3's name is `status_forcelist`), and a 413, 429 or 503 with a
+    `Retry-After`, unless the body of the request can't be sent again, such as a generator. Each wait is the policy's,
+    or the `Retry-After` of the response where that is longer, up to `max_retry_after` seconds. The policy's input is
+    the status of the response, and 0 for a connection.
 
     When the retry ends, a `MaxRetryError` is raised, for a status too; with `raise_on_status=False` you get the last
     response. Redirects are followed as by `Retry`: 10 of them, or as many as `redirect` and `total` allow, but none

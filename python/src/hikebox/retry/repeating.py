@@ -17,7 +17,7 @@ class Repeating(Retrying):
     """Calls a function again as long as its policy goes on, and returns the last result.
 
     Each call that returns is an event of the policy, which sees the result's number (`code_of`). The first exception
-    ends the repeat and is raised. It takes the options of `Retrying`, except `on` and `hedge_after`.
+    but `TryAgain` ends the repeat and is raised. It takes the options of `Retrying`, except `on` and `hedge_after`.
 
     >>> from hikebox import recurs, spaced
     >>> answers = iter([202, 202, 200, 404])
