@@ -41,8 +41,8 @@ pub fn adaptive_limits_hold()
     ensures counted { InsideIsCounted }
 {}
 
-/// A breaker has no more probes out than it admits. It is opened by the last of its failures, is open until its moment,
-/// and what is told of a run of another generation changes nothing.
+/// A breaker has no more probes out than it admits. It is opened by the last of its failures or by hand, is open until
+/// its moment or until it is closed by hand, and what is told of a run of another generation changes nothing.
 pub fn breakers_hold()
     ensures probes { ProbesAreFew }
     ensures open { OpenIsKept }
@@ -50,8 +50,8 @@ pub fn breakers_hold()
     ensures failures { OpensAfterFailures }
 {}
 
-/// Whatever calls came, a closed breaker keeps the last results of its generation. It opens at a failure that makes so
-/// many of them failures, not earlier and not later. So many among as many results are so many in a row.
+/// Whatever calls came, a closed breaker keeps the last results of its generation. A failure opens it exactly if it
+/// makes so many of them failures; else it is opened by hand alone. So many among as many results are so many in a row.
 pub fn breakers_open_exactly()
     ensures keeps { KeepsTheLast }
     ensures opens { OpensExactly }

@@ -35,7 +35,7 @@ pub enum PoolStop<'a, X: Effect, N: Naming> {
     /// The jobs were shared out before. The board and the pass are as they were.
     #[error("the board's jobs were shared out before")]
     Sealed(Board<'a, X, N>, Pass),
-    /// A growth was refused. The jobs stand as their polls left them, and may be shared out.
+    /// A growth was refused. The jobs stand as their polls left them, and may have been shared out.
     #[error("no memory")]
     NoMemory(Board<'a, X, N>, Pass),
     /// The system started no thread for a worker, and those that it started have ended. The jobs stand as their polls

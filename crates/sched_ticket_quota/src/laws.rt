@@ -15,9 +15,9 @@ pub fn numbers_stand_once()
     ensures requests { RequestsStandOnce }
 {}
 
-/// In each window the tickets given never pass the reserve and the share of the requests counted in it so far, nor
-/// 4294967296: by the most generous terms that were in force, which are those that the quota was made with as long as
-/// no pass has set any. All requests of the latest window are counted in it.
+/// In each window the tickets that are out, given and not handed back, never pass the reserve and the share of the
+/// requests counted in it so far, nor 4294967296: by the most generous terms that were in force, which are those that
+/// the quota was made with as long as no pass has set any. All requests of the latest window are counted in it.
 pub fn windows_are_kept()
     ensures kept { WindowsAreKept }
     ensures unchanged { UnchangedAreKept }
