@@ -905,9 +905,9 @@ typedef struct {
 
 /*
  * Looks whether all limits of the handle are quiet, and the handle has no request. A bucket is quiet while it is full,
- * and a breaker while it is closed and has counted no failure since the last success; other kinds never are. Admitting
- * a request, its success and its end leave a quiet limit as it is. So a look before the run and another one after its
- * success may stand for these three calls, with no moment and no change that other threads would wait for:
+ * and a breaker while it is closed and no failure counts, also not among its last results; other kinds never are.
+ * Admitting a request, its success and its end leave a quiet limit as it is. So a look before the run and another one
+ * after its success may stand for these three calls, with no moment and no change that other threads would wait for:
  *
  *     hikebox_seen before, after;
  *     bool quiet = false, begun;
