@@ -72,6 +72,7 @@ impl Calendar {
     }
 
     /// Takes the least key out, where it comes before this bound, if there is one.
+    #[inline(always)]
     pub fn pop_before(&mut self, bound: Option<u64>) -> Option<u64>
         ensures takes { IfSome result (λ key. TakesOut self.old key self.new) }
         ensures least { IfSome result (λ key. IsLeast self.old key) }

@@ -1,5 +1,5 @@
 -- What takes turns where a closure is called: retries and repeats, and the machines that stand for them.
-use Rattle.std.specs.Prelude.{◌≡◌, ℕ, Option}
+use Rattle.std.specs.Prelude.{◌≡◌}
 use Rattle.sched_ticket_draws.specs.Grants.{Grants}
 use Rattle.sched_task_law.specs.Kind.{Kind}
 use Rattle.sched_task_law.specs.Past.{is_under_way, waits_for}

@@ -23,6 +23,7 @@ pub(crate) enum Kept {
 
 impl Kept {
     /// Before the first event. Fails only with `NoMemory`.
+    #[inline(always)]
     pub(crate) fn new(alloc: Global, plan: &Plan) -> Result<Kept, NoMemory>
         ensures { IfOk result (λ kept. IsFirstKept plan.now kept) }
     {

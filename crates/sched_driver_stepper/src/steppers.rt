@@ -52,6 +52,7 @@ impl Stepper {
     }
 
     /// The same of a plan that others hold too, with no copy of it. Where it fails, this share of the plan is dropped.
+    #[inline(always)]
     pub fn of_shared(alloc: Global, plan: SharedPlan) -> Result<Stepper, NoMemory>
         ensures { IfOk result (λ stepper. stepper ≡ standing_after plan []) }
     {

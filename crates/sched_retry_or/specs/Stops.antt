@@ -1,5 +1,5 @@
 -- How a retry goes on to its fallback.
-use Rattle.std.specs.Prelude.{Bool, true, if◌then◌else◌, Option, Some, None, Result, Ok, Err}
+use Rattle.std.specs.Prelude.{if◌then◌else◌, Option, Some, None, Ok, Err}
 use Rattle.sched_task.specs.declared.endings.How.{How}
 use Rattle.sched_task_law.specs.Law.{is_stop}
 use Rattle.sched_retry.specs.declared.endings.Ending.{Ending}

@@ -1,6 +1,6 @@
 -- When requests come, at moments that are given or by the rates: no request comes before an earlier one.
-use Rattle.std.proofs.Common.{◌≡◌, ℕ, zero, suc, ◌+◌, ◌-◌, ◌*◌, ◌/◌, ◌<◌, ◌≤◌, Bool, true, false, cond, List, []}
-use Rattle.std.proofs.Common.{◌∷◌, length, get_or, refl, arith}
+use Rattle.std.proofs.Common.{◌≡◌, ℕ, zero, suc, ◌+◌, ◌-◌, ◌*◌, ◌/◌, ◌<◌, ◌≤◌, true, false, cond, List, []}
+use Rattle.std.proofs.Common.{◌∷◌, length, get_or, arith}
 use Rattle.std.proofs.lemmas.Nat.{mul-le, le-div}
 use native.Mathlib.Nat.{div-mul-le_self}
 use Rattle.std.specs.Prelude.{◌==◌}

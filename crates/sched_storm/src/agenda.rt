@@ -36,6 +36,7 @@ impl Agenda {
     }
 
     /// What is least due, where it comes before this, and is then due no more.
+    #[inline(always)]
     pub(crate) fn pop_before(&mut self, turn: Option<Turn>) -> Option<Turn>
         requires { IfSome turn (λ turn. (turn.at ≤ 7200000) × (turn.request < 1048576)) }
         ensures some { (keys : ℕ → Option ℕ) → Holds self.old keys →

@@ -35,6 +35,7 @@ impl Storm {
     }
 
     /// What becomes of the storm's call of this number, from 0, that comes at this moment: it goes to its replica.
+    #[inline(always)]
     pub(crate) fn call(&self, calls: u64, busy: &mut Busy, at: u64) -> Called
         requires at { at ≤ self.now.until }
         requires busy { AreFew busy.old }

@@ -193,6 +193,7 @@ impl<'a> Course<'a> {
     }
 
     // Takes what is least due out of the agenda, or the next request where it comes before that.
+    #[inline(always)]
     fn take_next(&mut self) -> Option<Turn>
         requires { Stands self.old None }
         ensures first { StandsFirst self.new result }

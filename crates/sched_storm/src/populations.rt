@@ -71,6 +71,7 @@ impl Others {
 
 impl Storm {
     /// The population, from 0, whose request this is.
+    #[inline(always)]
     pub(crate) fn population_of(&self, request: u64) -> u64
         ensures { result ≡ population_of self.now request }
     {

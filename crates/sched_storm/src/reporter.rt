@@ -23,6 +23,7 @@ pub(crate) struct Reporter {
 
 impl Reporter {
     /// What happened in the turn, after which the peer's replicas have taken so much.
+    #[inline(always)]
     pub(crate) fn tell(
         &mut self,
         storm: &Storm,

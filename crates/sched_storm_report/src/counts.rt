@@ -36,6 +36,7 @@ impl Counts {
     };
 
     /// Counts what happened, where it happened. A request that is won is counted where it began, by `win`.
+    #[inline(always)]
     pub(crate) fn count(&mut self, what: Happening)
         requires { AreBelow (2 ^ 63) self.old }
         ensures { self.new ≡ with_happening what self.old }
@@ -90,6 +91,7 @@ impl Score {
     };
 
     /// Counts what happened.
+    #[inline(always)]
     pub(crate) fn count(&mut self, what: Happening)
         requires { IsBelow (2 ^ 63) self.old }
         ensures { self.new ≡ score_after what self.old }

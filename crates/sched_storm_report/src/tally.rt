@@ -76,6 +76,7 @@ impl Tally {
 
     /// Tells it the next moment, of the window of the last one or of a later window. Fails only with `NoMemory`, and
     /// then nothing is promised of what it was told.
+    #[inline(always)]
     pub fn tell(&mut self, peer: &Peer, moment: Moment) -> Result<(), NoMemory>
         requires peer { IsPeer peer.now }
         requires order { self.old.from ≤ moment.at }
@@ -93,6 +94,7 @@ impl Tally {
     }
 
     // Ends the windows that are over at this moment.
+    #[inline(always)]
     fn turn(&mut self, peer: &Peer, at: u64) -> Result<(), NoMemory>
         requires peer { IsPeer peer.now }
         requires order { self.old.from ≤ at }
@@ -111,6 +113,8 @@ impl Tally {
     }
 
     // Ends the window that is not over.
+    #[cold]
+    #[inline(never)]
     fn close(&mut self, peer: &Peer) -> Result<(), NoMemory>
         requires peer { IsPeer peer.now }
         requires near { self.old.from + self.old.window ≤ 7200000 }
@@ -143,6 +147,7 @@ impl Tally {
     }
 
     // Counts a moment of the window that is not over.
+    #[inline(always)]
     fn note(&mut self, moment: Moment) -> Result<(), NoMemory>
         requires near { moment.at ≤ 7200000 }
         requires here { moment.at < self.old.from + self.old.window }

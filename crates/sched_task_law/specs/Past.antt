@@ -1,6 +1,6 @@
 -- What a task has done so far.
 use Rattle.std.specs.Prelude.{◌≡◌, ℕ, Bool, true, false, not, ◌&&◌, ◌||◌, if◌then◌else◌, nat_lt}
-use Rattle.std.specs.Prelude.{List, [], ◌∷◌, map, filter, count_by, length, Option, Some, None, option_map, is_some}
+use Rattle.std.specs.Prelude.{List, [], map, filter, count_by, length, Option, Some, None, option_map, is_some}
 use mathlib.Core.Path.{ap}
 use Rattle.sched_time.specs.declared.starts.Decision.{Decision}
 use Rattle.sched_plan.specs.Datum.{Datum, num}

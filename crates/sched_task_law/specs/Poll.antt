@@ -1,6 +1,6 @@
 -- One poll of a task: what may happen, when, and the whole record after it.
 use Rattle.std.specs.Prelude.{◌≡◌, ℕ, ◌+◌, ◌<◌, ◌≤◌, ◌⊎◌, Bool, true, false, if◌then◌else◌}
-use Rattle.std.specs.Prelude.{List, [], ◌∷◌, ◌++◌, length, Option, Some, None, is_some, IsTrue, IfSome, IsSomeAnd}
+use Rattle.std.specs.Prelude.{List, [], ◌∷◌, ◌++◌, length, Some, None, is_some, IsTrue, IfSome, IsSomeAnd}
 use Rattle.sched_time.specs.declared.numbers.Tick.{Tick}
 use Rattle.sched_plan.specs.Datum.{num}
 use Rattle.sched_plan.specs.History.{last_moment}
@@ -10,7 +10,6 @@ use Rattle.sched_driver.specs.Driven.{Driven, after as driven_after}
 use Rattle.sched_driver.specs.Driver.{HasRoom}
 use Rattle.sched_effect.specs.Runs.{code_of}
 use Rattle.sched_effect.specs.declared.ran.Ran.{Ran}
-use Rattle.sched_task.specs.declared.endings.How.{How}
 use Rattle.sched_task.specs.declared.endings.How.TheVariants.{ScheduleDone, BudgetRefused, DeadlinePassed, Cancelled}
 use Rattle.sched_task.specs.declared.endings.How.TheVariants.{Broken}
 use Rattle.sched_task.specs.declared.endings.RunFault.{RunFault}

@@ -345,6 +345,7 @@ impl Pass {
     }
 
     /// Comes to the window of `now`, where that is not over yet.
+    #[inline(always)]
     fn turn(&mut self, quota: &Quota, now: Moment)
         requires { IsOf quota.now self.old }
         ensures of { IsOf quota.now self.new }
@@ -367,6 +368,8 @@ impl Pass {
 
 /// Comes to this window, and answers the latest one. Who opens it notes before how many requests the one before had,
 /// where that is the latest: those that are counted until it is open are not noted.
+#[cold]
+#[inline(never)]
 fn reach(quota: &Quota, seat: &mut Seat, window: u64) -> u64
     requires of { (seat.old.table_id ≡ quota.now.table) × (seat.old.me.0.terms ≡ quota.now.terms)
         × (seat.old.me.0.carries ≡ quota.now.carries) }

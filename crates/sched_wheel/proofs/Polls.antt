@@ -5,7 +5,6 @@ use Rattle.std.specs.Prelude.{Result, IfOk}
 use Rattle.rand_core.specs.Stream.{Stream}
 use Rattle.sched_time.specs.declared.numbers.Tick.{Tick}
 use Rattle.sched_task.specs.Words.{next_four}
-use Rattle.sched_task.specs.Course.{Answered}
 use Rattle.sched_task.specs.declared.endings.How.{How}
 use Rattle.sched_wheel.specs.Polled.{after_polls, IsLeft, IsOpen, Standing, standing, Reading, Answers, IsAsked, IsIdle}
 use Rattle.sched_wheel.specs.Polled.{Poll, polled, IsPoll, ArePolls, IsCourse}

@@ -1,5 +1,5 @@
 -- A machine that has not begun is to be polled, and begins a run.
-use Rattle.std.proofs.Common.{◌≡◌, [], inl, inr, sym, ◌∙◌}
+use Rattle.std.proofs.Common.{◌≡◌, inl, inr, sym, ◌∙◌}
 use Rattle.sched_run_machine.specs.declared.next.Next.TheVariants.{Poll, Run, Wait, Over}
 use Rattle.sched_run_machine.proofs.Waits.{unbegun_next}
 use Rattle.sched_closure.proofs.retries.begun.Goals as goal

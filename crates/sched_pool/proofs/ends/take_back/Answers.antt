@@ -1,5 +1,5 @@
 -- Taking back a job adds its pass, with its tickets, to those taken back before.
-use Rattle.std.proofs.Common.{◌≡◌, ◌+◌, ◌∙◌, ℕ, [], ◌∷◌, ◌++◌, length, vec_len, arith, subst, length-append}
+use Rattle.std.proofs.Common.{◌≡◌, ◌+◌, ℕ, [], ◌∷◌, ◌++◌, length, vec_len, arith, subst, length-append}
 use Rattle.sched_ticket.specs.Lists.{total}
 use Rattle.sched_ticket.specs.Held.{Name, IsOf}
 use Rattle.sched_ticket.proofs.Sums.{total-append}
