@@ -15,9 +15,9 @@ types() {
   MYPYPATH=src:../bench/reality mypy --strict --cache-dir "$work/mypy" src tests ../bench/reality
 }
 
-# tests FILE: a file of tests, or a folder whose examples are tests
+# tests FILE: a file of tests, or a folder whose examples are tests. One that hangs for 20 minutes is ended, and tells where.
 tests() {
-  /usr/bin/python3 -m pytest -q -p no:cacheprovider --basetemp "$work/pytest" "$1"
+  timeout --foreground --signal ABRT 1200 /usr/bin/python3 -m pytest -q -p no:cacheprovider --basetemp "$work/pytest" "$1"
 }
 
 cd "$top/python"

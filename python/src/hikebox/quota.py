@@ -67,7 +67,8 @@ class Quota(Granting, CountsRequests):
         attempts that fail just after a border. A window then has at most 2**31 tickets of its own, and leaves at most
         as many.
     `clock`
-        What returns the time in seconds, to be replaced in tests. Windows begin at multiples of `per` by it.
+        What returns the time in seconds, to be replaced in tests. Windows begin at multiples of `per` by it, and a time
+        before 0 counts as 0.
 
     A retry that is cancelled or stopped while it waits hands its ticket back: one more can be drawn in that ticket's
     window, and `granted` is one less. A retry draws its ticket when its attempt fails and begins after its delay, maybe

@@ -45,7 +45,7 @@ class Breaker(CallLimit):
         A function of the states before and after a change, two `BreakerState`. It is called once for each change that a
         call of this process makes or finds, in their order, from one thread at a time. What it raises is logged.
     `clock`
-        What returns the time in seconds, to be replaced in tests.
+        What returns the time in seconds, to be replaced in tests. A time before 0 counts as 0.
 
     An attempt that began before the breaker changed changes nothing when it ends.
 

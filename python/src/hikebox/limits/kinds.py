@@ -224,7 +224,8 @@ class Throttle(CallLimit):
         The length of a window: seconds, or a `timedelta`. The present window and the one before count. Of each window
         1,048,575 requests are counted at most.
     `clock`, `random`
-        What returns the time in seconds, and numbers from 0 up to 1, to be replaced in tests.
+        What returns the time in seconds, and numbers from 0 up to 1, to be replaced in tests. A time before 0 counts
+        as 0.
 
     >>> Throttle.google()
     <Throttle(2, 60)>
