@@ -26,7 +26,8 @@ import prometheus_client
 import tenacity
 
 import hikebox
-from hikebox import Breaker, Bucket, Budget, InFlight, Pace, Quota, both, exponential, metrics, recurs, spaced
+from hikebox import Adaptive, Breaker, Bucket, Budget, InFlight, Pace, Quota, Throttle
+from hikebox import both, exponential, metrics, recurs, spaced
 from hikebox.retry.watch import watch
 
 ATTEMPTS = 11
@@ -241,7 +242,8 @@ def main() -> None:
     ours = hikebox.Retrying(policy, limit=Quota(reserve=10, share=0.1, per=60)).wraps(nothing)
     tell("a call that succeeds on a quota", calls(ours), calls(theirs), 1)
 
-    limits = [Bucket(2**20), Breaker(5, spaced(30)), InFlight.envoy(), both(Bucket(2**20), Breaker(5, spaced(30)))]
+    limits = [Bucket(2**20), Breaker(5, spaced(30)), both(Bucket(2**20), Breaker(5, spaced(30)))]
+    limits += [InFlight.envoy(), Adaptive(), Throttle.google()]
     for limit in limits:
         ours = hikebox.Retrying(policy, limit=limit).wraps(nothing)
         tell(f"a call that succeeds on a limit, {type(limit).__name__}", calls(ours), calls(theirs), 1)

@@ -28,7 +28,7 @@ from hikebox.cli.limits import limit as limit_of_a_run
 from hikebox.cli.storm_options import tickets_of
 from hikebox.limits.breaker import times_of
 from hikebox.limits.terms import LimitTerms
-from hikebox.storms.limits import limit_of
+from hikebox.limits.spellings import limit_of
 from hikebox.storms.parameters import Parameters, RateSpan, Slow, Span
 from hikebox.storms.storm import play
 from hikebox.budgets.terms import Terms

@@ -121,6 +121,13 @@ def test_hikebox_plan_loads_nothing_of_storms_or_of_the_lab() -> None:
     assert [name for name in loaded if name.startswith(tuple(f"hikebox.{part}" for part in parts))] == []
 
 
+def test_hikebox_run_loads_nothing_of_storms_or_of_the_lab() -> None:
+    loaded = loaded_by("from hikebox.cli.main import main; main(['run', '--limit', '1', 'recurs(1)', '--', 'true'])")
+    assert {"hikebox.cli.run", "hikebox.limits.spellings"} <= set(loaded)
+    parts = ("advice", "storms", "traffic", "lab", "adapters", "sweeps", "cli.storm", "cli.scenario")
+    assert [name for name in loaded if name.startswith(tuple(f"hikebox.{part}" for part in parts))] == []
+
+
 def test_limits_and_storms_are_loaded_when_they_are_asked_for() -> None:
     asks = "import hikebox; assert 'Storm' in dir(hikebox); from hikebox import storm; assert hikebox.storm is storm"
     assert "hikebox.storms.storm" in loaded_by(asks)

@@ -32,7 +32,7 @@ from hikebox.storms.storm import play
 from hikebox.storms import cores
 from hikebox.storms.code import in_command, in_python, in_rust, in_scenario
 from hikebox.storms.heads import names_of
-from hikebox.storms.limits import limit_of
+from hikebox.limits.spellings import limit_of
 from hikebox.storms.parameters import Parameters, RateSpan, Slow, Span
 from hikebox.storms.picture import storm_picture
 from hikebox.storms.populations import Clients

@@ -26,7 +26,7 @@ from hikebox import Pace, PerKey, PolicyError, Population, TermsError, milliseco
 from hikebox.cli.storm_options import limits_of, parameters_of, tickets_of
 from hikebox.limits.breaker import times_of
 from hikebox.storms.code import in_command, in_python, in_rust, in_scenario
-from hikebox.storms.limits import KINDS, LIMIT_WANTED, limit_of
+from hikebox.limits.spellings import KINDS, LIMIT_WANTED, limit_of
 from hikebox.storms.parameters import SCENARIOS, Parameters, RateSpan, Slow, Span
 from hikebox.storms.texts import setting, side_by_side
 from hikebox.errors import LimitError

@@ -1,6 +1,6 @@
-//! Draws of one limit with one thread: `bench limit [KIND] [DRAWS]`, of a bucket and 1,000 draws where nothing is
-//! said. The other kinds are `flight`, whose request ends and comes again at each draw, `breaker`, which is asked and
-//! told of a success, `throttle` likewise, and `add`, a bare atomic add. It prints what was granted.
+//! Draws of one limit with one thread: `bench limit [KIND] [DRAWS]`, of a bucket and 1,000 draws where nothing is said.
+//! The other kinds are `flight`, whose request ends and comes again at each draw, `breaker`, which is asked and told of
+//! a success, `throttle` likewise, and `add`, a bare atomic add. It prints what was granted.
 use sched_limit::{Breaker, Bucket, InFlight, Throttle};
 use sched_limit_request::{Asks, OnLimit, OnThrottle};
 use sched_time::{Millis, Moment, NoMemory};

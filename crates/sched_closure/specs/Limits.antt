@@ -15,8 +15,8 @@ abbrev pub WhereAdmitted : {D K : Type 0} → Grants D → (K → ℕ → K → 
 WhereAdmitted {D} {K} grants tells limit clock P = (moment : ℕ) (between : K) (asked : D) → tells clock moment between →
     grants.admitted limit moment true asked → P
 
--- The limit was asked at the moment that the clock told. Where it admitted the first call, a retry with that limit
--- took its turns; where it did not, the retry did not begin, and nothing else was asked.
+-- The limit was asked at the moment that the clock told. Where it admitted the first call, a retry with that limit took
+-- its turns; where it did not, the retry did not begin, and nothing else was asked.
 pub record AsksFirst {R D K C I F : Type 0} (driving : Driving R) (grants : Grants D) (tells : K → ℕ → K → Type 0)
     (waits : K → ℕ → ℕ → K → Type 0) (gives : C → Result I F → C → Type 0) (item_code : I → ℕ) (fault_code : F → ℕ)
     (driver : R) (limit : D) (call : C) (clock : K) (words : Stream) (ending : Option (CallEnding I F))

@@ -30,8 +30,8 @@ use std::sync::Wait;
 /// `Broken`, with that run's fault; so it does where `begin` is refused memory. No clause says that the clock is asked
 /// after the call and not before it, since neither knows of the other; tests do.
 ///
-/// With a deadline, by `Until` as the retry's driver, each call but the first begins by the deadline. The retry ends
-/// as `ScheduleDone` where the start planned is past it; the driver's `late_start` then tells that start. Where a wait
+/// With a deadline, by `Until` as the retry's driver, each call but the first begins by the deadline. The retry ends as
+/// `ScheduleDone` where the start planned is past it; the driver's `late_start` then tells that start. Where a wait
 /// goes past the deadline it ends as `DeadlinePassed`.
 ///
 /// What it draws by is made at the first failure too, so it is one that need not be told how a call went: a budget or a

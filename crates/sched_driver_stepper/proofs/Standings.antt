@@ -10,7 +10,7 @@ use Rattle.sched_plan.specs.Answer.{answer}
 use Rattle.sched_plan.specs.Starts.{StartsBy}
 use Rattle.sched_plan.proofs.Starts.{starts_are_not_before}
 use Rattle.sched_plan.specs.declared.history.Event.{Event}
-use Rattle.sched_driver_tree.specs.Standing.{last_answer, start_planned}
+use Rattle.sched_driver_tree.specs.Standing.{start_planned}
 use Rattle.sched_driver_tree.specs.Stepper.{StepGives}
 use Rattle.sched_driver_tree.proofs.Standings.{last_answer-push}
 use Rattle.sched_driver_stepper.specs.Standing.{Standing, StandsFor}

@@ -26,8 +26,8 @@ has_room word = nat_lt (inside_of word) (level_of word / 1000)
 abbrev pub lowered : Adaptive → ℕ → ℕ
 lowered k level = max (level * k.backoff / 1000) (1000 * k.least)
 
--- the level after a success: a thousandth of a request more or, where that is more, one request for each that the
--- level admits; and at most the most
+-- the level after a success: a thousandth of a request more or, where that is more, one request for each that the level
+-- admits; and at most the most
 abbrev pub raised : Adaptive → ℕ → ℕ
 raised k level = min (level + max (1000000 / max level 1) 1) (1000 * k.most)
 

@@ -76,7 +76,7 @@ abbrev pub RequestsStayWithin : Type 0
 RequestsStayWithin = (k : InFlight) (s : State Call View) → IsKept (flight_next k) 0 s →
     requests_of (word_of s) ≤ k.most
 
--- a breaker that is tripped has no more probes out than it admits
+-- the word of a breaker that is tripped counts no more probes than it admits
 abbrev pub has_few_probes : Breaker → ℕ → Bool
 has_few_probes b word = not (word % 2 == 1) || nat_le (admitted_of word) b.probes
 

@@ -41,8 +41,8 @@ pub fn adaptive_limits_hold()
     ensures counted { InsideIsCounted }
 {}
 
-/// A breaker has no more probes out than it admits. It is opened by the last of its failures or by hand, is open until
-/// its moment or until it is closed by hand, and what is told of a run of another generation changes nothing.
+/// A breaker's word counts no more probes than it admits. It is opened by the last of its failures or by hand, is open
+/// until its moment or until it is closed by hand, and what is told of a run of another generation changes nothing.
 pub fn breakers_hold()
     ensures probes { ProbesAreFew }
     ensures open { OpenIsKept }

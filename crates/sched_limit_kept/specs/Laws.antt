@@ -62,6 +62,6 @@ TokensAreKept = (b : Bucket) (ts : Tellings) →
     let moves = moves_made (bucket_rules b) b.capacity ts in
     (level ≤ b.capacity) × (level + granted_by moves + debited_by moves ≡ b.capacity + credited_by moves)
 
--- a breaker that began closed and is tripped has no more probes out than it admits
+-- the word of a breaker that began closed and is tripped counts no more probes than it admits
 abbrev pub ProbesAreKept : Type 0
 ProbesAreKept = (b : Breaker) (ts : Tellings) → has_few_probes b (word_kept (breaker_rules b) 0 ts) ≡ true

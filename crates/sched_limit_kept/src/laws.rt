@@ -14,7 +14,7 @@ pub fn tokens_are_kept()
     ensures { TokensAreKept }
 {}
 
-/// A breaker has no more probes out than it admits.
+/// A breaker's word counts no more probes than it admits.
 pub fn probes_are_kept()
     ensures { ProbesAreKept }
 {}

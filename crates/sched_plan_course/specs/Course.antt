@@ -3,8 +3,8 @@ use Rattle.std.specs.Prelude.{ℕ, ◌-◌, min, List, [], ◌∷◌, length, sl
 use Rattle.sched_plan_course.specs.declared.courses.PlanOptions.{PlanOptions}
 use Rattle.sched_plan_course.specs.declared.courses.PlanCourse.{PlanCourse}
 
--- at most so many events, the first at `from`, each later one `took` after the start that was planned before it, and
--- of each by its number the input and the words, the last of which repeat
+-- at most so many events, the first at `from`, each later one `took` after the start that was planned before it, and of
+-- each by its number the input and the words, the last of which repeat
 pub record Course : Type 0 where
   pub steps : ℕ
   pub from : ℕ

@@ -42,8 +42,8 @@ impl PlanCourse {
     ghost use Rattle.sched_plan_course.specs.Run.{event_at};
 
     /// At most so many events, the first at `from`, each later one `took` after the start that was planned before it,
-    /// and of each by its number the input and the words for lanes 0 to 3; the last ones of both are those of all
-    /// later events. None where there are more than 4,096 steps, no input or no words.
+    /// and of each by its number the input and the words for lanes 0 to 3; the last ones of both are those of all later
+    /// events. None where there are more than 4,096 steps, no input or no words.
     pub fn new(
         steps: u64,
         from: Moment,

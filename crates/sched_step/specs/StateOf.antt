@@ -89,8 +89,8 @@ abbrev pub turn_at : Option (List Event) → Turn
 turn_at None = Uncrossed
 turn_at (Some p) = Crossed
 
--- the first of two schedules in turn has all events before the crossing, and after it those up to and with the
--- crossing one
+-- the first of two schedules in turn has all events before the crossing, and after it those up to and with the crossing
+-- one
 abbrev pub up_to_crossing : Option (List Event) → List Event → List Event
 up_to_crossing None h = h
 up_to_crossing (Some p) h = p

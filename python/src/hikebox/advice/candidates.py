@@ -7,8 +7,8 @@ from typing import Dict, Iterator, List, NamedTuple, Sequence
 
 from .._time import seconds_text
 from ..budgets.terms import Terms, thousandths_text
+from ..limits.spellings import limit_of
 from ..policy.spelling import duration
-from ..storms.limits import limit_of
 from ..storms.parameters import Limited, limit_text
 
 __all__ = ["KINDS", "Candidate", "candidates"]

@@ -12,9 +12,9 @@ from ..leased import FileStore, Leased, LeasedPace, LeasedQuota
 from ..leased.shared import SharedLimit
 from ..limits import Breaker, Bucket, CallLimit
 from ..limits.breaker import times_of
+from ..limits.spellings import has_form, limit_of
 from ..policy import Policy
 from ..policy.builders import spaced
-from ..storms.limits import has_form, limit_of
 from . import values
 
 __all__ = ["SPELLINGS", "limit", "pace"]

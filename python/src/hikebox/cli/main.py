@@ -222,7 +222,7 @@ def _fill_check(check: Any) -> None:
 
 def _fill_storm(storm: Any) -> None:
     from ..storms.axes import axes_text
-    from ..storms.limits import LIMIT_FORMS
+    from ..limits.spellings import LIMIT_FORMS
     from .storm_options import add_storm_options
 
     forms = "\n".join(f"  {form}" for form in LIMIT_FORMS)

@@ -8,8 +8,8 @@ from typing import Any, Dict, List, NamedTuple, Optional, Tuple
 from .._engine.calls import MAX_TICKETS
 from ..budgets.terms import terms_of
 from ..errors import LimitError, PolicyError, StormError
+from ..limits.spellings import KINDS, limit_of
 from ..policy import Policy
-from ..storms.limits import KINDS, limit_of
 from ..storms.parameters import RANGES, SCENARIOS, Limited, Parameters, RateSpan, Slow, Span
 from ..storms.populations import Clients
 from .values import terms

@@ -10,9 +10,9 @@ from .._engine.calls import MAX_TICKETS
 from .._svg import fitted
 from ..budgets.terms import Terms, terms_of
 from ..errors import LimitError, TermsError
-from ..storms.axes import MEASURES
+from ..limits.spellings import KINDS, limit_of
 from ..limits.terms import LimitTerms
-from ..storms.limits import KINDS, limit_of
+from ..storms.axes import MEASURES
 from ..storms.parameters import RANGES, TIMES, Limited, Parameters, RateSpan, Slow, Span
 from ..storms.populations import MAX_PATIENCE, MAX_SHARE, look_at_shares
 from . import values

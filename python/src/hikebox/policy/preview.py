@@ -79,4 +79,5 @@ def _output_of(text: str) -> Any:
 
 def word_of(number: float) -> int:
     """The random word of the engine for a number from 0 up to 1."""
-    return min(2**32 - 1, max(0, int(number * 4294967296.0)))
+    word = int(number * 4294967296.0)
+    return word if 0 <= word < 2**32 else min(2**32 - 1, max(0, word))

@@ -12,9 +12,9 @@ from .._time import Duration, seconds as in_milliseconds
 from ..budget import Budget
 from ..errors import PolicyError, StormError, shown
 from ..limits.limit import CallLimit
+from ..limits.spellings import limit_of
 from ..policy import Policy
 from ..quota import Quota
-from .limits import limit_of
 from .parameters import MAX_REQUESTS, MAX_SEED, Limited, Parameters, RateSpan, Slow, Span, look_at_picture, plural
 from .populations import MAX_PATIENCE, Clients, Population, percent_of
 

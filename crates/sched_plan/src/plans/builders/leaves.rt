@@ -80,8 +80,8 @@ impl Plan {
         Ok(Plan::of_leaf(Leaf::Exponential { base, factor }))
     }
 
-    /// Waits `base` milliseconds, and then each time `thousandths` thousandths as long, rounded down; the output is
-    /// the delay. Refused as `OutOfRange` at a base past `FAR`, and at thousandths that are 0 or past 1,000,000.
+    /// Waits `base` milliseconds, and then each time `thousandths` thousandths as long, rounded down; the output is the
+    /// delay. Refused as `OutOfRange` at a base past `FAR`, and at thousandths that are 0 or past 1,000,000.
     pub fn exponential_milli(base: u64, thousandths: u64) -> Result<Plan, PlanFault>
         ensures { result ≡ built_plan (leaf (Leaf.ExponentialMilli base thousandths)) }
     {

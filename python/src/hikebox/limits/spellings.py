@@ -1,11 +1,11 @@
-"""Limits of other systems on a storm, as words of a command line spell them."""
+"""Limits of other systems, as words of a command line spell them: of a run, and of a storm."""
 
 from __future__ import annotations
 
 from typing import Dict, List, Optional, Tuple, Union
 
 from ..errors import TermsError
-from ..limits.terms import LimitTerms, adaptive, breaker, bucket, in_flight, throttle
+from .terms import LimitTerms, adaptive, breaker, bucket, in_flight, throttle
 
 __all__ = ["KINDS", "LIMIT_FORMS", "LIMIT_WANTED", "has_form", "limit_of"]
 
