@@ -10,7 +10,7 @@ use hikebox::{
     RetryError, Retrying, SharedRetrying,
 };
 use std::cell::Cell;
-use std::panic::{catch_unwind, AssertUnwindSafe};
+use std::panic::catch_unwind;
 use std::sync::atomic::{AtomicU64, Ordering};
 use std::thread;
 use std::time::{Duration, Instant};
@@ -130,7 +130,7 @@ fn a_deadline_gives_the_token_back() {
 #[test]
 fn a_call_that_panics_is_over() {
     let (limit, five) = (halves(), policy(r#"{"recurs":5}"#));
-    let answer = catch_unwind(AssertUnwindSafe(|| retry(&five, &limit, || -> Result<(), ()> { panic!("no answer") })));
+    let answer = catch_unwind(|| retry(&five, &limit, || -> Result<(), ()> { panic!("no answer") }));
     assert!(answer.is_err());
     let mut alone = limit.request().unwrap();
     alone.admit().unwrap();

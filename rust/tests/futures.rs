@@ -3,9 +3,11 @@
 
 mod common;
 
-use common::{at_once, policy, told};
-use hikebox::{retry_async, BlockingRetryable, Budget, Quota, RetryError, RetryLayer, Retryable, Retrying, Unlimited};
-use std::cell::RefCell;
+use common::{at_once, policy, polled, told};
+use hikebox::{
+    repeat_async, retry_async, BlockingRetryable, Budget, Quota, RetryError, RetryLayer, Retryable, Retrying, Unlimited,
+};
+use std::cell::{Cell, RefCell};
 use std::future::{ready, Future};
 use std::pin::Pin;
 use std::rc::Rc;
@@ -130,6 +132,40 @@ fn towers_requests_need_no_timer_where_they_wait_for_nothing() {
     let layer = RetryLayer::new(policy(r#"{"recurs":2}"#), Unlimited);
     let mut service = ServiceBuilder::new().layer(layer).service(service_fn(|code: u64| ready(Err::<(), _>(code))));
     assert_eq!(at_once(async { service.ready().await?.call(8).await }), Err(8));
+}
+
+// What is polled once lets others run after 64 runs without a wait, and goes on at the next poll.
+#[test]
+fn what_never_waits_lets_others_run() {
+    let (forever, calls) = (policy(r#""forever""#), Cell::new(0));
+    let made = |mut future: Pin<Box<dyn Future<Output = ()> + '_>>| {
+        calls.set(0);
+        [(); 3].map(|()| {
+            assert!(polled(&mut future).is_pending());
+            calls.replace(0)
+        })
+    };
+    let fails = || {
+        calls.set(calls.get() + 1);
+        async { Err::<(), _>("no") }
+    };
+    assert_eq!(made(Box::pin(async { retry_async(&forever, &Unlimited, fails).await.unwrap() })), [64; 3]);
+    let timed = Retrying::new(&forever, &Unlimited).attempt_timeout(Duration::from_secs(1));
+    let fails_timed = || {
+        calls.set(calls.get() + 1);
+        async { Err::<(), BoxError>("no".into()) }
+    };
+    let runtime = tokio::runtime::Builder::new_current_thread().enable_time().build().unwrap();
+    let in_time = runtime.enter();
+    assert_eq!(made(Box::pin(async { timed.call_async(fails_timed).await.unwrap() })), [64; 3]);
+    drop(in_time);
+    let succeeds = || {
+        calls.set(calls.get() + 1);
+        async { Ok::<_, ()>(()) }
+    };
+    assert_eq!(made(Box::pin(async { repeat_async(&forever, succeeds).await.unwrap() })), [64; 3]);
+    let service = RetryLayer::new(forever.clone(), Unlimited).layer(service_fn(|_: ()| fails()));
+    assert_eq!(made(Box::pin(async { service.oneshot(()).await.unwrap() })), [64, 63, 63]);
 }
 
 #[tokio::test(start_paused = true)]

@@ -16,6 +16,7 @@ use crate::random;
 use crate::system::{generation, is_generation, lock, PerProcess};
 use std::fmt;
 use std::mem;
+use std::panic::{RefUnwindSafe, UnwindSafe};
 use std::sync::{Arc, Mutex};
 use std::time::Duration;
 
@@ -49,6 +50,10 @@ use std::time::Duration;
 pub struct CallLimit {
     shared: Arc<Shared>,
 }
+
+// (a panic in `on_change` leaves the limit as it is)
+impl UnwindSafe for CallLimit {}
+impl RefUnwindSafe for CallLimit {}
 
 struct Shared {
     made: Made,

@@ -12,6 +12,7 @@ use crate::retry::hooks::Hooked;
 use crate::retry::host::SystemSleep;
 use crate::retry::host::{Host, Random};
 use crate::retry::retrying::Retrying;
+use crate::retry::yields::{yields, InARow};
 use std::fmt;
 use std::future::Future;
 use std::time::Duration;
@@ -59,6 +60,7 @@ macro_rules! until_it_succeeds {
         let mut course = $retrying.course();
         let mut progress = $retrying.begin(&mut course)?;
         let mut $attempt = $retrying.first();
+        let mut in_a_row = InARow::default();
         loop {
             let error = match course.run_of($call).await {
                 Ok(value) => {
@@ -73,6 +75,8 @@ macro_rules! until_it_succeeds {
             };
             if !wait.is_zero() {
                 $retrying.host.sleep.sleep(wait).await;
+            } else if in_a_row.is_over() {
+                yields().await;
             }
             $attempt = match $retrying.next(&mut progress, $attempt) {
                 Ok(attempt) => attempt,
@@ -87,7 +91,8 @@ macro_rules! until_it_succeeds {
 /// does, use `Retrying::call_async_mut`, with Rust 1.85 or later.
 ///
 /// Dropping the future cancels the retry. It draws no more tickets, and those that it drew stay counted, except that a
-/// quota gets back the ticket of a retry that was waiting to begin. A wait of zero does not touch the timer.
+/// quota gets back the ticket of a retry that was waiting to begin. A wait of zero does not touch the timer; after 64 of
+/// these the task lets others run.
 ///
 /// ```
 /// use hikebox::{retry_async, Budget, Policy};

@@ -24,6 +24,7 @@ mod runs;
 mod service;
 mod stepped;
 mod timed;
+mod yields;
 
 pub use crate::clock::{Clock, SystemClock};
 #[cfg(feature = "tokio")]

@@ -8,6 +8,7 @@ use crate::retry::host::{Host, Random, Sleep, SystemHost};
 use crate::retry::machine::Ending;
 use crate::retry::progress::{Lost, Progress};
 use crate::retry::rules::{CowLimit, Rules};
+use crate::retry::yields::{yields, InARow};
 use std::error::Error;
 use std::fmt;
 use std::future::Future;
@@ -248,6 +249,7 @@ impl<T, C: Fn(&T) -> u64, K: Clock, S: AsyncSleep, R: Random> Repeating<'_, T, C
         F: Future<Output = Result<T, E>>,
     {
         let mut progress = self.begin();
+        let mut in_a_row = InARow::default();
         loop {
             let value = call().await.map_err(RepeatError::Failed)?;
             if wanted(&value) {
@@ -256,6 +258,8 @@ impl<T, C: Fn(&T) -> u64, K: Clock, S: AsyncSleep, R: Random> Repeating<'_, T, C
             let (wait, value) = self.after(&mut progress, value)?;
             if !wait.is_zero() {
                 self.host.sleep.sleep(wait).await;
+            } else if in_a_row.is_over() {
+                yields().await;
             }
             self.resume(&mut progress, value)?;
         }

@@ -7,6 +7,7 @@ use crate::retry::layer::{LayerError, RetryLayer, Settings};
 use crate::retry::machine::Ending;
 use crate::retry::progress::Progress;
 use crate::retry::rules::{CowLimit, Rules};
+use crate::retry::yields::InARow;
 use ::tokio::time::{sleep, Sleep};
 use pin_project_lite::pin_project;
 use std::fmt;
@@ -181,6 +182,7 @@ impl<S: Service<Request>, Request, L: MayRefuse> Retries<S, Request, L> {
         mut at: Pin<&mut At<S::Future, Answer<S, Request>>>,
         cx: &mut Context<'_>,
     ) -> Poll<Answer<S, Request>> {
+        let mut in_a_row = InARow::default();
         loop {
             match at.as_mut().project() {
                 Where::Run { run } => {
@@ -201,6 +203,10 @@ impl<S: Service<Request>, Request, L: MayRefuse> Retries<S, Request, L> {
                         return Poll::Pending;
                     }
                     *sleep = None;
+                    if in_a_row.is_over() {
+                        cx.waker().wake_by_ref();
+                        return Poll::Pending;
+                    }
                     match self.next_run(kept, cx) {
                         Poll::Ready(Ok(run)) => at.set(At::Run { run }),
                         Poll::Ready(Err(ended)) => return Poll::Ready(ended),

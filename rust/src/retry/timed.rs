@@ -10,6 +10,7 @@ use crate::retry::host::{Host, Random};
 use crate::retry::machine::Ending;
 use crate::retry::retrying::Retrying;
 use crate::retry::runs::{Event, Loss, Runs};
+use crate::retry::yields::{yields, InARow};
 use std::error::Error;
 use std::fmt;
 use std::future::Future;
@@ -177,7 +178,7 @@ impl<E, H: Hooked<E>, K: Clock, S: AsyncSleep, R: Random, L: MayRefuse>
         let mut runs = Runs::new(&self.host.sleep, self.host.timed);
         runs.begin(course.run_of(call(attempt)), progress.run_began());
         // how the retry ended, while runs are still under way, and the latest error
-        let (mut ended, mut last) = (None, None);
+        let (mut ended, mut last, mut in_a_row) = (None, None, InARow::default());
         loop {
             let follows = match (&mut runs).await {
                 Event::Won(value, began) => {
@@ -201,7 +202,12 @@ impl<E, H: Hooked<E>, K: Clock, S: AsyncSleep, R: Random, L: MayRefuse>
                 }),
             };
             match follows {
-                Ok(Some(wait)) => runs.wait(wait),
+                Ok(Some(wait)) => {
+                    runs.wait(wait);
+                    if wait.is_zero() && in_a_row.is_over() {
+                        yields().await;
+                    }
+                }
                 Ok(None) => {}
                 Err(ending) => ended = Some(ending),
             }

@@ -190,7 +190,7 @@ pub fn at_once<T>(future: impl Future<Output = T>) -> T {
     }
 }
 
-pub fn polled<F: Future>(future: &mut Pin<Box<F>>) -> Poll<F::Output> {
+pub fn polled<F: Future + ?Sized>(future: &mut Pin<Box<F>>) -> Poll<F::Output> {
     struct Nobody;
     impl Wake for Nobody {
         fn wake(self: Arc<Self>) {}
