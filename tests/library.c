@@ -1683,6 +1683,41 @@ static void at_one_moment(void) {
     holds(totals.won == 3 && totals.denied == 7 && totals.calls == 3);
 }
 
+// As deep as a text and a policy may be, and a storm, on a thread with the stack that the header asks for.
+static void *goes_deep(void *given) {
+    char text[1024] = "";
+    size_t length = 0, written;
+    hikebox_policy policy = HIKEBOX_INIT;
+    hikebox_storm storm = HIKEBOX_STORM;
+    hikebox_totals totals = HIKEBOX_TOTALS;
+    hikebox_course course = HIKEBOX_COURSE;
+    hikebox_event event = {0};
+    char outputs[1024];
+    (void)given;
+    memset(text, '[', 1000);
+    wants(read_policy(text, &policy), HIKEBOX_NOT_JSON);
+    for (int depth = 1; depth < 32; depth++) length += (size_t)sprintf(text + length, "{\"cap\":[9,");
+    length += (size_t)sprintf(text + length, "{\"recurs\":1}");
+    for (int depth = 1; depth < 32; depth++) length += (size_t)sprintf(text + length, "]}");
+    wants(read_policy(text, &policy), HIKEBOX_OK);
+    wants(hikebox_policy_json(&policy, outputs, sizeof outputs, &written), HIKEBOX_OK);
+    holds(written == length && !memcmp(text, outputs, length));
+    wants(hikebox_policy_outputs(&policy, &course, &event, 1, outputs, sizeof outputs, &written), HIKEBOX_OK);
+    wants(hikebox_storm_play(&policy, &storm, windows_told, 128, &totals), HIKEBOX_OK);
+    wants(hikebox_policy_free(&policy), HIKEBOX_OK);
+    return NULL;
+}
+
+static void small_stacks(void) {
+    pthread_attr_t attributes;
+    pthread_t thread;
+    pthread_attr_init(&attributes);
+    holds(pthread_attr_setstacksize(&attributes, 128 * 1024) == 0);
+    holds(pthread_create(&thread, &attributes, goes_deep, NULL) == 0);
+    pthread_join(thread, NULL);
+    pthread_attr_destroy(&attributes);
+}
+
 static int storms(void) {
     static const char eight[] = "{\"meet\":[{\"recurs\":8},{\"cap\":[10000,{\"exponential\":[100,2]}]}]}";
     hikebox_storm one = HIKEBOX_STORM;
@@ -1750,6 +1785,7 @@ static int storms(void) {
     storms_refused();
     requests_at_moments();
     populations_refused();
+    small_stacks();
     return wrong;
 }
 

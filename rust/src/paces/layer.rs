@@ -35,7 +35,8 @@ use tower_service::Service;
 /// # }).unwrap();
 /// ```
 ///
-/// A request takes its turn when it is made. A call whose future is dropped while it waits gives its turn back.
+/// A request takes its turn when it is made. A call whose future is dropped while it waits gives its turn back. The
+/// layer does not know of a deadline above it: bound its waits by [`Rate::longest`](crate::Rate::longest).
 #[derive(Clone, Debug)]
 #[must_use]
 pub struct PaceLayer {

@@ -209,8 +209,8 @@ impl<Request, Response, E, L> RetryLayer<Request, Response, E, L> {
         self
     }
 
-    /// No retry begins later than this (in whole milliseconds) after the request was made, also if a timer is late. To
-    /// end a run that is under way, add a layer of `tower::timeout`.
+    /// No retry begins later than this (in whole milliseconds) after the request was made, also if a timer is late. The
+    /// wait of a `PaceLayer` below is part of a run. To end a run that is under way, add a layer of `tower::timeout`.
     pub fn deadline(mut self, deadline: Duration) -> Self {
         self.set().rules.options.deadline = Some(deadline);
         self
