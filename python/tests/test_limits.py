@@ -670,8 +670,10 @@ def test_misuse() -> None:
         TypeError, match="expected a Bucket, an InFlight, a Breaker, a Throttle or an Adaptive, got 'aws'"
     ):
         both(breaker, "aws")  # type: ignore[arg-type]
-    with pytest.raises(TypeError, match="belongs to its process"):
+    with pytest.raises(TypeError, match="^a Breaker belongs to its process"):
         pickle.dumps(breaker)
+    with pytest.raises(TypeError, match="^an InFlight belongs to its process"):
+        pickle.dumps(InFlight.envoy())
 
 
 @pytest.mark.parametrize(

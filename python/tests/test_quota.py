@@ -87,6 +87,11 @@ def test_worked_windows(clock: VirtualClock) -> None:
     assert quota.granted == 6 == quota.close() == quota.granted
 
 
+def test_a_clock_is_a_function() -> None:
+    with pytest.raises(TypeError, match="^clock: expected a function, got 3"):
+        Quota(1, 0, 1, clock=3)  # type: ignore[arg-type]
+
+
 def test_a_quota_without_a_share_or_a_reserve(clock: VirtualClock) -> None:
     quota = Quota(1, 0, 1, clock=clock)
     quota.deposit()

@@ -12,7 +12,9 @@ import pickle
 import sys
 import threading
 import weakref
-from typing import Any, Iterator, List
+from datetime import timedelta
+from fractions import Fraction
+from typing import Any, AsyncIterator, Iterator, List
 
 import pytest
 
@@ -743,11 +745,13 @@ def test_a_retrying_is_shown() -> None:
     assert "Budget(5)" in repr(AsyncRetrying(recurs(3), limit=Budget(5)))
 
 
-def test_trio() -> None:
+@pytest.mark.parametrize("delay", [0, 0.001])
+@pytest.mark.parametrize("is_said", [True, False])
+def test_trio(delay: float, is_said: bool) -> None:
     trio = pytest.importorskip("trio")
     runs = []
 
-    @retry(recurs(5) & spaced(0.001), sleep=trio.sleep)
+    @retry(recurs(5) & spaced(delay), sleep=trio.sleep if is_said else None)
     async def fetch() -> str:
         runs.append(1)
         await trio.sleep(0)
@@ -757,6 +761,46 @@ def test_trio() -> None:
 
     assert trio.run(fetch) == "won"
     assert len(runs) == 3
+
+
+def test_a_generator_is_refused_where_it_is_called_at_once() -> None:
+    def plain() -> Iterator[int]:
+        yield 1
+
+    async def later() -> AsyncIterator[int]:
+        yield 1
+
+    both: Any = (Retrying(recurs(1)), AsyncRetrying(recurs(1)))
+    for retrying in both:
+        for fn in (plain, later, ByMethod().plain):
+            with pytest.raises(TypeError, match="^a generator runs after its call has returned"):
+                retrying(fn)
+
+
+class ByMethod:
+    def plain(self) -> Iterator[int]:
+        yield 1
+
+
+@pytest.mark.parametrize("asks", [timedelta(seconds=2), 2, 2.0, Fraction(2), None])
+def test_a_function_asks_for_a_wait_in_seconds_or_as_a_timedelta(clock: VirtualClock, asks: Any) -> None:
+    for option in ("wait", "retry_after"):
+        began = clock()
+        how: Any = {option: lambda _: asks}
+        with pytest.raises(OSError):
+            Retrying(recurs(1), clock=clock, sleep=clock.sleep, **how)(Scripted(2))
+        assert clock() - began == (0 if asks is None else 2)
+
+
+@pytest.mark.parametrize("asks", ["2", "soon", [2], b"2"])
+def test_a_function_that_asks_for_no_time_is_named(asks: Any) -> None:
+    by_wait: Any = {"wait": lambda _: asks}
+    by_retry_after: Any = {"retry_after": lambda _: asks}
+    with pytest.raises(TypeError, match="^wait: expected seconds, a timedelta or None, got") as raised:
+        Retrying(recurs(1), **by_wait)(Scripted(2))
+    assert isinstance(raised.value.__context__, OSError)
+    with pytest.raises(TypeError, match="^retry_after: expected seconds"):
+        Retrying(recurs(1), **by_retry_after)(Scripted(2))
 
 
 def test_elapsed_counts_from_the_first_failure(clock: VirtualClock) -> None:

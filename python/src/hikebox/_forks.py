@@ -57,7 +57,8 @@ class OfOneProcess:
 
     def not_pickled(self) -> str:
         """Returns why it is not pickled."""
-        return f"a {type(self).__name__} belongs to its process"
+        name = type(self).__name__
+        return f"{'an' if name[0] in 'AEIOU' else 'a'} {name} belongs to its process"
 
     def __copy__(self: Self) -> Self:
         return self

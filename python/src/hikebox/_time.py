@@ -4,7 +4,7 @@ from __future__ import annotations
 
 import math
 import time
-from typing import TYPE_CHECKING, Callable, Union
+from typing import TYPE_CHECKING, Any, Callable, Union
 
 from .errors import Fault, PolicyError, shown
 
@@ -26,6 +26,7 @@ __all__ = [
     "moment",
     "moments_of",
     "seconds",
+    "seconds_asked",
     "seconds_text",
 ]
 
@@ -109,6 +110,27 @@ def seconds(duration: Duration, what: str = "") -> int:
         text = duration if isinstance(duration, timedelta) else f"{duration!r} s"
         raise PolicyError(Fault.OUT_OF_RANGE, hint=f"{place}{text} is less than a millisecond")
     return count
+
+
+def seconds_asked(what: str, asked: Any) -> float:
+    """The seconds that a function of the user's asks to wait: 0 where it returns None.
+
+    >>> seconds_asked("wait", timedelta(seconds=2)), seconds_asked("wait", 1), seconds_asked("wait", None)
+    (2.0, 1.0, 0.0)
+    >>> seconds_asked("wait", "soon")
+    Traceback (most recent call last):
+    ...
+    TypeError: wait: expected seconds, a timedelta or None, got 'soon'
+    """
+    if type(asked) is float:
+        return asked
+    if asked is None:
+        return 0.0
+    if isinstance(asked, timedelta):
+        return asked.total_seconds()
+    if isinstance(asked, Milliseconds) or not hasattr(asked, "__float__"):
+        raise TypeError(f"{what}: expected seconds, a timedelta or None, got {shown(asked)}")
+    return float(asked)
 
 
 def _rounded(count: int, unit: int) -> int:

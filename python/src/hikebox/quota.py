@@ -104,6 +104,8 @@ class Quota(Granting, CountsRequests):
         carries: bool = False,
         clock: Callable[[], float] = time.monotonic,
     ) -> None:
+        if not callable(clock):
+            raise TypeError(f"clock: expected a function, got {clock!r}")
         self._in_force = _InForce(terms_of(reserve, share, per))
         self._counts_successes = counts_successes
         self._returns_tickets = returns_tickets

@@ -20,7 +20,7 @@ from typing import (
     overload,
 )
 
-from ._functions import is_async, is_generator, unwrapped
+from ._functions import is_async, look_at_call, look_at_generator, unwrapped
 from .policy import Policy
 from .retry.attempts import AsyncAttempts, Attempt, Attempts
 from .retry.drivers import run, run_async
@@ -151,8 +151,7 @@ class BaseRetrying(Options):
             return type(fn)(self.wraps(fn.__func__))
         if not callable(fn):
             raise TypeError(f"expected a function, got {fn!r}")
-        if is_generator(fn):
-            raise TypeError("a generator runs after its call has returned: retry what it calls")
+        look_at_generator(fn)
 
         def retry_with(**changes: Any) -> Any:
             look_at_names("retry_with", changes, ("policy", *DEFAULTS))
@@ -201,6 +200,7 @@ class Retrying(BaseRetrying):
 
     def __call__(self, fn: Callable[..., Result], /, *args: Any, **kwargs: Any) -> Result:
         """Calls the function until it succeeds or the retry gives up, which raises its last exception."""
+        look_at_call(fn)
         result: Result = run(self, fn, args, kwargs)
         return result
 
@@ -238,8 +238,8 @@ class AsyncRetrying(BaseRetrying):
     >>> asyncio.run(main())
     3
 
-    It waits by `asyncio.sleep`, or by `trio.sleep` with `sleep=trio.sleep`. Hooks and the functions given as `on`,
-    `on_result` and `fallback` may be coroutine functions.
+    It waits by asyncio or trio, whichever runs it. Hooks and the functions given as `on`, `on_result` and `fallback` may
+    be coroutine functions.
 
     With `hedge_after`, the next attempt begins beside one that takes longer, and the first success is the result:
 
@@ -262,6 +262,7 @@ class AsyncRetrying(BaseRetrying):
     ) -> Coroutine[Any, Any, Result]:
         """Awaits calls of the coroutine function until one succeeds or the retry gives up, which raises the last
         exception."""
+        look_at_call(fn)
         return run_async(self, fn, args, kwargs or _NO_KEYWORDS)
 
     #: The same by its name.

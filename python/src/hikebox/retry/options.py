@@ -36,6 +36,7 @@ from .waits import pause_of, sleep_of
 
 if TYPE_CHECKING:
     from dataclasses import InitVar, dataclass, field
+    from datetime import timedelta
 
     from .settings import Settings
 else:
@@ -320,14 +321,14 @@ class Options:
         `on_result` refused. None stands for `code_of`.""",
         looks=_plain,
     )
-    retry_after: Optional[Callable[[Any], Optional[float]]] = option(
+    retry_after: Optional[Callable[[Any], Union[None, float, timedelta]]] = option(
         None,
-        """A function of the exception that returns the least seconds to wait, or None, as
-        `hikebox.http.retry_after` does. The wait is the longest of this, of `wait` and of the policy's.""",
+        """A function of the exception that returns how long to wait at least, in seconds or as a `timedelta`, or None,
+        as `hikebox.http.retry_after` does. The wait is the longest of this, of `wait` and of the policy's.""",
         looks=_plain,
         shapes=True,
     )
-    wait: Optional[Callable[[Any], Optional[float]]] = option(
+    wait: Optional[Callable[[Any], Union[None, float, timedelta]]] = option(
         None,
         """The same as a function of the `RetryState`.""",
         looks=_plain,

@@ -7,7 +7,7 @@ from typing import TYPE_CHECKING, Any, Callable, Mapping, Optional, Tuple
 
 from .._engine.calls import NO_DEADLINE, NO_REPORT, OVER, WAIT
 from .._engine.machine import MAX_IDLE, Machine, idle, new_machine, park, resumed, take_machine_back
-from .._time import FLOAT_ERROR, GRAIN, MAX_NUMBER, moment
+from .._time import FLOAT_ERROR, GRAIN, MAX_NUMBER, moment, seconds_asked
 from ..budgets.passes import Ends
 from ..budgets.tickets import Refusal
 from ..errors import HikeboxError
@@ -190,9 +190,9 @@ class Progress:
         error = None if state.outcome is None else state.outcome.error
         asked = [0.0]
         if settings.retry_after is not None and error is not None:
-            asked.append(float(settings.retry_after(error) or 0.0))
+            asked.append(seconds_asked("retry_after", settings.retry_after(error)))
         if settings.wait is not None:
-            asked.append(float(settings.wait(state) or 0.0))
+            asked.append(seconds_asked("wait", settings.wait(state)))
         self._asked = min(settings.most_wait, max(asked))
         return self._asked
 

@@ -75,16 +75,13 @@ def pause_of(sleep: Any, awaits: bool) -> Optional[Sleep]:
     """What lets other coroutines go on where a retry has nothing to wait for; None for one that blocks."""
     if not awaits:
         return None
-    if sleep is None:
-        import asyncio  # which takes longer to load than all the rest
-
-        return asyncio.sleep
-    return partial(_pause, sleep)
+    return partial(_pause, sleep_here if sleep is None else sleep)
 
 
 @lru_cache(maxsize=None)
 def sleep_of_asyncio() -> Sleep:
-    """What sleeps as asyncio.sleep does, by a future alone: many coroutines may wait at once."""
+    """What sleeps as asyncio.sleep does, by a future alone: many coroutines may wait at once. Elsewhere it sleeps by the
+    library that is there."""
     from asyncio import Future, get_running_loop
 
     class Wake(Future):  # type: ignore[type-arg]
@@ -104,7 +101,10 @@ def sleep_of_asyncio() -> Sleep:
             waits.set_result(None)
 
     def sleep(seconds: float) -> Any:
-        loop = get_running_loop()
+        try:
+            loop = get_running_loop()
+        except RuntimeError:
+            return sleep_here(seconds)
         waits = Wake(loop=loop)
         waits.timer = loop.call_later(seconds, wake, waits)
         return waits
