@@ -13,8 +13,8 @@ from ._forks import OfOneProcess, begins_anew_in_a_child
 from ._functions import is_async, is_generator
 from ._time import FLOAT_ERROR, GRAIN, MAX_NUMBER, Duration, Milliseconds, seconds, seconds_text
 from ._values import NamedTuple
-from .budgets.terms import count_of
-from .errors import PolicyError, TermsError, TooSoon, shown
+from .budgets.terms import count_of, duration_of
+from .errors import TermsError, TooSoon, shown
 from .retry.deadline import seconds_left
 from .retry.waits import sleep_here, sleep_now
 
@@ -298,11 +298,8 @@ def _moment(told: float) -> int:
 def _terms_of(calls: int, per: Duration, burst: int, longest: Optional[Duration]) -> PaceTerms:
     """The terms of a pace, or a `TermsError`."""
     number = count_of("calls", calls, 1, 2**40)
-    try:
-        period = seconds(per, "per")
-        wait = _MAX_WAIT if longest is None else seconds(longest, "longest")
-    except PolicyError as error:
-        raise TermsError(error.hint) from None
+    period = duration_of("per", per)
+    wait = _MAX_WAIT if longest is None else duration_of("longest", longest)
     each = -(-period * 1000 // number)
     if number > period * 1000 or each > _MAX_EACH:
         raise TermsError(f"expected from a microsecond to {_MAX_EACH // 10**6} seconds a call, got {calls} in {per!r}")

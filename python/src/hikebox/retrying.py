@@ -238,8 +238,8 @@ class AsyncRetrying(BaseRetrying):
     >>> asyncio.run(main())
     3
 
-    It waits by asyncio or trio, whichever runs it. Hooks and the functions given as `on`, `on_result` and `fallback` may
-    be coroutine functions.
+    It waits by asyncio or trio, whichever runs it. Hooks and the functions given as `on`, `on_result` and `fallback`
+    may be coroutine functions.
 
     With `hedge_after`, the next attempt begins beside one that takes longer, and the first success is the result:
 

@@ -6,8 +6,8 @@ import threading
 from typing import Callable, Optional
 
 from .._engine.leasing import Grant
-from .._time import Duration, seconds, seconds_text
-from ..budgets.terms import CountsRequests, Terms, requests_of, terms_of, tickets_of
+from .._time import Duration, seconds_text
+from ..budgets.terms import CountsRequests, Terms, count_of, duration_of, requests_of, terms_of, tickets_of
 from ..errors import StoreError, TermsError
 from ..quota import Usage
 from .leases import Leases
@@ -47,13 +47,11 @@ class Leased(Leases):
         again_after: float = 1.0,
         clock: Callable[[], float] = uptime,
     ) -> None:
-        if isinstance(limit, bool) or not isinstance(limit, int) or not 0 <= limit < 2**52:
-            raise TermsError(f"expected a limit from 0 to 2**52 - 1, got {limit!r}")
-        millis = None if per is None else seconds(per, "per")
+        millis = None if per is None else duration_of("per", per)
         if millis == 0:
             raise TermsError(f"expected a window of at least a millisecond, got {per!r}")
         self.store = checked_store(store, "take")
-        self.limit = limit
+        self.limit = count_of("limit", limit, 0, 2**52 - 1)
         self.lease = _checked_lease(lease) or max(1, min(1000, limit // 64))
         super().__init__(name, millis, spare, again_after, clock)
 
