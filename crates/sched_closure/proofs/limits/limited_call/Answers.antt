@@ -1,5 +1,5 @@
 -- Turns of the machine whose limit admitted the first call, or a machine that has not begun.
-use Rattle.std.proofs.Common.{not, refl, sym, ◌∙◌}
+use Rattle.std.proofs.Common.{refl, sym, ◌∙◌}
 use Rattle.sched_task_law.specs.Kind.{a_retry}
 use Rattle.sched_closure.proofs.Goes.{goes_so}
 use Rattle.sched_closure.proofs.limits.limited_call.Given.{C-step}
