@@ -344,6 +344,9 @@ UNFIT: List[Tuple[bytes, str]] = [
     (b"12 \n", "line 1: expected milliseconds from 0 to 7200000, got '12 '"),
     (b"7200000\n7200001\n", "line 2: expected milliseconds from 7200000 to 7200000, got '7200001'"),
     (b"1\n" + b"9" * 100, f"line 2: expected milliseconds from 1 to 7200000, got '{'9' * 32}'"),
+    (b"5\r\n6\r\n", r"line 1: expected milliseconds from 0 to 7200000, got '5\r'"),
+    (b"\x1b[2J\n", r"line 1: expected milliseconds from 0 to 7200000, got '\u{1b}[2J'"),
+    (b"\xc2\x9b\n", r"line 1: expected milliseconds from 0 to 7200000, got '\u{9b}'"),
     (b"1\n\xff\n", "line 2: expected milliseconds from 1 to 7200000, got no text"),
     (b"3\n" * 1_048_577, "line 1048577: expected at most 1048576 lines, got one more"),
 ]

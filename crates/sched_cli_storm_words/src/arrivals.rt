@@ -101,7 +101,8 @@ impl ArrivalLines {
         match str::from_utf8(&self.line) {
             Ok(line) => {
                 format!(in alloc;
-                    "line {number}: expected milliseconds from {last} to 7200000, got '{line}'"
+                    "line {number}: expected milliseconds from {last} to 7200000, got '{}'",
+                    line.escape_debug()
                 )
             }
             Err(_) => {
