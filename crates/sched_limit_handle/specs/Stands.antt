@@ -5,17 +5,21 @@ use Rattle.sched_limit.specs.Quiet.{is_full, is_calm}
 use Rattle.sched_limit.specs.States.{bucket_seen, flight_seen, adaptive_seen, breaker_seen}
 use Rattle.sched_limit.specs.Word.{stamp_of}
 use Rattle.sched_limit.specs.declared.seen.Seen.{Seen}
+use Rattle.sched_limit_request.specs.Asks.{Asked}
 use Rattle.sched_limit_request.specs.ByHand.{IsByHand}
+use Rattle.sched_limit_request.specs.Pairs.{both_asked}
 use Rattle.sched_limit_request.specs.Quiet.{looked, may_begin, begun}
 use Rattle.sched_limit_request.specs.States.{IsSeen, IsThrottleSeen}
 use Rattle.sched_limit_request.specs.declared.both.Both.{Both}
 use Rattle.sched_limit_request.specs.declared.by_hand.Hand.{Hand}
-use Rattle.sched_limit_handle.specs.AnyLimit.{Same}
+use Rattle.sched_limit_handle.specs.AnyLimit.{Same, any_asked}
 use Rattle.sched_limit_handle.specs.declared.any_limit.AnyLimit.{AnyLimit}
 use Rattle.sched_limit_handle.specs.declared.any_limit.AnyLimit.TheVariants as any
 
 -- what is said of limits D, which have the words W
 pub record Stood (D W : Type 0) : Type 1 where
+  -- what requests ask of them and tell
+  pub asked : Asked D
   -- a look saw these words
   pub looked : D → W → D
   -- whether a request may begin at these words: at each of them
@@ -62,6 +66,7 @@ AnySeen now (any.Throttle d) s v = Same any.Throttle v (IsThrottleSeen now d s)
 
 abbrev pub any_stood : Stood AnyLimit ℕ
 any_stood = record {
+  asked = any_asked;
   looked = any_looked;
   may_begin = any_may_begin;
   begun = any_begun;
@@ -81,6 +86,7 @@ module _ {D W : Type 0} (a : Stood D W) where
 
   abbrev pub and_stood : Stood (Both D AnyLimit) (W × ℕ)
   and_stood = record {
+    asked = both_asked a.asked any_asked;
     looked = λ p w. record { first = a.looked p.first w.0; second = any_looked p.second w.1 };
     may_begin = and_may_begin;
     begun = λ p w. if and_may_begin p w

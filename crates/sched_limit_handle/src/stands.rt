@@ -1,4 +1,4 @@
-//! What is done with limits beside what requests ask of them, each rule once: to a limit, and to limits and one more.
+//! What is done with limits beside what requests ask of them: with a limit, and with limits and one more.
 ghost use Rattle.std.specs.Prelude.{◌≡◌};
 ghost use Rattle.sched_limit_handle.specs.Stands.{Stood};
 
@@ -7,7 +7,7 @@ use sched_limit::Seen;
 use sched_limit_request::{Asks, Both, Hand};
 use sched_time::Moment;
 
-/// Limits at once that have words, may be opened by hand, and are seen one at a time.
+/// Limits at once, as a handle has them.
 pub(crate) trait Stands: Asks {
     /// A word of each limit, in the order in which they are asked.
     type Words;
