@@ -57,14 +57,15 @@ impl Held {
         ensures begins { result ≡ held_may_begin self.old words.now }
         ensures begun { self.new ≡ held_begun self.old words.now }
     {
-        let two_words = (words.first, words.second);
-        let three_words = (two_words, words.third);
         match self {
             Held::Unlimited => true,
             Held::One(limit) => limit.begin(&words.first),
-            Held::Two(two) => two.begin(&two_words),
-            Held::Three(three) => three.begin(&three_words),
-            Held::Four(four) => four.begin(&(three_words, words.fourth)),
+            Held::Two(two) => two.begin(&(words.first, words.second)),
+            Held::Three(three) => three.begin(&((words.first, words.second), words.third)),
+            Held::Four(four) => four.begin(&(
+                ((words.first, words.second), words.third),
+                words.fourth,
+            )),
         }
     }
 
