@@ -2,9 +2,8 @@
 use Rattle.std.specs.Prelude.{◌≡◌, ℕ, ◌<◌, ◌≤◌, Bool, Option, Some, None}
 use Rattle.sched_limit.specs.declared.seen.Seen.{Seen}
 use Rattle.sched_limit_request.specs.declared.by_hand.Hand.{Hand}
-use Rattle.sched_limit_handle.specs.ByHand.{HeldByHand, has_breaker}
+use Rattle.sched_limit_handle.specs.Looks.{HeldByHand, has_breaker, HeldSeen}
 use Rattle.sched_limit_handle.specs.Held.{count}
-use Rattle.sched_limit_handle.specs.States.{HeldSeen}
 use Rattle.sched_limit_handle.specs.declared.held.Held.{Held}
 
 -- it is done to each breaker, and the answer is whether there is one

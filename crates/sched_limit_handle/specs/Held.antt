@@ -14,15 +14,16 @@ use Rattle.sched_limit.specs.Step.{Answer, nothing}
 use Rattle.sched_limit_word.specs.View.{first_view}
 use Rattle.sched_limit_request.specs.Asks.{Asked}
 use Rattle.sched_limit_request.specs.Limits.{OfLimit}
-use Rattle.sched_limit_request.specs.Pairs.{both_asked}
 use Rattle.sched_limit_request.specs.declared.fault.SplitFault.{SplitFault}
 use Rattle.sched_limit_request.specs.declared.fault.SplitFault.TheVariants as fault
 use Rattle.sched_limit_request.specs.declared.both.Both.{Both}
-use Rattle.sched_limit_handle.specs.AnyLimit.{Same, any_asked}
+use Rattle.sched_limit_handle.specs.AnyLimit.{Same}
+use Rattle.sched_limit_handle.specs.Stands.{Stood, any_stood, and_stood}
 use Rattle.sched_limit_handle.specs.declared.any_limit.AnyLimit.{AnyLimit}
 use Rattle.sched_limit_handle.specs.declared.any_limit.AnyLimit.TheVariants as any
 use Rattle.sched_limit_handle.specs.declared.held.Held.{Held}
 use Rattle.sched_limit_handle.specs.declared.held.Held.TheVariants.{Unlimited, One, Two, Three, Four}
+use Rattle.sched_limit_handle.specs.declared.looks.Words.{Words}
 use Rattle.sched_limit_handle.specs.declared.status.Status.{Status}
 use Rattle.sched_limit_handle.specs.declared.status.Status.TheVariants.{NoMemory, OutOfRange, TooManyPasses}
 
@@ -36,42 +37,37 @@ AtThree = Both AtTwo AnyLimit
 abbrev pub AtFour : Type 0
 AtFour = Both AtThree AnyLimit
 
-abbrev pub two_asked : Asked AtTwo
-two_asked = both_asked any_asked any_asked
+-- what is said of two limits at once, of three and of four
+abbrev pub two_stood : Stood AtTwo (ℕ × ℕ)
+two_stood = and_stood any_stood
 
-abbrev pub three_asked : Asked AtThree
-three_asked = both_asked two_asked any_asked
+abbrev pub three_stood : Stood AtThree ((ℕ × ℕ) × ℕ)
+three_stood = and_stood two_stood
 
-abbrev pub four_asked : Asked AtFour
-four_asked = both_asked three_asked any_asked
+abbrev pub four_stood : Stood AtFour (((ℕ × ℕ) × ℕ) × ℕ)
+four_stood = and_stood three_stood
+
+-- what is said of a handle: of no limit, and of limits at once, by the variant that holds them, by what is said of them,
+-- and by which of the words are theirs
+abbrev pub of_held {ℓ} : {R : Type ℓ} → R → ((D W : Type 0) → (D → Held) → Stood D W → (Words → W) → D → R) → Held → R
+of_held none some Unlimited = none
+of_held none some (One d) = some _ _ One any_stood (λ w. w.first) d
+of_held none some (Two d) = some _ _ Two two_stood (λ w. (w.first, w.second)) d
+of_held none some (Three d) = some _ _ Three three_stood (λ w. ((w.first, w.second), w.third)) d
+of_held none some (Four d) = some _ _ Four four_stood (λ w. (((w.first, w.second), w.third), w.fourth)) d
 
 abbrev pub HeldTells : Held → Told → ℕ → Answer → Held → Type 0
-HeldTells Unlimited told random r v = (r ≡ Ok tt) × (v ≡ Unlimited)
-HeldTells (One d) told random r v = Same One v (any_asked.tells d told random r)
-HeldTells (Two d) told random r v = Same Two v (two_asked.tells d told random r)
-HeldTells (Three d) told random r v = Same Three v (three_asked.tells d told random r)
-HeldTells (Four d) told random r v = Same Four v (four_asked.tells d told random r)
+HeldTells u told random r v =
+    of_held ((r ≡ Ok tt) × (v ≡ u)) (λ D W holds s at d. Same holds v (s.asked.tells d told random r)) u
 
 abbrev pub held_part : Held → Held
-held_part Unlimited = Unlimited
-held_part (One d) = One (any_asked.part d)
-held_part (Two d) = Two (two_asked.part d)
-held_part (Three d) = Three (three_asked.part d)
-held_part (Four d) = Four (four_asked.part d)
+held_part u = of_held u (λ D W holds s at d. holds (s.asked.part d)) u
 
 abbrev pub held_left : Held → Held
-held_left Unlimited = Unlimited
-held_left (One d) = One (any_asked.left d)
-held_left (Two d) = Two (two_asked.left d)
-held_left (Three d) = Three (three_asked.left d)
-held_left (Four d) = Four (four_asked.left d)
+held_left u = of_held u (λ D W holds s at d. holds (s.asked.left d)) u
 
 abbrev pub HeldUnsplit : Held → SplitFault → Held → Type 0
-HeldUnsplit Unlimited why v = ⊥
-HeldUnsplit (One d) why v = Same One v (any_asked.unsplit d why)
-HeldUnsplit (Two d) why v = Same Two v (two_asked.unsplit d why)
-HeldUnsplit (Three d) why v = Same Three v (three_asked.unsplit d why)
-HeldUnsplit (Four d) why v = Same Four v (four_asked.unsplit d why)
+HeldUnsplit u why v = of_held ⊥ (λ D W holds s at d. Same holds v (s.asked.unsplit d why)) u
 
 abbrev pub held_asked : Asked Held
 held_asked = record { tells = HeldTells; part = held_part; left = held_left; unsplit = HeldUnsplit }

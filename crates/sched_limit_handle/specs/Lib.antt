@@ -3,5 +3,4 @@ pub mod Status
 pub mod AnyLimit
 pub mod Held
 pub mod Looks
-pub mod ByHand
-pub mod States
+pub mod Stands

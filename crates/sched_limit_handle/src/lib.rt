@@ -4,10 +4,9 @@
 #![tactic(auto)]
 
 mod any_limit;
-mod by_hand;
 mod held;
 mod looks;
-mod states;
+mod stands;
 mod status;
 
 pub use any_limit::AnyLimit;

@@ -1,6 +1,6 @@
 -- What is seen of each kind of limit.
 use Rattle.std.proofs.Common.{refl}
-use Rattle.sched_limit_handle.proofs.any_limit.AnyLimit.seen.Goals as goal
+use Rattle.sched_limit_handle.proofs.stands.AnyLimitStands.seen.Goals as goal
 
 pub returns-in-Adaptive : goal.returns-in-Adaptive
 returns-in-Adaptive c = rw c.in-Adaptive.is (c.seen-in-Adaptive.new.self, refl, c.seen-in-Adaptive.ensures)
