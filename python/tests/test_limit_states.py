@@ -242,6 +242,12 @@ def changes_of(**how: Any) -> Tuple[Breaker, List[Tuple[str, str]]]:
     return breaker, told
 
 
+def test_a_breaker_is_opened_until_the_last_moment() -> None:
+    breaker = Breaker(1, spaced(1), clock=lambda: 1e18)
+    breaker.open(60)
+    assert breaker.state is BreakerState.OPEN
+
+
 def test_each_change_is_told_once(clock: Any) -> None:
     breaker, told = changes_of(clock=clock)
     fetch = Retrying(recurs(1), limit=breaker, clock=clock, sleep=clock.sleep)

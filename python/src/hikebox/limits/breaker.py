@@ -9,7 +9,7 @@ from typing import Any, Callable, Deque, List, Optional, Tuple, Type
 
 from .._engine.limits import STATE_CLOSED, STATE_OPEN, LimitHandle
 from .._functions import look_at_function
-from .._time import Duration, moment, seconds_text
+from .._time import MAX_NUMBER, Duration, moment, seconds_text
 from ..budgets.terms import count_of, duration_of
 from ..errors import PolicyError, TermsError, shown
 from ..policy import Policy
@@ -151,7 +151,7 @@ class Breaker(CallLimit):
         """Opens it by hand for so many seconds. Attempts that are under way change nothing when they end."""
         now = moment(self.clock())
         with self.lock:
-            self.root.open(now, now + duration_of("seconds", seconds))
+            self.root.open(now, min(now + duration_of("seconds", seconds), MAX_NUMBER))
         self.look()
 
     def close(self) -> None:
