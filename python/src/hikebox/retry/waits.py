@@ -80,8 +80,8 @@ def pause_of(sleep: Any, awaits: bool) -> Optional[Sleep]:
 
 @lru_cache(maxsize=None)
 def sleep_of_asyncio() -> Sleep:
-    """What sleeps as asyncio.sleep does, by a future alone: many coroutines may wait at once. Elsewhere it sleeps by the
-    library that is there."""
+    """What sleeps as asyncio.sleep does, by a future alone: many coroutines may wait at once. Elsewhere it sleeps by
+    the library that is there."""
     from asyncio import Future, get_running_loop
 
     class Wake(Future):  # type: ignore[type-arg]
