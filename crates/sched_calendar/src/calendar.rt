@@ -30,7 +30,6 @@ pub struct Calendar {
 }
 
 /// Goes on to the next moment at which there are keys, to this moment at most, and makes its keys ready.
-#[inline(never)]
 fn go_on(ready: &mut Vec<Reverse<u64>>, ahead: &mut Ahead, to: u64)
     requires empty { ready.old.items ≡ [] }
     ensures reached { AreReached ahead.new.reached ready.new.items }
@@ -97,7 +96,6 @@ impl Calendar {
     }
 
     // Makes keys ready, unless some are, or none can be the least.
-    #[inline(always)]
     fn make_ready(&mut self, bound: Option<u64>)
         ensures same { HasSame self.old self.new }
         ensures seen { self.new.ready.items ≡ [] → IsSeen self.new bound }

@@ -59,7 +59,6 @@ impl Storm {
 
     // What becomes of a call that comes to a replica at this moment, where all work that it has taken is done at the
     // unit `busy`.
-    #[inline(always)]
     fn call_at(&self, replica: u64, busy: u64, at: u64) -> Called
         requires at { at ≤ self.now.until }
         requires busy { busy ≤ 900000000000000 }
