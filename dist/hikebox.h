@@ -58,6 +58,7 @@
  *  - Passes that are joined, and a retry and the pass that it is ended into, are of one budget or of one quota.
  *  - No call is made from a signal handler, or in the forked child of a process with threads.
  *  - malloc, realloc and free are of one allocator, and align as the C standard says.
+ *  - A call has 128 KiB of stack.
  */
 #ifndef HIKEBOX_H
 #define HIKEBOX_H
@@ -134,7 +135,7 @@ enum {
     /* The `size` of a struct is not one that this library knows. */
     HIKEBOX_WRONG_SIZE = 7,
 
-    /* The text is not JSON, or not UTF-8. */
+    /* The text is not JSON, or not UTF-8; or a number in it is too large for a double. */
     HIKEBOX_NOT_JSON = 10,
     /* The JSON value, or a part of it that should be a policy, does not have the form of one. */
     HIKEBOX_NOT_A_POLICY = 11,
@@ -682,9 +683,10 @@ hikebox_status hikebox_leased_free(hikebox_leased *leased);
  *
  * All calls on a limit, with any handles and from any threads, act as one sequence: each acts on the state that the one
  * before it left. A request holds its place among the requests in flight, and the slot of its retry. When it ends, or
- * when its handle is freed, what it still holds is given back, once. `random` is a random number of 32 bits, which only
- * a throttle reads. `cost` is in thousandths of a token, and only a bucket reads it. `number` is written if the call is
- * refused: the level of the bucket, or the moment until which the breaker is open, and otherwise 0.
+ * when its handle is freed, what it still holds is given back, once. A breaker's probe is nothing that a request holds:
+ * without a result it counts as out until the deadline of the probes. `random` is a random number of 32 bits, which
+ * only a throttle reads. `cost` is in thousandths of a token, and only a bucket reads it. `number` is written if the
+ * call is refused: the level of the bucket, or the moment until which the breaker is open, and otherwise 0.
  */
 
 /* A bucket. Its levels are in thousandths of a token, and it is full at first. */
@@ -800,8 +802,9 @@ HIKEBOX_CHECKED hikebox_status hikebox_throttle_new(uint64_t now, uint32_t ratio
  * Joins the limits of another handle into `limit`, whose own are asked first; `second` is then empty. From then on all
  * admit a request or grant a retry, or none is charged: if one refuses, what those before it gave comes back. Put
  * breakers and throttles last: a probe that a breaker admitted does not come back, nor does what a throttle counted.
- * A draw takes the same `cost` of each bucket among them. HIKEBOX_EMPTY; _WRONG_KIND; _OUT_OF_RANGE: they are more than
- * four. Both handles are then as they were.
+ * A draw takes the same `cost` of each bucket among them. If a request is under way on one of them alone, calls are out
+ * of turn until hikebox_limit_ended. HIKEBOX_EMPTY; _WRONG_KIND; _OUT_OF_RANGE: they are more than four. Both handles
+ * are then as they were.
  */
 HIKEBOX_CHECKED hikebox_status hikebox_limit_both(hikebox_limit *limit, hikebox_limit *second);
 
@@ -1138,7 +1141,7 @@ enum {
     HIKEBOX_ENDED_LIMIT_REFUSED = 3,
     /* It was cancelled. */
     HIKEBOX_ENDED_CANCELLED = 4,
-    /* It could not go on: there was no memory, or the clock went back. */
+    /* It could not go on: there was no memory, or a run failed at a moment before that of the last failure. */
     HIKEBOX_ENDED_NO_MEMORY = 5,
     HIKEBOX_ENDED_BACKWARDS = 7,
     /* The last run failed and the policy goes on, but the next run would begin past the deadline: the start planned is
@@ -1200,7 +1203,8 @@ HIKEBOX_CHECKED hikebox_status hikebox_retry_new(hikebox_policy *policy, hikebox
  * retry that is over does not change.
  *
  * HIKEBOX_WRONG_SIZE; _TOO_LARGE, of the moment; _NO_SUCH_REPORT; _TOO_LARGE, of the code; _EMPTY; _WRONG_KIND;
- * _NO_RUN. If there is no memory or the clock went back, the call returns HIKEBOX_OK and the retry is over.
+ * _NO_RUN. If there is no memory, or a run failed at a moment before that of the last failure, the call returns
+ * HIKEBOX_OK and the retry is over.
  */
 HIKEBOX_CHECKED hikebox_status hikebox_retry_poll(hikebox_retry *retry, uint64_t now, const uint32_t words[4],
                                                   uint32_t report, uint64_t code, hikebox_next *next);
