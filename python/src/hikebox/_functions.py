@@ -5,10 +5,10 @@ from __future__ import annotations
 from types import BuiltinFunctionType, FunctionType
 from typing import Any
 
-__all__ = ["is_async", "is_generator", "look_at_call", "look_at_function", "look_at_generator", "unwrapped"]
+__all__ = ["GENERATORS", "is_async", "is_generator", "look_at_function", "look_at_generator", "unwrapped"]
 
 #: The flags of code by which `inspect` knows generators and coroutines.
-_GENERATOR, _COROUTINE, _ASYNC_GENERATOR = 0x20, 0x80, 0x200
+_COROUTINE, GENERATORS = 0x80, 0x20 | 0x200
 
 
 def is_async(fn: Any) -> bool:
@@ -25,7 +25,7 @@ def is_async(fn: Any) -> bool:
 def is_generator(fn: Any) -> bool:
     """Whether it is a generator function, of coroutines or not."""
     if type(fn) is FunctionType:
-        return fn.__code__.co_flags & (_GENERATOR | _ASYNC_GENERATOR) != 0
+        return fn.__code__.co_flags & GENERATORS != 0
     import inspect
 
     return inspect.isgeneratorfunction(fn) or inspect.isasyncgenfunction(fn)
@@ -35,13 +35,6 @@ def look_at_generator(fn: Any) -> None:
     """Refuses what calls of would return before it runs."""
     if is_generator(fn):
         raise TypeError("a generator runs after its call has returned: retry what it calls")
-
-
-def look_at_call(fn: Any) -> None:
-    """The same of a function or method that is called at once, at the cost of one look."""
-    code = getattr(fn, "__code__", None)
-    if code is not None and code.co_flags & (_GENERATOR | _ASYNC_GENERATOR):
-        look_at_generator(fn)
 
 
 def unwrapped(fn: Any) -> Any:

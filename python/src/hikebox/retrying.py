@@ -20,7 +20,7 @@ from typing import (
     overload,
 )
 
-from ._functions import is_async, look_at_call, look_at_generator, unwrapped
+from ._functions import GENERATORS, is_async, look_at_generator, unwrapped
 from .policy import Policy
 from .retry.attempts import AsyncAttempts, Attempt, Attempts
 from .retry.drivers import run, run_async
@@ -200,7 +200,9 @@ class Retrying(BaseRetrying):
 
     def __call__(self, fn: Callable[..., Result], /, *args: Any, **kwargs: Any) -> Result:
         """Calls the function until it succeeds or the retry gives up, which raises its last exception."""
-        look_at_call(fn)
+        code = getattr(fn, "__code__", None)
+        if code is not None and code.co_flags & GENERATORS:
+            look_at_generator(fn)
         result: Result = run(self, fn, args, kwargs)
         return result
 
@@ -262,7 +264,9 @@ class AsyncRetrying(BaseRetrying):
     ) -> Coroutine[Any, Any, Result]:
         """Awaits calls of the coroutine function until one succeeds or the retry gives up, which raises the last
         exception."""
-        look_at_call(fn)
+        code = getattr(fn, "__code__", None)
+        if code is not None and code.co_flags & GENERATORS:
+            look_at_generator(fn)
         return run_async(self, fn, args, kwargs or _NO_KEYWORDS)
 
     #: The same by its name.
