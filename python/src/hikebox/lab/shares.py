@@ -42,16 +42,21 @@ class _Ticks:
     def __init__(self, told: Callable[[float], None]) -> None:
         self.told = told
         self.used = time_of_this_thread()
-        self.over = threading.Event()
+        # (an event would make a lock for each wait, and a storm may take all the memory that there is)
+        self.under_way = threading.Lock()
         self.thread = threading.Thread(target=self._tick, args=(self.used(),), daemon=True)
 
     def __enter__(self) -> None:
+        self.under_way.acquire()
         self.thread.start()
 
     def __exit__(self, *_: object) -> None:
-        self.over.set()
+        self.under_way.release()
         self.thread.join()
 
     def _tick(self, begins: float) -> None:
-        while not self.over.wait(_TICK):
-            self.told(self.used() - begins)
+        try:
+            while not self.under_way.acquire(timeout=_TICK):
+                self.told(self.used() - begins)
+        except MemoryError:
+            pass  # the storm meets the same, and says so
