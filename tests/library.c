@@ -1696,9 +1696,11 @@ static void *goes_deep(void *given) {
     (void)given;
     memset(text, '[', 1000);
     wants(read_policy(text, &policy), HIKEBOX_NOT_JSON);
-    for (int depth = 1; depth < 32; depth++) length += (size_t)sprintf(text + length, "{\"cap\":[9,");
+    for (int depth = 1; depth < 32; depth++)
+        length += (size_t)sprintf(text + length, "{\"cap\":[9,");
     length += (size_t)sprintf(text + length, "{\"recurs\":1}");
-    for (int depth = 1; depth < 32; depth++) length += (size_t)sprintf(text + length, "]}");
+    for (int depth = 1; depth < 32; depth++)
+        length += (size_t)sprintf(text + length, "]}");
     wants(read_policy(text, &policy), HIKEBOX_OK);
     wants(hikebox_policy_json(&policy, outputs, sizeof outputs, &written), HIKEBOX_OK);
     holds(written == length && !memcmp(text, outputs, length));

@@ -47,8 +47,8 @@ three_stood = and_stood two_stood
 abbrev pub four_stood : Stood AtFour (((ℕ × ℕ) × ℕ) × ℕ)
 four_stood = and_stood three_stood
 
--- what is said of a handle: of no limit, and of limits at once, by the variant that holds them, by what is said of them,
--- and by which of the words are theirs
+-- what is said of a handle: of no limit, and of limits at once, by the variant that holds them, by what is said of
+-- them, and by which of the words are theirs
 abbrev pub of_held {ℓ} : {R : Type ℓ} → R → ((D W : Type 0) → (D → Held) → Stood D W → (Words → W) → D → R) → Held → R
 of_held none some Unlimited = none
 of_held none some (One d) = some _ _ One any_stood (λ w. w.first) d
