@@ -32,7 +32,7 @@ def is_generator(fn: Any) -> bool:
 
 
 def look_at_generator(fn: Any) -> None:
-    """Refuses what calls of would return before it runs."""
+    """Refuses a generator function, whose calls return before it runs."""
     if is_generator(fn):
         raise TypeError("a generator runs after its call has returned: retry what it calls")
 

@@ -200,7 +200,7 @@ class Retrying(BaseRetrying):
 
     def __call__(self, fn: Callable[..., Result], /, *args: Any, **kwargs: Any) -> Result:
         """Calls the function until it succeeds or the retry gives up, which raises its last exception."""
-        code = getattr(fn, "__code__", None)
+        code = getattr(fn, "__code__", None)  # (each call pays for this look, and for no function)
         if code is not None and code.co_flags & GENERATORS:
             look_at_generator(fn)
         result: Result = run(self, fn, args, kwargs)

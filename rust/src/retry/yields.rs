@@ -4,11 +4,11 @@ use std::future::Future;
 use std::pin::Pin;
 use std::task::{Context, Poll};
 
-/// How many follow each other before the task lets others run.
+/// After how many waits of zero the task lets others run.
 const IN_A_ROW: u32 = 64;
 
-/// Counts waits of zero. A task that made so many in a row lets its executor run others, or end it: if all its runs fail
-/// at once, nothing else would.
+/// Counts waits of zero. After each [`IN_A_ROW`] of them the task lets its executor run others, or end it: if all its
+/// runs fail at once, nothing else would.
 #[derive(Debug, Default)]
 pub(crate) struct InARow(u32);
 
